@@ -1,0 +1,76 @@
+-- A loop that looks for a member of a list that meets a test, and one that looks through several lists: what the invariant says, and
+-- what each turn keeps of it. The list is told by its places, so the loop never makes it.
+-- Assumes nothing.
+use Prim.Native.Nat.{ℕ, zero, suc, _+_, _-_, _<_, _≤_}
+use mathlib.Core.Path.{_≡_, _∙_, refl, sym}
+use mathlib.Core.Bool.{Bool, true, false, cond}
+use mathlib.Core.List.{List, [], _∷_, _++_}
+use native.Mathlib.Omega.{arith}
+use native.Mathlib.Nat.{add-sub-cancel-left}
+use Rattle.laws.specs.Members.{listOf, joinOf, anyOf}
+use Rattle.laws.proofs.Search.{less}
+
+-- the loop whose answer is to be `whole` has come to i, and goes up to e
+pub record Look {A : Type 0} (p : A → Bool) (f : ℕ → A) (whole : Bool) (i e : ℕ) : Type 0 where
+  pub low : i ≤ e
+  pub rest : whole ≡ anyOf p (listOf f i (e - i))
+
+pub look-run : {A : Type 0} {p : A → Bool} {f : ℕ → A} {i : ℕ} (n : ℕ) → Look p f (anyOf p (listOf f i n)) i (i + n)
+look-run n = record { low = omega arith; rest = rw add-sub-cancel-left }
+
+pub look-all : {A : Type 0} {p : A → Bool} {f : ℕ → A} (n : ℕ) → Look p f (anyOf p (listOf f 0 n)) 0 n
+look-all n = let z : n - 0 ≡ n = omega arith in record { low = omega arith; rest = rw z }
+
+module _ {A : Type 0} {p : A → Bool} {f : ℕ → A} {whole : Bool} {i e : ℕ} (l : Look p f whole i e) where
+  pub look-done : e ≤ i → false ≡ whole
+  unfolding listOf anyOf
+  look-done h =
+      let z : e - i ≡ 0 = omega arith in
+      let u : anyOf p (listOf f i (e - i)) ≡ false = rw z refl in
+      sym (l .rest ∙ u)
+
+  pub look-found : i < e → p (f i) ≡ true → true ≡ whole
+  unfolding listOf anyOf
+  look-found h t = let u : anyOf p (listOf f i (e - i)) ≡ true = rw (less i e h) (rw t refl) in sym (l .rest ∙ u)
+
+  pub look-next : i < e → p (f i) ≡ false → Look p f whole (i + 1) e
+  unfolding listOf anyOf
+  look-next h t =
+      let u : anyOf p (listOf f i (e - i)) ≡ anyOf p (listOf f (i + 1) (e - (i + 1))) = rw (less i e h) (rw t refl) in
+      record { low = omega arith; rest = l .rest ∙ u }
+
+-- of two lists joined
+pub any-append : {A : Type 0} (p : A → Bool) (a b : List A) → anyOf p (a ++ b) ≡ cond (anyOf p a) true (anyOf p b)
+unfolding anyOf
+any-append p [] b = refl
+any-append p (x ∷ a) b = by-test (p x) (anyOf p (a ++ b)) (anyOf p a) (anyOf p b) (any-append p a b)
+  where
+    by-test : (t u v w : Bool) → u ≡ cond v true w → cond t true u ≡ cond (cond t true v) true w
+    by-test true u v w e = refl
+    by-test false u v w e = e
+
+-- the same for lists joined, list by list
+pub record Join {A : Type 0} (p : A → Bool) (f : ℕ → List A) (whole : Bool) (i e : ℕ) : Type 0 where
+  pub low : i ≤ e
+  pub rest : whole ≡ anyOf p (joinOf f i (e - i))
+
+pub join-all : {A : Type 0} {p : A → Bool} {f : ℕ → List A} (n : ℕ) → Join p f (anyOf p (joinOf f 0 n)) 0 n
+join-all n = let z : n - 0 ≡ n = omega arith in record { low = omega arith; rest = rw z }
+
+module _ {A : Type 0} {p : A → Bool} {f : ℕ → List A} {whole : Bool} {i e : ℕ} (l : Join p f whole i e) where
+  pub join-done : e ≤ i → false ≡ whole
+  unfolding joinOf anyOf
+  join-done h =
+      let z : e - i ≡ 0 = omega arith in
+      let u : anyOf p (joinOf f i (e - i)) ≡ false = rw z refl in
+      sym (l .rest ∙ u)
+
+  here : i < e → anyOf p (joinOf f i (e - i)) ≡ cond (anyOf p (f i)) true (anyOf p (joinOf f (i + 1) (e - (i + 1))))
+  unfolding joinOf
+  here h = rw (less i e h) (any-append p (f i) (joinOf f (i + 1) (e - (i + 1))))
+
+  pub join-found : i < e → true ≡ anyOf p (f i) → true ≡ whole
+  join-found h t = sym (l .rest ∙ here h ∙ rw (← t) refl)
+
+  pub join-next : i < e → false ≡ anyOf p (f i) → Join p f whole (i + 1) e
+  join-next h t = record { low = omega arith; rest = l .rest ∙ here h ∙ rw (← t) refl }

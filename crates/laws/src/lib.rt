@@ -1,0 +1,1 @@
+// Laws that every layer cites: definitions and proofs, and no code.

@@ -1,0 +1,2 @@
+// Number fields: reading a field of eleven columns as an exact decimal.
+pub mod value;
