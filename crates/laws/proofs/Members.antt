@@ -1,5 +1,5 @@
--- A loop that looks for a member of a list that meets a test, and one that looks through several lists: what the invariant says, and
--- what each turn keeps of it. The list is told by its places, so the loop never makes it.
+-- A loop that looks for a member of a list that meets a test, and one that looks through several lists: what the
+-- invariant says, and what each turn keeps of it. The list is told by its places, so the loop never makes it.
 -- Assumes nothing.
 use Prim.Native.Nat.{ℕ, zero, suc, _+_, _-_, _<_, _≤_}
 use mathlib.Core.Path.{_≡_, _∙_, refl, sym}
@@ -65,7 +65,8 @@ module _ {A : Type 0} {p : A → Bool} {f : ℕ → List A} {whole : Bool} {i e 
       let u : anyOf p (joinOf f i (e - i)) ≡ false = rw z refl in
       sym (l .rest ∙ u)
 
-  here : i < e → anyOf p (joinOf f i (e - i)) ≡ cond (anyOf p (f i)) true (anyOf p (joinOf f (i + 1) (e - (i + 1))))
+  here : i < e
+      → anyOf p (joinOf f i (e - i)) ≡ cond (anyOf p (f i)) true (anyOf p (joinOf f (i + 1) (e - (i + 1))))
   unfolding joinOf
   here h = rw (less i e h) (any-append p (f i) (joinOf f (i + 1) (e - (i + 1))))
 
