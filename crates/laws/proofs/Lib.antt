@@ -5,3 +5,7 @@ pub mod Table
 pub mod Walk
 pub mod Blocks
 pub mod Agree
+pub mod Copies
+pub mod Replacing
+pub mod Pasting
+pub mod Seeking

@@ -3,8 +3,8 @@
 use Prim.Native.Nat.{ℕ, zero, suc, _+_, _-_, _<_, _≤_}
 use mathlib.Core.Path.{_≡_, _∙_, refl, sym}
 use mathlib.Core.Bool.{Bool, true, false, cond}
-use lib.Dec.{eqb}
-use borrow.Author.Tests.{eq-eqb, ne-eqb}
+use lib.Dec.{eqb, ltb}
+use borrow.Author.Tests.{eq-eqb, ne-eqb, ltb-true, ltb-false}
 use native.Mathlib.Omega.{arith}
 use native.Mathlib.Nat.{add-sub-cancel-left}
 use Rattle.laws.specs.Search.{first}
@@ -74,3 +74,43 @@ first-to f i (suc n) = by-test (f i) (first f (i + 1) n) (first-to f (i + 1) n)
     by-test : (b : Bool) (x : ℕ) → x ≤ (i + 1) + n → cond b i x ≤ i + suc n
     by-test true x h = omega arith
     by-test false x h = omega arith
+
+-- a search goes by its test alone
+pub first-same : (f g : ℕ → Bool) (i n : ℕ) → ((k : ℕ) → i ≤ k → k < i + n → f k ≡ g k) → first f i n ≡ first g i n
+unfolding first
+first-same f g i zero h = refl
+first-same f g i (suc n) h =
+    rw (h i (omega arith) (omega arith), first-same f g (i + 1) n (λ k a b. h k (omega arith) (omega arith)))
+
+-- below, or not below
+pub either : {X : Type 0} (a b : ℕ) → (a < b → X) → (b ≤ a → X) → X
+either {X} a b yes′ no′ = by-test (ltb a b) refl
+  where
+    by-test : (t : Bool) → ltb a b ≡ t → X
+    by-test true e = yes′ (ltb-true a b e)
+    by-test false e = no′ (ltb-false a b e)
+
+-- nothing found: the test holds nowhere
+pub first-pass : (f : ℕ → Bool) (i n : ℕ) → first f i n ≡ i + n → (k : ℕ) → i ≤ k → k < i + n → f k ≡ false
+unfolding first
+first-pass f i zero e k a b = absurd (omega arith)
+first-pass f i (suc n) e k a b = by-test (f i) refl e (λ h. first-pass f (i + 1) n h k)
+  where
+    by-test : (t : Bool) → f i ≡ t → cond t i (first f (i + 1) n) ≡ i + suc n
+        → (first f (i + 1) n ≡ i + 1 + n → i + 1 ≤ k → k < i + 1 + n → f k ≡ false) → f k ≡ false
+    by-test true q h rest = absurd (omega arith)
+    by-test false q h rest =
+        either i k
+        (λ l. rest (omega arith) (omega arith) (omega arith))
+        (λ l. let z : k ≡ i = omega arith in rw z q)
+
+-- and the other way round
+pub pass-first : (f : ℕ → Bool) (i n : ℕ) → ((k : ℕ) → i ≤ k → k < i + n → f k ≡ false) → first f i n ≡ i + n
+unfolding first
+pass-first f i zero h = omega arith
+pass-first f i (suc n) h =
+    rw (h i (omega arith) (omega arith))
+    (pass-first f (i + 1) n (λ k a b. h k (omega arith) (omega arith)) ∙ shift)
+  where
+    shift : i + 1 + n ≡ i + suc n
+    shift = omega arith

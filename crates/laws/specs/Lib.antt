@@ -4,3 +4,7 @@ pub mod Members
 pub mod Table
 pub mod Walk
 pub mod Blocks
+pub mod Copies
+pub mod Replacing
+pub mod Seeking
+pub mod Pasting
