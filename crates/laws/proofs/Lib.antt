@@ -9,3 +9,4 @@ pub mod Copies
 pub mod Replacing
 pub mod Pasting
 pub mod Seeking
+pub mod Bits

@@ -6,7 +6,8 @@ use mathlib.Core.Path.{_≡_, _∙_, refl, sym}
 use mathlib.Core.Bool.{Bool, true, false, cond}
 use mathlib.Core.List.{List, [], _∷_, _++_}
 use native.Mathlib.Omega.{arith}
-use native.Mathlib.Nat.{add-sub-cancel-left}
+use native.Mathlib.Nat.{add-sub-cancel-left, add-zero, le-of-suc-le-suc, not-suc-le-zero}
+use lib.ListN.{getD}
 use Rattle.laws.specs.Members.{listOf, joinOf, anyOf}
 use Rattle.laws.proofs.Search.{less}
 
@@ -75,3 +76,12 @@ module _ {A : Type 0} {p : A → Bool} {f : ℕ → List A} {whole : Bool} {i e 
 
   pub join-next : i < e → false ≡ anyOf p (f i) → Join p f whole (i + 1) e
   join-next h t = record { low = omega arith; rest = l .rest ∙ here h ∙ rw (← t) refl }
+
+-- what the list has at a place
+pub list-at : {A : Type 0} (f : ℕ → A) (i n k : ℕ) (d : A) → k < n → getD (listOf f i n) k d ≡ f (i + k)
+unfolding listOf
+list-at f i zero k d h = absurd (not-suc-le-zero h)
+list-at f i (suc n) zero d h = rw (add-zero i) refl
+list-at f i (suc n) (suc k) d h =
+    let e : i + 1 + k ≡ i + suc k = omega arith in
+    list-at f (i + 1) n k d (le-of-suc-le-suc h) ∙ rw e refl

@@ -7,7 +7,7 @@ use lib.Dec.{eqb, ltb}
 use borrow.Author.Tests.{eq-eqb, ne-eqb, ltb-true, ltb-false}
 use native.Mathlib.Omega.{arith}
 use native.Mathlib.Nat.{add-sub-cancel-left}
-use Rattle.laws.specs.Search.{first}
+use Rattle.laws.specs.Search.{first, howMany}
 
 pub less : (i e : ℕ) → i < e → e - i ≡ suc (e - (i + 1))
 less i e h = omega arith
@@ -114,3 +114,13 @@ pass-first f i (suc n) h =
   where
     shift : i + 1 + n ≡ i + suc n
     shift = omega arith
+
+-- a test holds at no more places than there are
+pub many-to : (f : ℕ → Bool) (i n : ℕ) → howMany f i n ≤ n
+unfolding howMany
+many-to f i zero = omega arith
+many-to f i (suc n) = by-test (f (i + n)) (howMany f i n) (many-to f i n)
+  where
+    by-test : (b : Bool) (x : ℕ) → x ≤ n → x + cond b 1 0 ≤ suc n
+    by-test true x h = omega arith
+    by-test false x h = omega arith

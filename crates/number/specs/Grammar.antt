@@ -112,3 +112,11 @@ pub record Good (f : Field) : Type 0 where
 pub record Spells (l : List ℕ) (f : Field) : Type 0 where
   pub good : Good f
   pub same : write f ≡ l
+
+-- the characters of which fields are made
+pub data Letter (b : ℕ) : Type 0 where
+  blank : b ≡ 32 → Letter b
+  digit : (d : ℕ) → d < 10 → b ≡ 48 + d → Letter b
+  point : b ≡ 46 → Letter b
+  sign : (g : Bool) → b ≡ signByte g → Letter b
+  mark : b ≡ 69 → Letter b

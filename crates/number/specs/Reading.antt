@@ -72,8 +72,7 @@ on sign b d p s e = s
 on mark b d p s e = e
 on other b d p s e = Bad
 
--- where it stands one column later
---                                 blank       digit                            point                       sign                       E
+-- where it stands one column later: at a blank, a digit, a point, a sign, an E
 abbrev pub stepOf : Scan → Column → Scan
 stepOf Lead k = on (k .kind) Lead (Whole false (k .value)) (Point false) (Signed (k .minus)) Bad
 stepOf (Signed n) k = on (k .kind) Bad (Whole n (k .value)) (Point n) Bad Bad

@@ -1,19 +1,22 @@
 -- What a number field says (document 01, "Number fields"):
 --
---   "The value is (negative, coefficient, power of ten), the coefficient not divisible by ten. Zero is (no, 0, 0), however
---   signed."
+--   "The value is (negative, coefficient, power of ten), the coefficient not divisible by ten. Zero is (no, 0, 0),
+--   however signed."
 --
 -- The first half says it by an equation, the second how it is worked out; that both agree is the law `value-found`.
 use mathlib.Core.Path.{_≡_}
 use mathlib.Core.Bool.{Bool, true, false, cond}
 use mathlib.Core.List.{List, [], _∷_, _++_}
 use mathlib.Core.Logic.{_⊎_}
-use Prim.Native.Nat.{ℕ, zero, suc, _+_, _*_, _/_, _%_, _^_}
+use Prim.Native.Nat.{ℕ, zero, suc, _+_, _-_, _*_, _/_, _%_, _^_, _<_}
 use lib.Dec.{eqb}
 use lib.IntN.{ℤ, pos, negℤ, _+ℤ_, _-ℤ_}
 use lib.ListN.{length}
+use lib.Signed.{_≤ℤ_, _<ℤ_}
 use Rattle.number.specs.declared.value.Decimal.{Decimal}
-use Rattle.number.specs.Grammar.{num, minus, below, Tail, plain, power, Field, Spells}
+use Rattle.number.specs.declared.value.Reading.{Reading}
+use Rattle.number.specs.declared.value.Reading.the-variants.{Blank, Number, Refused}
+use Rattle.number.specs.Grammar.{blanks, num, minus, below, Tail, plain, power, Field, Spells}
 
 abbrev pub decimal : Bool → ℕ → ℤ → Decimal
 decimal n c p = record { negative = n; coefficient = c; power = p }
@@ -65,6 +68,12 @@ pub record Reads (l : List ℕ) (v : Decimal) : Type 0 where
   pub spells : Spells l field
   pub means : Means field v
 
+-- what the columns l say: "blank is said as blank"; a number; "15 malformed" where they are neither
+pub data Says (l : List ℕ) : Reading → Type 0 where
+  blank : l ≡ blanks (length l) → Says l Blank
+  number : {v : Decimal} → Reads l v → Says l (Number v)
+  malformed : (l ≡ blanks (length l) → ⊥) → ((v : Decimal) → Reads l v → ⊥) → Says l (Refused 15)
+
 -- ---- how it is worked out
 
 -- a number without its last zeros, and how many those were
@@ -86,3 +95,14 @@ unfoldable pub valueOf : Bool → ℕ → ℤ → Decimal
 valueOf negative a p =
     cond (eqb a 0) zeroDecimal
     (decimal negative (trim a .number) (p +ℤ pos (trim a .zeros)))
+
+abbrev pub meaning : Field → Decimal
+meaning f = valueOf (minus (f .sign)) (digitsOf f) (powerOf f)
+
+-- ---- how large it can be
+
+-- v is no larger than w columns allow: one goes to the point, and two more to an exponent's sign and a digit before it
+pub record Within (w : ℕ) (v : Decimal) : Type 0 where
+  pub coefficient : v .coefficient < 10 ^ (w - 1)
+  pub least : negℤ (pos (10 ^ (w - 3))) ≤ℤ v .power
+  pub most : v .power <ℤ pos (10 ^ (w - 3))

@@ -1,0 +1,34 @@
+-- What writing answers, and what the buffer then holds (document 01):
+--
+--   "Writing: 40 buffer not eleven bytes, 41 no field reads to the value. A refused call stores nothing."
+use mathlib.Core.Bool.{cond}
+use mathlib.Core.List.{List}
+use Prim.Native.Nat.{ℕ}
+use lib.Dec.{leb, eqb}
+use lib.ListN.{length}
+use Rattle.number.specs.declared.value.Decimal.{Decimal}
+use Rattle.canonical.specs.declared.write.Written.{Written}
+use Rattle.canonical.specs.declared.write.Written.the-variants.{Done, Refused}
+use Rattle.canonical.specs.Closed.{canonicalText, canonicalField}
+
+-- into a buffer of any width
+unfoldable pub answered : List ℕ → Decimal → Written
+answered l v = cond (leb (length (canonicalText v)) (length l)) Done (Refused 41)
+
+unfoldable pub stored : List ℕ → Decimal → List ℕ
+stored l v = cond (leb (length (canonicalText v)) (length l)) (canonicalField (length l) v) l
+
+-- into one that has to be of eleven bytes
+unfoldable pub written : List ℕ → Decimal → Written
+written l v = cond (eqb (length l) 11) (answered l v) (Refused 40)
+
+unfoldable pub bytes : List ℕ → Decimal → List ℕ
+bytes l v = cond (eqb (length l) 11) (stored l v) l
+
+-- document 01's number for each answer: 0 done
+abbrev pub refusal : Written → ℕ
+refusal Done = 0
+refusal (Refused n) = n
+
+unfoldable pub refusalOf : List ℕ → Decimal → ℕ
+refusalOf l v = cond (eqb (length l) 11) (cond (leb (length (canonicalText v)) 11) 0 41) 40

@@ -1,0 +1,42 @@
+// Writing a decimal as its canonical field.
+ghost use mathlib.Core.Path.{_≡_};
+ghost use Prim.Native.Nat.{ℕ, _≤_};
+ghost use lib.ListN.{length};
+ghost use Rattle.number.specs.Value.{valueOf};
+ghost use Rattle.canonical.specs.Writing.{answered, stored, written, bytes, refusal, refusalOf};
+use crate::layout::prepare;
+use crate::store::layout_columns;
+use crate::store::put_field;
+
+// Done, or refused by document 01's number: 40 buffer not eleven bytes, 41 no field reads to the value.
+pub enum Written {
+    Done,
+    Refused(u8),
+}
+
+// The canonical field of a value in a buffer of at most 19 columns.
+fn write_columns(negative: bool, coefficient: u64, power: i32, out: &mut [u8]) -> Written
+    requires { ⌜ length (now out) ≤ 19 ⌝ }
+    ensures { λ r. ⌜ (r ≡ answered (now (out .entry)) (valueOf negative coefficient power)) × (now (out .exit) ≡ stored (now (out .entry)) (valueOf negative coefficient power)) ⌝ }
+{
+    let q = prepare(negative, coefficient, power);
+    let g = q.negative;
+    let c = q.coefficient;
+    let p = q.layout;
+    if out.len() < layout_columns(g, p) {
+        return Written::Refused(41);
+    }
+    put_field(out, g, c, p);
+    Written::Done
+}
+
+// The canonical field of a value in eleven columns.
+pub fn write_number(negative: bool, coefficient: u64, power: i32, out: &mut [u8]) -> Written
+    ensures { λ r. ⌜ (r ≡ written (now (out .entry)) (valueOf negative coefficient power)) × (now (out .exit) ≡ bytes (now (out .entry)) (valueOf negative coefficient power)) ⌝ }
+    ensures { λ r. ⌜ refusal r ≡ refusalOf (now (out .entry)) (valueOf negative coefficient power) ⌝ }
+{
+    if out.len() != 11 {
+        return Written::Refused(40);
+    }
+    write_columns(negative, coefficient, power, out)
+}

@@ -1,0 +1,113 @@
+-- The reading and the grammar agree: each list is blank, a field with its value, or neither.
+-- Assumes nothing.
+use mathlib.Core.Path.{_≡_, refl, sym, ap, _∙_}
+use mathlib.Core.Bool.{Bool, false}
+use mathlib.Core.List.{List, [], _∷_, _++_, append-assoc, append-nil}
+use Prim.Native.Nat.{ℕ}
+use native.Mathlib.Omega.{arith}
+use lib.IntN.{pos, _-ℤ_}
+use lib.ListN.{length, length-replicate}
+use Rattle.number.specs.declared.value.Decimal.{Decimal}
+use Rattle.number.specs.declared.value.Reading.{Reading}
+use Rattle.number.specs.declared.value.Reading.the-variants.{Blank, Number, Refused}
+use Rattle.number.specs.Grammar.{blanks, plain, power, write, Spells}
+use Rattle.number.specs.Value.{signedBy, valueOf, meaning, Reads, Says, blank, number, malformed}
+use Rattle.number.specs.Reading.{Mantissa, Scan, Lead, Signed, Whole, Point, Fraction, Gap, Mark, MarkGap}
+use Rattle.number.specs.Reading.{PowerSign, Power, Bad, scanOf, said, finish, readField}
+use Rattle.number.proofs.Equation.{found, one}
+use Rattle.number.proofs.Reach.{Reach, Behind, Raised, reached}
+use Rattle.number.proofs.Follow.{scan-lead, reads-field}
+
+-- ---- a list that reads to a number is a field of that value
+
+module _ (l : List ℕ) where
+  -- digits and k blanks
+  plain-field : (m : Mantissa) (k : ℕ) → Behind l m (blanks k)
+      → Reads l (valueOf (m .negative) (m .number) (pos 0 -ℤ pos (m .places)))
+  unfolding write
+  plain-field m k r =
+      let w = r .pointed in
+      record {
+        field = record { lead = w .lead; sign = w .sign; whole = w .whole; part = w .part; tail = plain k };
+        spells = record {
+          good = record { digits = w .digits; some = w .some; tail = tt };
+          same = rw (r .same, w .same) (simp append-assoc);
+        };
+        means = rw (← w .sense) (found _ _ _);
+      }
+
+  -- digits and an exponent
+  power-field : (m : Mantissa) (s : Bool) (e : ℕ) → Raised l m s e
+      → Reads l (valueOf (m .negative) (m .number) (signedBy s e -ℤ pos (m .places)))
+  unfolding write
+  power-field m s e r =
+      let w = r .behind .pointed in
+      record {
+        field = record {
+          lead = w .lead;
+          sign = w .sign;
+          whole = w .whole;
+          part = w .part;
+          tail = power (r .opening) (r .power);
+        };
+        spells = record {
+          good = record { digits = w .digits; some = w .some; tail = (r .digits, r .some) };
+          same = rw (r .behind .same, w .same) (simp append-assoc);
+        };
+        means = rw (← w .sense, ← r .sense, ← r .number) (found _ _ _);
+      }
+
+-- ---- a field reads to its value, and to no other
+
+pub reads-number : {l : List ℕ} {v : Decimal} → Reads l v → readField l ≡ Number v
+reads-number {l} {v} r =
+    ap readField (sym (r .spells .same)) ∙ reads-field (r .field) (r .spells .good)
+    ∙ ap Number (one (found _ _ _) (r .means))
+
+-- ---- a blank list
+
+reads-blank : {l : List ℕ} → l ≡ blanks (length l) → readField l ≡ Blank
+unfolding readField finish
+reads-blank {l} e =
+    ap (λ (x : List ℕ). finish (scanOf Lead x)) (e ∙ sym (append-nil (blanks (length l))))
+    ∙ ap finish (scan-lead (length l) [])
+
+as-long : {l : List ℕ} (n : ℕ) → l ≡ blanks n → l ≡ blanks (length l)
+as-long {l} n e = e ∙ ap blanks (sym (ap length e ∙ length-replicate n 32))
+
+-- ---- each list
+
+-- a reading that is refused is neither blank nor a number
+refused : {l : List ℕ} → readField l ≡ Refused 15 → Says l (Refused 15)
+refused {l} e =
+    malformed
+    (λ b. let q = reads-blank b in let z : _≡_ {A = ℕ} 0 1 = cc in omega arith)
+    (λ v r. let q = reads-number r in let z : _≡_ {A = ℕ} 0 1 = cc in omega arith)
+
+says-at : {l : List ℕ} (s : Scan) → Reach l s → readField l ≡ finish s → Says l (finish s)
+unfolding finish
+says-at Lead (n, e) q = blank (as-long n e)
+says-at (Signed g) r q = refused q
+says-at (Whole g c) r q = refused q
+says-at (Point g) r q = refused q
+says-at {l} (Fraction m) r q = number (plain-field l m 0 (record { front = l; same = rw append-nil refl; pointed = r }))
+says-at {l} (Gap m) (k, r) q = number (plain-field l m k r)
+says-at (Mark m) r q = refused q
+says-at (MarkGap m) r q = refused q
+says-at (PowerSign m s) r q = refused q
+says-at {l} (Power m s e) r q = number (power-field l m s e r)
+says-at Bad r q = refused q
+
+pub says : (l : List ℕ) → Says l (readField l)
+unfolding readField
+says l = says-at (scanOf Lead l) (reached l) refl
+
+pub said-so : {l : List ℕ} {r : Reading} → Says l r → readField l ≡ r
+said-so (blank e) = reads-blank e
+said-so (number r) = reads-number r
+said-so {l} (malformed b n) = neither (says l)
+  where
+    neither : {r : Reading} → Says l r → r ≡ Refused 15
+    neither (blank e) = absurd (b e)
+    neither (number r) = absurd (n _ r)
+    neither (malformed x y) = refl

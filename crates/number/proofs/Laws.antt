@@ -1,0 +1,100 @@
+-- The laws of number fields, which the layers above cite by these names.
+-- Assumes nothing.
+use mathlib.Core.Path.{_≡_, refl, sym, ap, _∙_}
+use mathlib.Core.Bool.{Bool}
+use mathlib.Core.Logic.{_↔_}
+use mathlib.Core.List.{List, [], _∷_, _++_}
+use Prim.Native.Nat.{ℕ, _<_, _≤_}
+use native.Mathlib.Omega.{arith}
+use lib.IntN.{ℤ, pos, negℤ}
+use lib.ListN.{length, getD}
+use lib.Signed.{_≤ℤ_}
+use Rattle.number.specs.declared.value.Decimal.{Decimal}
+use Rattle.number.specs.declared.value.Reading.{Reading}
+use Rattle.number.specs.declared.value.Reading.the-variants.{Blank, Number, Refused}
+use Rattle.number.specs.Grammar.{blanks, Field, Good, write, Spells, Letter}
+use Rattle.number.specs.Value.{Value, valueOf, meaning, Reads, Says, blank, number, malformed, Within}
+use Rattle.number.specs.Reading.{Lead, finish, readField}
+use Rattle.number.proofs.Equation as Equation
+use Rattle.number.proofs.Spelling as Spelling
+use Rattle.number.proofs.Follow as Follow
+use Rattle.number.proofs.Agree as Agree
+use Rattle.number.proofs.Letters as Letters
+use Rattle.number.proofs.Bounds as Bounds
+use Rattle.number.proofs.Sums as Sums
+
+-- ---- values
+
+-- every sign, whole number and power of ten has a value, and `valueOf` works it out
+pub value-found : (negative : Bool) (a : ℕ) (p : ℤ) → Value negative a p (valueOf negative a p)
+value-found negative a p = Equation.found negative a p
+
+-- it has no other
+pub value-one : {negative : Bool} {a : ℕ} {p : ℤ} {v w : Decimal} → Value negative a p v → Value negative a p w → v ≡ w
+value-one x y = Equation.one x y
+
+-- ---- fields
+
+-- the grammar is unambiguous: columns are one field at most
+pub spelt-once : {l : List ℕ} {f g : Field} → Spells l f → Spells l g → f ≡ g
+spelt-once s t = Spelling.once s t
+
+-- a field reads to its value
+pub reads-field : (f : Field) → Good f → readField (write f) ≡ Number (meaning f)
+reads-field f h = Follow.reads-field f h
+
+-- ---- reading
+
+-- a list reads to a value exactly when the grammar gives that value
+pub reads-exactly : (l : List ℕ) (v : Decimal) → (readField l ≡ Number v) ↔ Reads l v
+reads-exactly l v = (λ e. by-says (Agree.says l) e, Agree.reads-number)
+  where
+    by-says : {r : Reading} → Says l r → r ≡ Number v → Reads l v
+    by-says (blank b) e = let z : _≡_ {A = ℕ} 0 1 = cc in absurd (omega arith)
+    by-says (number {v = w} r) e = let q : w ≡ v = cc in rw (← q) r
+    by-says (malformed b n) e = let z : _≡_ {A = ℕ} 0 1 = cc in absurd (omega arith)
+
+-- it reads to one value only
+pub reads-once : {l : List ℕ} {v w : Decimal} → Reads l v → Reads l w → v ≡ w
+reads-once x y = let e = Agree.reads-number x in let f = Agree.reads-number y in cc
+
+-- it reads as blank exactly when it is blanks
+pub blank-exactly : (l : List ℕ) → (readField l ≡ Blank) ↔ (l ≡ blanks (length l))
+blank-exactly l = (λ e. by-says (Agree.says l) e, λ b. Agree.said-so (blank b))
+  where
+    by-says : {r : Reading} → Says l r → r ≡ Blank → l ≡ blanks (length l)
+    by-says (blank b) e = b
+    by-says (number r) e = let z : _≡_ {A = ℕ} 0 1 = cc in absurd (omega arith)
+    by-says (malformed b n) e = let z : _≡_ {A = ℕ} 0 1 = cc in absurd (omega arith)
+
+-- the reading is total and one: what it says of a list is what the paper says, and the paper says one thing
+pub says-exactly : (l : List ℕ) (r : Reading) → (readField l ≡ r) ↔ Says l r
+says-exactly l r = (λ e. rw e at (Agree.says l), Agree.said-so)
+
+-- a field of fewer columns reads like the wider one with blanks in front
+pub read-wider : (k : ℕ) (l : List ℕ) → readField (blanks k ++ l) ≡ readField l
+unfolding readField
+read-wider k l = ap finish (Follow.scan-lead k l)
+
+-- a field that is blank or a number holds no other characters than these
+pub number-letters : (l : List ℕ) → (readField l ≡ Refused 15 → ⊥) → (i : ℕ) → i < length l → Letter (getD l i 0)
+unfolding readField
+number-letters l h i m = Letters.letters l Lead h i m
+
+-- ---- sizes
+
+-- what a field of at most w columns says is no larger than w columns allow; by `read-wider` w may be taken as 4 or more
+pub read-bounds : (w : ℕ) (l : List ℕ) (v : Decimal) → 4 ≤ w → length l ≤ w → readField l ≡ Number v → Within w v
+read-bounds w l v h m e =
+    let r = reads-exactly l v .0 e in
+    let f = r .field in
+    let s : write f ≡ l = r .spells .same in
+    let q : meaning f ≡ v = value-one (value-found _ _ _) (r .means) in
+    rw q at (Bounds.within w f (r .spells .good) h (rw s m))
+
+-- in eleven columns: coefficient at most 9,999,999,999, power from -100,000,000 to 99,999,999
+pub read-bounds-eleven : (l : List ℕ) (v : Decimal) → length l ≡ 11 → readField l ≡ Number v
+    → (v .coefficient ≤ 9999999999) × (negℤ (pos 100000000) ≤ℤ v .power) × (v .power ≤ℤ pos 99999999)
+read-bounds-eleven l v h e =
+    let r = read-bounds 11 l v (omega arith) (omega arith) e in
+    (omega (arith, r .coefficient), r .least, Sums.lt-le (v .power) 99999999 (r .most))

@@ -1,0 +1,15 @@
+pub mod Tens
+pub mod Sums
+pub mod Equation
+pub mod Spelling
+pub mod Bytes
+pub mod Reach
+pub mod Follow
+pub mod Agree
+pub mod Bounds
+pub mod Letters
+pub mod Steps
+pub mod Difference
+pub mod Zeros
+pub mod Tables
+pub mod Laws

@@ -1,0 +1,121 @@
+use mathlib.Core.Bool.{Bool, false}
+use mathlib.Core.Path.{refl, sym, _∙_, _≡_}
+use Prim.Native.Nat.{_-_, _<_, _^_, _≤_}
+use native.Mathlib.Omega.{arith}
+use borrow.Author.Needs.{needs}
+use lib.ListN.{getD, length}
+use Rattle.number.proofs.Steps.{bad-whole, digit-in, is-digit, is-point, moves, over, points-none, stuck}
+use Rattle.number.proofs.Tens.{ten-le, ten-more}
+use Rattle.number.specs.Reading.{Whole, column, digit, finish, point}
+use Rattle.number.specs.Walk.{readFrom}
+use Rattle.number.proofs.walk.in_whole.Statement.{statement}
+use Rattle.number.proofs.walk.in_whole.Tie as tie
+
+abbrev Inv-loop : tie.InvT-loop
+Inv-loop s from first number₀ i₀ number i = (from ≤ i) × (i ≤ length s) × (number < 10 ^ i)
+    × ((g : Bool) → readFrom (Whole g first) from s ≡ readFrom (Whole g number) i s)
+
+abbrev μ-loop : tie.MeasureT-loop
+μ-loop s from first number₀ i₀ number i = length s - i
+
+loop-holds : tie.Need-loop-holds Inv-loop μ-loop
+loop-holds c = (omega arith, c .before .pre .0 .inside, c .before .pre .1 .0, λ g. refl)
+
+shared-slice-read-b : tie.Need-shared-slice-read-b Inv-loop μ-loop
+shared-slice-read-b c = omega arith
+
+is-digit-requires : tie.Need-is-digit-requires Inv-loop μ-loop
+is-digit-requires c κs = search needs
+
+sub-d : tie.Need-sub-d Inv-loop μ-loop
+sub-d c = digit-in (getD (c .before .before .before .before .before .before .args .s .now) (c .before .before .before .before .loop .i) 0) (sym (c .before .is-digit .ensures) ∙ c .if1 .taken) .0
+
+cast-d : tie.Need-cast-d Inv-loop μ-loop
+cast-d c = let d = digit-in (getD (c .before .before .before .before .before .before .args .s .now) (c .before .before .before .before .loop .i) 0) (sym (c .before .is-digit .ensures) ∙ c .if1 .taken) in
+    omega arith
+
+mul-number : tie.Need-mul-number Inv-loop μ-loop
+mul-number c = let p = ten-le {i = c .before .before .before .before .loop .i} {j = 10} (omega arith) in
+    omega (arith, c .before .before .before .before .loop .inv .2)
+
+add-number : tie.Need-add-number Inv-loop μ-loop
+add-number c = let d = digit-in (getD (c .before .before .before .before .before .before .args .s .now) (c .before .before .before .before .loop .i) 0) (sym (c .before .is-digit .ensures) ∙ c .if1 .taken) in
+    let p = ten-le {i = c .before .before .before .before .loop .i} {j = 10} (omega arith) in
+    omega (arith, c .before .before .before .before .loop .inv .2)
+
+add-i : tie.Need-add-i Inv-loop μ-loop
+add-i c = omega arith
+
+loop-less : tie.Need-loop-less Inv-loop μ-loop
+loop-less c = omega arith
+
+loop-again : tie.Need-loop-again Inv-loop μ-loop
+loop-again c = let s = c .before .before .before .before .before .before .args .s .now in
+    let i = c .before .before .before .before .loop .i in
+    let e = sym (c .before .is-digit .ensures) ∙ c .if1 .taken in
+    let d = digit-in (getD s i 0) e in
+    let p = ten-more i in
+    let y = is-digit (getD s i 0) e in (
+      omega arith,
+      omega arith,
+      omega (arith, c .before .before .before .before .loop .inv .2),
+      λ g. c .before .before .before .before .loop .inv .3 g
+          ∙ moves s (Whole g (c .before .before .before .before .loop .number)) i (column digit (getD s i 0 - 48) false) (omega arith) y,
+    )
+
+add-t16 : tie.Need-add-t16 Inv-loop μ-loop
+add-t16 c = search needs
+
+returns : tie.Need-returns Inv-loop μ-loop
+returns c = let s = c .before .before .before .before .before .before .before .args .s .now in
+    let i = c .before .before .before .before .before .loop .i in
+    let p = ten-more i in
+    let y = is-point (getD s i 0) (c .if2 .taken) in
+    record {
+      reads = λ g. c .before .before .before .before .before .loop .inv .3 g ∙ moves s (Whole g (c .before .before .before .before .before .loop .number)) i (column point 0 false) (omega arith) y;
+      inside = omega arith;
+      number = omega (arith, c .before .before .before .before .before .loop .inv .2);
+      places = omega arith;
+      wide = λ _. omega (arith, c .before .before .before .before .before .loop .inv .0, c .before .before .before .before .before .before .before .pre .1 .1);
+    }
+
+bad-front-requires : tie.Need-bad-front-requires Inv-loop μ-loop
+bad-front-requires c κs = search needs
+
+returns-2 : tie.Need-returns-2 Inv-loop μ-loop
+returns-2 c = let s = c .before .before .before .before .before .before .before .before .args .s .now in
+    let i = c .before .before .before .before .before .before .loop .i in
+    let e = sym (c .before .before .before .is-digit .ensures) ∙ c .before .before .if1 .left in
+    points-none s (c .before .before .before .before .before .before .before .before .args .from) _ _ (c .bad-front .ensures)
+    (λ g. c .before .before .before .before .before .before .loop .inv .3 g ∙ stuck s (Whole g (c .before .before .before .before .before .before .loop .number)) i (omega arith) (bad-whole (getD s i 0) g (c .before .before .before .before .before .before .loop .number) e (c .before .if2 .left)))
+
+bad-front-requires-2 : tie.Need-bad-front-requires-2 Inv-loop μ-loop
+bad-front-requires-2 c κs = search needs
+
+returns-3 : tie.Need-returns-3 Inv-loop μ-loop
+unfolding finish
+returns-3 c = points-none (c .before .before .before .before .args .s .now) (c .before .before .before .before .args .from) _ _ (c .bad-front2 .ensures)
+    (λ g. c .before .before .loop .inv .3 g ∙ over (c .before .before .before .before .args .s .now) (Whole g (c .before .before .loop .number)) (c .before .before .loop .i) (omega arith))
+
+pub in-whole-spec : {M : Type 1} → statement M
+in-whole-spec =
+    tie.close
+    (tie.spec
+    Inv-loop
+    μ-loop
+    loop-holds
+    shared-slice-read-b
+    is-digit-requires
+    sub-d
+    cast-d
+    mul-number
+    add-number
+    add-i
+    loop-less
+    loop-again
+    add-t16
+    returns
+    bad-front-requires
+    returns-2
+    bad-front-requires-2
+    returns-3)

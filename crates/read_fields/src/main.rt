@@ -1,0 +1,102 @@
+// Reads number fields from standard input, a line each, and says what each reads to: `145 e-3` is 145 times ten to the -3.
+ghost use Prim.Native.Nat.{_≤_};
+ghost use lib.ListN.{length};
+use libc::STDIN_FILENO;
+use libc::STDOUT_FILENO;
+use number::read::read_number;
+use number::value::Decimal;
+use number::value::Reading;
+
+// A byte as a person can read it.
+fn shown(b: u8) -> u8 {
+    if b < 32 {
+        return 63;
+    }
+    if 126 < b {
+        return 63;
+    }
+    b
+}
+
+fn show_columns(s: &[u8]) {
+    let mut i = 0;
+    while i < s.len() {
+        let one = [shown(s[i])];
+        io::write_all(STDOUT_FILENO, &one);
+        i += 1;
+    }
+}
+
+fn show_power(p: i32) {
+    if p < 0 {
+        let q = p as i64;
+        let size = 0 - q;
+        io::write_all(STDOUT_FILENO, b"-");
+        io::print_decimal(STDOUT_FILENO, size as u64);
+    } else {
+        io::print_decimal(STDOUT_FILENO, p as u64);
+    }
+}
+
+fn show_value(v: Decimal) {
+    let negative = v.negative;
+    let coefficient = v.coefficient;
+    let power = v.power;
+    if negative {
+        io::write_all(STDOUT_FILENO, b"-");
+    }
+    io::print_decimal(STDOUT_FILENO, coefficient);
+    io::write_all(STDOUT_FILENO, b" e");
+    show_power(power);
+}
+
+fn show_reading(r: Reading) {
+    match r {
+        Reading::Blank => {
+            io::write_all(STDOUT_FILENO, b"blank");
+        }
+        Reading::Number(v) => show_value(v),
+        Reading::Refused(n) => {
+            io::write_all(STDOUT_FILENO, b"refused ");
+            io::print_decimal(STDOUT_FILENO, n as u64);
+        }
+    }
+}
+
+fn show_line(s: &[u8]) {
+    io::write_all(STDOUT_FILENO, b"[");
+    show_columns(s);
+    io::write_all(STDOUT_FILENO, b"] ");
+    show_reading(read_number(s));
+    io::write_all(STDOUT_FILENO, b"\n");
+}
+
+// Where the line ends that begins at `from`.
+fn line_end(s: &[u8], from: usize) -> usize
+    requires { ⌜ from ≤ length (now s) ⌝ }
+    ensures { λ r. ⌜ (from ≤ r) × (r ≤ length (now (s .entry))) ⌝ }
+{
+    let mut i = from;
+    while i < s.len() {
+        if s[i] == 10 {
+            return i;
+        }
+        i += 1;
+    }
+    i
+}
+
+fn show_lines(s: &[u8]) {
+    let mut from = 0;
+    while from < s.len() {
+        let end = line_end(s, from);
+        show_line(&s[from..end]);
+        from = end + 1;
+    }
+}
+
+fn main() {
+    let mut buf = io::large_buffer();
+    let n = io::read_full(STDIN_FILENO, &mut buf);
+    show_lines(&buf[..n]);
+}

@@ -1,0 +1,42 @@
+use Rattle.record.proofs.ReadColumns.{columns-read}
+use borrow.Author.Needs.{needs}
+use native.Mathlib.Omega.{arith}
+use Rattle.record.proofs.expected.accession.Statement.{statement}
+use Rattle.record.proofs.expected.accession.Tie as tie
+use Rattle.record.proofs.expected.accession.Reads as reads
+use Rattle.record.proofs.expected.accession.Lts as lts
+
+-- src/expected.rt:14:6
+shared-slice-read-t3 : tie.Need-shared-slice-read-t3
+shared-slice-read-t3 c = search needs
+
+-- src/expected.rt:14:15
+shared-slice-read-t5 : tie.Need-shared-slice-read-t5
+shared-slice-read-t5 c = search needs
+
+-- src/expected.rt:14:24
+shared-slice-read-t7 : tie.Need-shared-slice-read-t7
+shared-slice-read-t7 c = search needs
+
+-- src/expected.rt:14:33
+shared-slice-read-t9 : tie.Need-shared-slice-read-t9
+shared-slice-read-t9 c = search needs
+
+-- src/expected.rt:14:42
+shared-slice-read-t11 : tie.Need-shared-slice-read-t11
+shared-slice-read-t11 c = search needs
+
+-- src/expected.rt:10:1
+returns : tie.Need-returns
+returns c = columns-read (c .before .before .before .before .before .args .rec .now) 66 5 (omega arith)
+
+pub accession-spec : {M : Type 1} → statement M
+accession-spec =
+    tie.close
+    (tie.spec
+    shared-slice-read-t3
+    shared-slice-read-t5
+    shared-slice-read-t7
+    shared-slice-read-t9
+    shared-slice-read-t11
+    returns)

@@ -1,0 +1,60 @@
+use Prim.Native.Nat.{_-_}
+use Rattle.laws.proofs.Search.{Scan, scan-all, scan-done, scan-found, scan-next}
+use Rattle.record.specs.Identifier.{NamesLent, identifierOf, isName}
+use borrow.Author.Needs.{needs}
+use mathlib.Core.Path.{_∙_, sym}
+use native.Mathlib.Omega.{arith}
+use Rattle.record.proofs.identifier.identifier_of.Statement.{statement}
+use Rattle.record.proofs.identifier.identifier_of.Tie as tie
+use Rattle.record.proofs.identifier.identifier_of.Reads as reads
+use Rattle.record.proofs.identifier.identifier_of.Lts as lts
+use Rattle.record.proofs.identifier.is_name.Reads as is-name-reads
+
+abbrev Inv-loop : tie.InvT-loop
+Inv-loop t f k₀ k = (NamesLent t) × Scan (isName f) (identifierOf f) k 14
+
+abbrev μ-loop : tie.MeasureT-loop
+μ-loop t f k₀ k = 14 - k
+
+-- src/identifier.rt:68:5
+loop-holds : tie.Need-loop-holds Inv-loop μ-loop
+unfolding identifierOf
+loop-holds c = (c .pre, scan-all 14)
+
+-- src/identifier.rt:69:12
+is-name-requires : tie.Need-is-name-requires Inv-loop μ-loop
+is-name-requires c κs = search needs
+
+-- src/identifier.rt:70:13
+returns : tie.Need-returns Inv-loop μ-loop
+returns c = scan-found (c .before .before .before .loop .inv .1) (omega arith) (sym (c .before .is-name .ensures) ∙ c .if1 .taken)
+
+-- src/identifier.rt:72:9
+add-k : tie.Need-add-k Inv-loop μ-loop
+add-k c = search needs
+
+-- src/identifier.rt:68:5
+loop-less : tie.Need-loop-less Inv-loop μ-loop
+loop-less c = search needs
+
+-- src/identifier.rt:68:5
+loop-again : tie.Need-loop-again Inv-loop μ-loop
+loop-again c = (c .before .before .before .loop .inv .0, scan-next (c .before .before .before .loop .inv .1) (omega arith) (sym (c .before .is-name .ensures) ∙ c .if1 .left))
+
+-- src/identifier.rt:63:1
+returns-2 : tie.Need-returns-2 Inv-loop μ-loop
+returns-2 c = scan-done (c .before .loop .inv .1) (omega arith)
+
+pub identifier-of-spec : {M : Type 1} → statement M
+identifier-of-spec =
+    tie.close
+    (tie.spec
+    Inv-loop
+    μ-loop
+    loop-holds
+    is-name-requires
+    returns
+    add-k
+    loop-less
+    loop-again
+    returns-2)

@@ -1,0 +1,70 @@
+use Rattle.record.specs.System.{isDate}
+use borrow.Author.Needs.{needs}
+use borrow.Author.Tests.{not-false, not-true}
+use Rattle.record.proofs.system.is_date.Statement.{statement}
+use Rattle.record.proofs.system.is_date.Tie as tie
+use Rattle.record.proofs.system.is_date.Reads as reads
+use Rattle.record.proofs.system.is_date.Lts as lts
+use Rattle.record.proofs.system.digits_in.Reads as digits-in-reads
+use Rattle.record.proofs.system.is_up_to.Reads as is-up-to-reads
+use Rattle.record.proofs.system.number_in.Reads as number-in-reads
+use Rattle.record.proofs.word.blank_to.Reads as blank-to-reads
+
+-- src/system.rt:125:9
+blank-to-requires : tie.Need-blank-to-requires
+blank-to-requires c κs = search needs
+
+-- src/system.rt:126:9
+returns : tie.Need-returns
+unfolding isDate
+returns c = rw (← c .before .blank-to .ensures, not-true (c .before .blank-to .result) (c .if1 .taken))
+
+-- src/system.rt:128:9
+digits-in-requires : tie.Need-digits-in-requires
+digits-in-requires c κs = search needs
+
+-- src/system.rt:129:9
+returns-2 : tie.Need-returns-2
+unfolding isDate
+returns-2 c = rw (← c .before .before .before .blank-to .ensures, not-false (c .before .before .before .blank-to .result) (c .before .before .if1 .left), ← c .before .digits-in .ensures, not-true (c .before .digits-in .result) (c .if2 .taken))
+
+-- src/system.rt:131:9
+number-in-requires : tie.Need-number-in-requires
+number-in-requires c κs = search needs
+
+-- src/system.rt:132:9
+is-up-to-requires : tie.Need-is-up-to-requires
+is-up-to-requires c κs = search needs
+
+-- src/system.rt:133:9
+returns-3 : tie.Need-returns-3
+unfolding isDate
+returns-3 c = rw (← c .before .before .before .before .before .before .blank-to .ensures, not-false (c .before .before .before .before .before .before .blank-to .result) (c .before .before .before .before .before .if1 .left), ← c .before .before .before .before .digits-in .ensures, not-false (c .before .before .before .before .digits-in .result) (c .before .before .before .if2 .left), ← c .before .before .number-in .ensures .0, ← c .before .is-up-to .ensures, not-true (c .before .is-up-to .result) (c .if3 .taken))
+
+-- src/system.rt:135:9
+number-in-requires-2 : tie.Need-number-in-requires-2
+number-in-requires-2 c κs = search needs
+
+-- src/system.rt:136:5
+is-up-to-requires-2 : tie.Need-is-up-to-requires-2
+is-up-to-requires-2 c κs = search needs
+
+-- src/system.rt:122:1
+returns-4 : tie.Need-returns-4
+unfolding isDate
+returns-4 c = rw (← c .before .before .before .before .before .before .before .before .blank-to .ensures, not-false (c .before .before .before .before .before .before .before .before .blank-to .result) (c .before .before .before .before .before .before .before .if1 .left), ← c .before .before .before .before .before .before .digits-in .ensures, not-false (c .before .before .before .before .before .before .digits-in .result) (c .before .before .before .before .before .if2 .left), ← c .before .before .before .before .number-in .ensures .0, ← c .before .before .before .is-up-to .ensures, not-false (c .before .before .before .is-up-to .result) (c .before .before .if3 .left), ← c .before .number-in2 .ensures .0) (c .is-up-to2 .ensures)
+
+pub is-date-spec : {M : Type 1} → statement M
+is-date-spec =
+    tie.close
+    (tie.spec
+    blank-to-requires
+    returns
+    digits-in-requires
+    returns-2
+    number-in-requires
+    is-up-to-requires
+    returns-3
+    number-in-requires-2
+    is-up-to-requires-2
+    returns-4)

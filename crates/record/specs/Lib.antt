@@ -1,0 +1,9 @@
+pub mod Text
+pub mod Class
+pub mod Columns
+pub mod Fields
+pub mod Word
+pub mod Identifier
+pub mod System
+pub mod Expected
+pub mod Numbers

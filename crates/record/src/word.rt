@@ -1,0 +1,223 @@
+// Words and pointers, headings and units.
+ghost use mathlib.Core.Path.{_≡_};
+ghost use Prim.Native.Nat.{ℕ, _≤_};
+ghost use lib.ListN.{length};
+ghost use Rattle.record.specs.Text.{within};
+ghost use Rattle.record.specs.Fields.{firstField};
+ghost use Rattle.record.specs.Word.{blankTo, equalTo, wordEnd, filledFrom, isWord, isPointer, badPointer, isUnit, pointerFault, headingFault, unitFault};
+
+// Whether the first `w` columns of a field are blank.
+pub(crate) fn blank_to(f: [u8; 11], w: usize) -> bool
+    requires { ⌜ w ≤ 11 ⌝ }
+    ensures { λ r. ⌜ r ≡ blankTo w f ⌝ }
+{
+    let mut i = 0;
+    while i < w {
+        if f[i] != b' ' {
+            return false;
+        }
+        i += 1;
+    }
+    true
+}
+
+// Whether a field is blank.
+pub fn is_blank(f: [u8; 11]) -> bool
+    ensures { λ r. ⌜ r ≡ blankTo 11 f ⌝ }
+{
+    blank_to(f, 11)
+}
+
+// Whether the keyword place, columns 1 to 10, is blank.
+pub fn is_keyword_blank(f: [u8; 11]) -> bool
+    ensures { λ r. ⌜ r ≡ blankTo 10 f ⌝ }
+{
+    blank_to(f, 10)
+}
+
+// Whether the first `w` columns of two parts are equal.
+pub(crate) fn equal_to(a: &[u8], b: &[u8], w: usize) -> bool
+    requires { ⌜ w ≤ length (now a) ⌝ }
+    requires { ⌜ w ≤ length (now b) ⌝ }
+    ensures { λ r. ⌜ r ≡ equalTo w (now (a .entry)) (now (b .entry)) ⌝ }
+{
+    let mut i = 0;
+    while i < w {
+        if a[i] != b[i] {
+            return false;
+        }
+        i += 1;
+    }
+    true
+}
+
+// Whether two keyword places are equal.
+pub fn same_keyword(a: [u8; 11], b: [u8; 11]) -> bool
+    ensures { λ r. ⌜ r ≡ equalTo 10 a b ⌝ }
+{
+    equal_to(&a, &b, 10)
+}
+
+// Whether two headings are equal, each with its pointer.
+pub fn same_heading(a: [u8; 11], b: [u8; 11]) -> bool
+    ensures { λ r. ⌜ r ≡ equalTo 11 a b ⌝ }
+{
+    equal_to(&a, &b, 11)
+}
+
+// How many of ten columns stand before the first blank.
+fn word_end(f: [u8; 11]) -> usize
+    ensures { λ r. ⌜ r ≡ wordEnd 10 f ⌝ }
+    ensures { λ r. ⌜ r ≤ 10 ⌝ }
+{
+    let mut i = 0;
+    while i < 10 {
+        if f[i] == b' ' {
+            return i;
+        }
+        i += 1;
+    }
+    10
+}
+
+// The first filled one of ten columns from `from` on, or 10.
+fn filled_from(f: [u8; 11], from: usize) -> usize
+    requires { ⌜ from ≤ 10 ⌝ }
+    ensures { λ r. ⌜ r ≡ filledFrom 10 f from ⌝ }
+{
+    let mut i = from;
+    while i < 10 {
+        if f[i] != b' ' {
+            return i;
+        }
+        i += 1;
+    }
+    10
+}
+
+// Whether columns 1 to 10 are a word.
+pub fn is_word(f: [u8; 11]) -> bool
+    ensures { λ r. ⌜ r ≡ isWord 10 f ⌝ }
+{
+    let end = word_end(f);
+    if end == 0 {
+        return false;
+    }
+    filled_from(f, end) == 10
+}
+
+// Whether `low <= b <= high`.
+pub(crate) fn is_within(low: u8, high: u8, b: u8) -> bool
+    ensures { λ r. ⌜ r ≡ within low high b ⌝ }
+{
+    if low <= b {
+        return b <= high;
+    }
+    false
+}
+
+// Whether a byte is a pointer.
+fn is_pointer(b: u8) -> bool
+    ensures { λ r. ⌜ r ≡ isPointer b ⌝ }
+{
+    if is_within(b'1', b'9', b) {
+        return true;
+    }
+    is_within(b'A', b'Z', b)
+}
+
+// Whether the eleventh column is neither a pointer nor blank.
+pub fn bad_pointer(f: [u8; 11]) -> bool
+    ensures { λ r. ⌜ r ≡ badPointer f ⌝ }
+{
+    let b = f[10];
+    if b == b' ' {
+        return false;
+    }
+    !is_pointer(b)
+}
+
+// Whether a field is a unit: a word, its eleventh column blank.
+fn is_unit(f: [u8; 11]) -> bool
+    ensures { λ r. ⌜ r ≡ isUnit f ⌝ }
+{
+    if !is_word(f) {
+        return false;
+    }
+    f[10] == b' '
+}
+
+// Whether the field `k`, if it is used, has a bad pointer.
+fn is_pointer_fault(used: usize, k: usize, f: [u8; 11]) -> bool
+    ensures { λ r. ⌜ r ≡ pointerFault used k f ⌝ }
+{
+    if k < used {
+        return bad_pointer(f);
+    }
+    false
+}
+
+// Whether the field `k` is used and no word, or unused and filled.
+fn is_heading_fault(used: usize, k: usize, f: [u8; 11]) -> bool
+    ensures { λ r. ⌜ r ≡ headingFault used k f ⌝ }
+{
+    if k < used {
+        return !is_word(f);
+    }
+    !is_blank(f)
+}
+
+// Whether the field `k` is used and no unit, or unused and filled.
+fn is_unit_fault(used: usize, k: usize, f: [u8; 11]) -> bool
+    ensures { λ r. ⌜ r ≡ unitFault used k f ⌝ }
+{
+    if k < used {
+        return !is_unit(f);
+    }
+    !is_blank(f)
+}
+
+// The first used field with a bad pointer, or 6.
+pub fn pointer_fault(fields: [[u8; 11]; 6], used: usize) -> usize
+    ensures { λ r. ⌜ r ≡ firstField (pointerFault used) fields ⌝ }
+{
+    let mut k = 0;
+    while k < 6 {
+        let f = fields[k];
+        if is_pointer_fault(used, k, f) {
+            return k;
+        }
+        k += 1;
+    }
+    6
+}
+
+// The first field of a heading record that is no word, or unused and filled, or 6.
+pub fn heading_fault(fields: [[u8; 11]; 6], used: usize) -> usize
+    ensures { λ r. ⌜ r ≡ firstField (headingFault used) fields ⌝ }
+{
+    let mut k = 0;
+    while k < 6 {
+        let f = fields[k];
+        if is_heading_fault(used, k, f) {
+            return k;
+        }
+        k += 1;
+    }
+    6
+}
+
+// The first field of a unit record that is no unit, or unused and filled, or 6.
+pub fn unit_fault(fields: [[u8; 11]; 6], used: usize) -> usize
+    ensures { λ r. ⌜ r ≡ firstField (unitFault used) fields ⌝ }
+{
+    let mut k = 0;
+    while k < 6 {
+        let f = fields[k];
+        if is_unit_fault(used, k, f) {
+            return k;
+        }
+        k += 1;
+    }
+    6
+}
