@@ -3,8 +3,8 @@
 use mathlib.Core.Path.{_≡_, refl, sym, ap, _∙_}
 use mathlib.Core.Bool.{Bool, true, false, cond}
 use mathlib.Core.List.{List, _++_}
-use mathlib.Core.Logic.{_⊎_, inl, inr, ⊎-elim}
-use Prim.Native.Nat.{ℕ, zero, suc, _+_, _-_, _*_, _%_, _<_, _≤_, _^_}
+use mathlib.Core.Logic.{⊎-elim}
+use Prim.Native.Nat.{ℕ, suc, _+_, _-_, _%_, _<_, _≤_, _^_}
 use native.Mathlib.Nat.{mul-pos}
 use native.Mathlib.Omega.{arith}
 use borrow.Author.Tests.{le-leb, lt-leb, eq-eqb, ne-eqb, eqb-true}
@@ -14,7 +14,7 @@ use lib.IntN.{ℤ, pos, negsuc, _+ℤ_}
 use lib.Signed.{mag}
 use Rattle.number.specs.declared.value.Decimal.{Decimal}
 use Rattle.number.specs.Grammar.{blanks, write}
-use Rattle.number.specs.Value.{decimal, zeroDecimal, Normal, Value, valueOf}
+use Rattle.number.specs.Value.{zeroDecimal, Value, valueOf}
 use Rattle.number.proofs.Laws.{value-found}
 use Rattle.canonical.specs.declared.layout.Layout.{Layout}
 use Rattle.canonical.specs.declared.layout.Size.{Size}
@@ -23,9 +23,9 @@ use Rattle.canonical.specs.declared.write.Written.{Written}
 use Rattle.canonical.specs.declared.write.Written.the-variants.{Done, Refused}
 use Rattle.canonical.specs.Closed.{count, plainly, layoutUp, layoutDown, layoutOf, fieldOf, shortest}
 use Rattle.canonical.specs.Closed.{canonicalText, canonicalField}
-use Rattle.canonical.specs.Storing.{sizeOf, Bare, preparedOf, layoutColumns, Sound}
+use Rattle.canonical.specs.Storing.{sizeOf, Bare, preparedOf, layoutColumns, Sound, fieldText}
 use Rattle.canonical.specs.Writing.{answered, stored, written, bytes, refusal, refusalOf}
-use Rattle.canonical.proofs.Digits.{ten-pos}
+use Rattle.number.proofs.Tens.{ten-pos}
 use Rattle.canonical.proofs.Sizes.{more-zeros}
 use Rattle.canonical.proofs.Winner.{above-zero}
 use Rattle.canonical.proofs.Numbers.{bare-value}
@@ -75,8 +75,8 @@ pub bare-prepared : (n : Bool) (c : ℕ) (p : ℤ) (w z d : ℕ) (l : Layout) �
     → l ≡ layoutOf d (p +ℤ pos z) → prepared n w l ≡ preparedOf (valueOf n c p)
 bare-prepared n c p w z d l b e q = rw (q, e) (ap preparedOf (sym (bare-value n c p w z b)))
 
-pub prepared-sound : (n : Bool) (c : ℕ) (p : ℤ) (q : Prepared) → q ≡ preparedOf (valueOf n c p) → c < 2 ^ 64 → mag p < 2 ^ 31
-    → Sound (q .coefficient) (q .layout)
+pub prepared-sound : (n : Bool) (c : ℕ) (p : ℤ) (q : Prepared) → q ≡ preparedOf (valueOf n c p) → c < 2 ^ 64
+    → mag p < 2 ^ 31 → Sound (q .coefficient) (q .layout)
 prepared-sound n c p q e hc hp = rw e (value-sound n c p hc hp)
 
 -- ---- what is answered and stored
@@ -86,7 +86,9 @@ module _ (l : List ℕ) (n : Bool) (c : ℕ) (p : ℤ) (q : Prepared) (e : q ≡
   v = valueOf n c p
 
   long : length (canonicalText v) ≡ layoutColumns (q .negative) (q .layout)
-  long = text-layout v (value-found n c p .normal) ∙ ap (λ (r : Prepared). layoutColumns (r .negative) (r .layout)) (sym e)
+  long =
+      text-layout v (value-found n c p .normal)
+      ∙ ap (λ (r : Prepared). layoutColumns (r .negative) (r .layout)) (sym e)
 
   pub refused-wide : length l < layoutColumns (q .negative) (q .layout) → (Refused 41 ≡ answered l v) × (l ≡ stored l v)
   unfolding answered stored
@@ -94,15 +96,15 @@ module _ (l : List ℕ) (n : Bool) (c : ℕ) (p : ℤ) (q : Prepared) (e : q ≡
       let t = lt-leb (length (canonicalText v)) (length l) (rw long h) in
       (rw t refl, rw t refl)
 
-  form : blanks (length l - layoutColumns (q .negative) (q .layout)) ++ write (fieldOf (q .negative) (q .coefficient) (q .layout))
-      ≡ canonicalField (length l) v
+  form : fieldText (length l) (q .negative) (q .coefficient) (q .layout) ≡ canonicalField (length l) v
   unfolding canonicalField canonicalText shortest
   form =
       ap (λ (k : ℕ). blanks (length l - k) ++ write (fieldOf (q .negative) (q .coefficient) (q .layout))) (sym long)
-      ∙ ap (λ (r : Prepared). blanks (length l - length (canonicalText v)) ++ write (fieldOf (r .negative) (r .coefficient) (r .layout))) e
+      ∙ ap (λ (r : Prepared). blanks (length l - length (canonicalText v))
+      ++ write (fieldOf (r .negative) (r .coefficient) (r .layout))) e
 
   pub done-wide : (m : List ℕ) → layoutColumns (q .negative) (q .layout) ≤ length l
-      → m ≡ blanks (length l - layoutColumns (q .negative) (q .layout)) ++ write (fieldOf (q .negative) (q .coefficient) (q .layout))
+      → m ≡ fieldText (length l) (q .negative) (q .coefficient) (q .layout)
       → (Done ≡ answered l v) × (m ≡ stored l v)
   unfolding answered stored
   done-wide m h f =
@@ -120,8 +122,12 @@ number-of l v = by (eqb (length l) 11) refl (leb (length (canonicalText v)) (len
         → refusal (cond t (cond u Done (Refused 41)) (Refused 40))
         ≡ cond t (cond (leb (length (canonicalText v)) 11) 0 41) 40
     by false e u d = refl
-    by true e true d = let k = ap (λ (n : ℕ). leb (length (canonicalText v)) n) (sym (eqb-true (length l) 11 e)) ∙ d in rw k refl
-    by true e false d = let k = ap (λ (n : ℕ). leb (length (canonicalText v)) n) (sym (eqb-true (length l) 11 e)) ∙ d in rw k refl
+    by true e u d =
+        rw (ap (λ (n : ℕ). leb (length (canonicalText v)) n) (sym (eqb-true (length l) 11 e)) ∙ d) (either u)
+      where
+        either : (u : Bool) → refusal (cond u Done (Refused 41)) ≡ cond u 0 41
+        either true = refl
+        either false = refl
 
 module _ (l : List ℕ) (v : Decimal) where
   pub not-eleven : (length l ≡ 11 → ⊥) → (Refused 40 ≡ written l v) × (l ≡ bytes l v)

@@ -1,29 +1,22 @@
 -- Digits and powers of ten.
 -- Assumes nothing.
-use mathlib.Core.Path.{_≡_, refl, sym, ap, _∙_}
+use mathlib.Core.Path.{_≡_, refl, ap, _∙_}
 use mathlib.Core.Bool.{Bool, true, false}
 use mathlib.Core.List.{List, [], _∷_, _++_, append-assoc, append-nil}
-use Prim.Native.Nat.{ℕ, zero, suc, _+_, _-_, _*_, _/_, _%_, _^_, _<_, _≤_}
-use native.Mathlib.Nat.{pow-suc, pow-le-pow-right, one-le-pow, zero-lt-suc, mul-le-mul-right, le-trans, le-of-eq}
+use Prim.Native.Nat.{ℕ, zero, suc, _+_, _*_, _/_, _%_, _^_, _<_, _≤_}
+use native.Mathlib.Nat.{mul-le-mul-right, le-trans, le-of-eq}
 use native.Mathlib.Nat.{mul-assoc, lt-of-lt-of-le, lt-of-le-of-lt, not-le-of-lt, add-suc, add-zero}
 use native.Mathlib.Decide.{decLt}
 use native.Mathlib.Omega.{arith}
-use borrow.Author.Tests.{lt-ltb, le-ltb, ltb-true, ltb-false}
+use borrow.Author.Tests.{lt-ltb, ltb-true, ltb-false}
 use lib.ListN.{length, length-append}
 use lib.Dec.{ltb}
 use Rattle.number.specs.Grammar.{Digits, text, numFrom, num}
+use Rattle.number.proofs.Tens.{ten-suc, ten-le}
+use Rattle.number.proofs.Reach.{numFrom-append, digits-append}
 use Rattle.canonical.specs.Closed.{countFrom, count, digitsN, shift}
 
 -- ---- powers of ten
-
-pub ten : (n : ℕ) → 10 ^ suc n ≡ 10 * 10 ^ n
-ten n = rw pow-suc (omega arith)
-
-pub ten-pos : (n : ℕ) → 0 < 10 ^ n
-ten-pos n = one-le-pow n 10 (zero-lt-suc 9)
-
-pub ten-le : {i j : ℕ} → i ≤ j → 10 ^ i ≤ 10 ^ j
-ten-le h = pow-le-pow-right (zero-lt-suc 9) h
 
 pub ten-lt : (a b : ℕ) → 10 ^ a < 10 ^ b → a < b
 ten-lt a b h = by (decLt a b)
@@ -31,11 +24,6 @@ ten-lt a b h = by (decLt a b)
     by : Dec (a < b) → a < b
     by (yes l) = l
     by (no l) = let g : b ≤ a = omega arith in absurd (not-le-of-lt h (ten-le g))
-
--- powers grow faster than their exponents
-pub ten-gap : (x j : ℕ) → 10 ^ x + 9 * j ≤ 10 ^ (x + j)
-ten-gap x zero = rw (add-zero x) (omega arith)
-ten-gap x (suc j) = rw (add-suc, ten (x + j)) (omega (arith, ten-gap x j, ten-pos (x + j)))
 
 -- ---- lists of digits, one behind the other
 
@@ -46,14 +34,6 @@ text-append (d ∷ a) b = ap (λ (l : List ℕ). (48 + d) ∷ l) (text-append a 
 pub text-length : (l : List ℕ) → length (text l) ≡ length l
 text-length [] = refl
 text-length (d ∷ l) = ap suc (text-length l)
-
-numFrom-append : (n : ℕ) (a b : List ℕ) → numFrom n (a ++ b) ≡ numFrom (numFrom n a) b
-numFrom-append n [] b = refl
-numFrom-append n (d ∷ a) b = numFrom-append (n * 10 + d) a b
-
-digits-append : (a b : List ℕ) → Digits a → Digits b → Digits (a ++ b)
-digits-append [] b h k = k
-digits-append (d ∷ a) b h k = (h .0, digits-append a b (h .1) k)
 
 pub append-inj : (a b c d : List ℕ) → length a ≡ length c → a ++ b ≡ c ++ d → (a ≡ c) × (b ≡ d)
 append-inj [] b [] d n e = (refl, e)
@@ -74,7 +54,7 @@ numFrom-lt a (d ∷ l) h =
     let q : a * 10 + 10 ≡ (a + 1) * 10 = omega arith in
     let g : a * 10 + d + 1 ≤ a * 10 + 10 = omega (arith, h .0) in
     lt-of-lt-of-le (numFrom-lt (a * 10 + d) l (h .1))
-    (le-trans (mul-le-mul-right p g) (le-of-eq (rw (ten (length l), q) (mul-assoc (a + 1) 10 p))))
+    (le-trans (mul-le-mul-right p g) (le-of-eq (rw (ten-suc (length l), q) (mul-assoc (a + 1) 10 p))))
 
 pub num-lt : (l : List ℕ) → Digits l → num l < 10 ^ length l
 num-lt l h = omega (arith, numFrom-lt 0 l h)
@@ -113,7 +93,7 @@ pub digitsN-num : (n v : ℕ) → v < 10 ^ n → num (digitsN n v) ≡ v
 unfolding digitsN
 digitsN-num zero v h = omega arith
 digitsN-num (suc n) v h =
-    let e = ten n in
+    let e = ten-suc n in
     rw (numFrom-append, digitsN-num n (v / 10) (omega arith)) (omega arith)
 
 -- cut in two
@@ -144,8 +124,8 @@ counted (suc n) true v e l h =
 counted (suc n) false v e l h =
     let g : 10 ≤ v = ltb-false v 10 e in
     let r = counted n (ltb (v / 10) 10) (v / 10) refl (omega arith) (omega arith) in
-    let p = ten (r .less) in
-    let q = ten (suc (r .less)) in
+    let p = ten-suc (r .less) in
+    let q = ten-suc (suc (r .less)) in
     record {
       less = suc (r .less);
       same = ap suc (r .same);
@@ -172,7 +152,8 @@ count-most v h = let r = counts v h in rw (r .same) (r .most)
 pub same-count : (m n v u : ℕ) (x : Counted m v) (y : Counted n u) → v ≡ u → x .less ≡ y .less
 same-count m n v u x y e =
     let a : x .less < suc (y .less) = ten-lt (x .less) (suc (y .less)) (lt-of-le-of-lt (x .least) (rw e (y .most))) in
-    let b : y .less < suc (x .less) = ten-lt (y .less) (suc (x .less)) (lt-of-le-of-lt (y .least) (rw (← e) (x .most))) in
+    let b : y .less < suc (x .less) =
+    ten-lt (y .less) (suc (x .less)) (lt-of-le-of-lt (y .least) (rw (← e) (x .most))) in
     omega arith
 
 -- a number below ten has one digit, any other one more than without its last
@@ -185,9 +166,9 @@ pub count-more : (v : ℕ) → 10 ≤ v → count v ≡ suc (count (v / 10))
 count-more v h =
     let x = counts v (omega arith) in
     let y = counts (v / 10) (omega arith) in
-    let p = ten (x .less) in
-    let q = ten (y .less) in
-    let r = ten (suc (y .less)) in
+    let p = ten-suc (x .less) in
+    let q = ten-suc (y .less) in
+    let r = ten-suc (suc (y .less)) in
     let a : x .less < suc (suc (y .less)) = ten-lt (x .less) (suc (suc (y .less))) (omega (arith, x .least, y .most)) in
     let b : suc (y .less) < suc (x .less) = ten-lt (suc (y .less)) (suc (x .less)) (omega (arith, y .least, x .most)) in
     omega (arith, x .same, y .same)

@@ -3,17 +3,17 @@
 use mathlib.Core.Path.{_≡_, refl, sym, ap, _∙_}
 use mathlib.Core.Bool.{Bool, true, false}
 use mathlib.Core.List.{List, [], _∷_, _++_, append-assoc}
-use Prim.Native.Nat.{ℕ, suc, _+_, _-_, _*_, _^_, _<_, _≤_}
-use native.Mathlib.Nat.{add-assoc, zero-add}
+use Prim.Native.Nat.{ℕ, suc, _+_, _-_, _*_, _^_, _≤_}
+use native.Mathlib.Nat.{zero-add}
 use native.Mathlib.Omega.{arith}
 use lib.ListN.{length, length-append, length-replicate}
 use Rattle.number.specs.Grammar.{blanks, text, signByte, signText, tailText, write}
 use Rattle.canonical.specs.declared.layout.Layout.{Layout}
 use Rattle.canonical.specs.Closed.{digitsN, shift, signOf, tailOf, fieldOf}
-use Rattle.canonical.specs.Storing.{oneIf, layoutColumns, put}
+use Rattle.canonical.specs.Storing.{oneIf, layoutColumns, put, bodyText, fieldText}
 use Rattle.canonical.proofs.Digits.{digits-wide}
 use Rattle.canonical.proofs.Laid.{sign-width}
-use Rattle.canonical.proofs.Puts.{put-front, put-all, put-length}
+use Rattle.canonical.proofs.Puts.{put-front, put-all}
 
 -- a list put at the same place under another name
 moved : (l m : List ℕ) (i j : ℕ) (x : List ℕ) → m ≡ put l i x → i ≡ j → m ≡ put l j x
@@ -24,7 +24,7 @@ moved l m i j x e h = e ∙ ap (λ (k : ℕ). put l k x) h
 module _ (l l₁ l₂ l₃ : List ℕ) (at whole part v : ℕ) where
   pub filled-body : l₁ ≡ put l (at + (whole + 1)) (text (digitsN part v)) → l₂ ≡ put l₁ (at + whole) (46 ∷ [])
       → l₃ ≡ put l₂ at (text (digitsN whole (shift part v))) → at + (whole + (1 + part)) ≤ length l
-      → l₃ ≡ put l at (text (digitsN whole (shift part v)) ++ (46 ∷ text (digitsN part v)))
+      → l₃ ≡ put l at (bodyText whole part v)
   filled-body e₁ e₂ e₃ h =
       let b = text (digitsN part v) in
       let q = put-front l l₁ l₂ (at + whole) 1 (46 ∷ []) b
@@ -74,14 +74,18 @@ module _ (n : Bool) (c : ℕ) (p : Layout) (l l₁ l₂ l₃ l₄ : List ℕ) (h
   sign = signText (signOf n)
 
   abbrev body : List ℕ
-  body = text (digitsN (p .whole) (shift (p .part) (c * 10 ^ p .zeros))) ++ (46 ∷ text (digitsN (p .part) (c * 10 ^ p .zeros)))
+  body = bodyText (p .whole) (p .part) (c * 10 ^ p .zeros)
 
   abbrev tail : List ℕ
   tail = tailText (tailOf (p .raised) (p .below) (p .long) (p .exponent))
 
   body-width : length body ≡ p .whole + (1 + p .part)
   body-width =
-      rw (length-append, digits-wide (p .whole) (shift (p .part) (c * 10 ^ p .zeros)), digits-wide (p .part) (c * 10 ^ p .zeros))
+      rw (
+        length-append,
+        digits-wide (p .whole) (shift (p .part) (c * 10 ^ p .zeros)),
+        digits-wide (p .part) (c * 10 ^ p .zeros),
+      )
       (omega arith)
 
   whole-text : sign ++ (body ++ tail) ≡ write (fieldOf n c p)
@@ -89,7 +93,7 @@ module _ (n : Bool) (c : ℕ) (p : Layout) (l l₁ l₂ l₃ l₄ : List ℕ) (h
   whole-text = simp append-assoc
 
   placed : l₁ ≡ put l (lead + oneIf n 1 + (p .whole + (1 + p .part))) tail → l₂ ≡ put l₁ (lead + oneIf n 1) body
-      → l₃ ≡ put l₂ lead sign → l₄ ≡ put l₃ 0 (blanks lead) → l₄ ≡ blanks lead ++ write (fieldOf n c p)
+      → l₃ ≡ put l₂ lead sign → l₄ ≡ put l₃ 0 (blanks lead) → l₄ ≡ fieldText (length l) n c p
   placed e₁ e₂ e₃ e₄ =
       let C = layoutColumns n p in
       let t = oneIf (p .raised) (1 + p .long) in
@@ -115,7 +119,7 @@ module _ (n : Bool) (c : ℕ) (p : Layout) (l l₁ l₂ l₃ l₄ : List ℕ) (h
 
   -- by the places that the code worked out
   pub filled-field : (i at : ℕ) → i ≡ lead → at ≡ i + oneIf n 1 → l₁ ≡ put l (at + (p .whole + (1 + p .part))) tail
-      → l₂ ≡ put l₁ at body → l₃ ≡ put l₂ i sign → l₄ ≡ put l₃ 0 (blanks i) → l₄ ≡ blanks lead ++ write (fieldOf n c p)
+      → l₂ ≡ put l₁ at body → l₃ ≡ put l₂ i sign → l₄ ≡ put l₃ 0 (blanks i) → l₄ ≡ fieldText (length l) n c p
   filled-field i at e f e₁ e₂ e₃ e₄ =
       let g : at ≡ lead + oneIf n 1 = f ∙ ap (λ (k : ℕ). k + oneIf n 1) e in
       placed

@@ -2,9 +2,9 @@
 -- before the point and b behind it, k last zeros, and perhaps an exponent; it has the coefficient's digits at least
 -- (`heavy`), and its power is the value's (`up-plain` and what stands beside it): the rest is arithmetic.
 -- Assumes nothing.
-use mathlib.Core.Path.{_≡_, refl, sym, ap, _∙_, subst}
+use mathlib.Core.Path.{_≡_, refl, sym, _∙_, subst}
 use mathlib.Core.Bool.{Bool, true, false}
-use mathlib.Core.List.{List, [], _∷_, _++_}
+use mathlib.Core.List.{List, _++_}
 use mathlib.Core.Logic.{_⊎_, inl, inr, ⊎-elim}
 use Prim.Native.Nat.{ℕ, zero, suc, _+_, _-_, _*_, _^_, _<_, _≤_}
 use native.Mathlib.Nat.{zero-add}
@@ -12,12 +12,15 @@ use native.Mathlib.Decide.{decLt}
 use native.Mathlib.Omega.{arith}
 use lib.ListN.{length, length-append}
 use lib.IntN.{ℤ, pos, negsuc}
-use Rattle.number.specs.Grammar.{Digits, num, signText, Opening, bySign, openText, below, Tail, plain, power, GoodTail, Field, Good}
+use Rattle.number.specs.Grammar.{Digits, num, signText, Opening, openText, below}
+use Rattle.number.specs.Grammar.{Tail, plain, power, GoodTail, Field, Good}
 use Rattle.canonical.specs.Canonical.{Ahead, columns, marks, behind, tailColumns}
 use Rattle.canonical.specs.Closed.{signOf, digitsN, count, plainly, raisedBy, fieldOf}
-use Rattle.canonical.proofs.Digits.{ten, ten-gap, num-lt, num-inj, digitsN-length, digitsN-digits, digitsN-num, Counted}
+use Rattle.number.proofs.Tens.{ten-suc, ten-gap}
+use Rattle.canonical.proofs.Digits.{num-lt, num-inj, digitsN-length, digitsN-digits, digitsN-num, Counted}
 use Rattle.canonical.proofs.Says.{Says, weight, up-plain, up-power, down-plain, down-power}
-use Rattle.canonical.proofs.Ties.{Same, settle, settle-less, sign-least, sign-same, open-least, open-same, same-digits}
+use Rattle.canonical.proofs.Ties.{Same, settle, settle-less}
+use Rattle.canonical.proofs.Ties.{sign-least, sign-same, open-least, open-same, same-digits}
 use Rattle.canonical.proofs.Laid.{laid-whole, laid-part, laid-digits, laid-num, laid-columns}
 
 abbrev pub Beats : Field → Field → Type 0
@@ -57,7 +60,8 @@ module _ (n : Bool) (c : ℕ) (r : Counted (count c) c) where
         → a ≡ w → b ≡ v → s .k ≡ j → (0 < i) ⊎ Same form g
     unfolding fieldOf
     plain-same zero e q ea eb k =
-        let d = same-digits (g .whole) (g .part) (form .whole) (form .part) (good .digits) (laid-digits n c (plainly w v j))
+        let d = same-digits (g .whole) (g .part) (form .whole) (form .part) (good .digits)
+        (laid-digits n c (plainly w v j))
         (ea ∙ sym (laid-whole n c (plainly w v j))) (eb ∙ sym (laid-part n c (plainly w v j)))
         (s .number ∙ rw k (sym (laid-num n c (plainly w v j) fits))) in
         inr (record { sign = sign-same (g .sign) n (s .sense) q; whole = d .0; part = d .1; tail = e })
@@ -151,7 +155,8 @@ module _ (n : Bool) (c : ℕ) (r : Counted (count c) c) where
         settle form' g (Same form' g) (omega (arith, h .0)) (rw t refl) (rw t (omega arith))
         (λ m r. omega (arith, h .1 (q m) .0))
         (λ m r d. inr
-        (raised-same o ds t (omega (arith, h .0)) (r ∙ rw t refl) (omega (arith, h .0)) (dg .0) (d ∙ f) (h .1 (q m) .1 (d ∙ f))))
+        (raised-same o ds t (omega (arith, h .0)) (r ∙ rw t refl) (omega (arith, h .0)) (dg .0) (d ∙ f)
+        (h .1 (q m) .1 (d ∙ f))))
 
     raised-first : ((i : ℕ) → g .tail ≡ plain i → Over-plain)
         → ((o : Opening) (ds : List ℕ) → g .tail ≡ power o ds → Over-power o ds) → Beats form' g
@@ -169,10 +174,10 @@ beside x y = by (decLt x (suc y)) (decLt (suc y) x)
     by : Dec (x < suc y) → Dec (suc y < x) → Beside x y (10 ^ y) (10 ^ x)
     by (yes l) d = let e : x + (y - x) ≡ y = omega arith in short (omega arith) (rw e at (ten-gap x (y - x)))
     by (no l) (yes m) = long m
-    by (no l) (no m) = let e : x ≡ suc y = omega arith in even e (rw e (ten y))
+    by (no l) (no m) = let e : x ≡ suc y = omega arith in even e (rw e (ten-suc y))
 
--- a rival of a and b digits, with k last zeros and an exponent e of x digits; the one that is found has A and B digits, j
--- last zeros and the exponent E of X digits
+-- a rival of a and b digits, with k last zeros and an exponent e of x digits; the one that is found has A and B digits,
+-- j last zeros and the exponent E of X digits
 abbrev Over : (A B X E j a b x k e : ℕ) → Type 0
 Over A B X E j a b x k e =
     (A + (B + X) ≤ a + (b + x))
@@ -181,14 +186,20 @@ Over A B X E j a b x k e =
 module _ (l k a b x y e W Q : ℕ) (heavy : l + k < a + b) (small : e < Q) (one : 1 ≤ x) (grows : 1 + 9 * y ≤ W) where
   module _ (p : ℕ) (same : k + e ≡ b + p) where
     over-ten : p ≡ 10 * W → Beside x y W Q → Over (l + 2) 0 (suc y) (p - 1) 1 a b x k e
-    over-ten h (short q g) = (omega arith, λ t. (omega arith, λ u. (omega arith, (omega arith, (omega arith, omega arith)))))
-    over-ten h (even q g) = (omega arith, λ t. (omega arith, λ u. (omega arith, (omega arith, (omega arith, omega arith)))))
-    over-ten h (long q) = (omega arith, λ t. (omega arith, λ u. (omega arith, (omega arith, (omega arith, omega arith)))))
+    over-ten h (short q g) =
+        (omega arith, λ t. (omega arith, λ u. (omega arith, (omega arith, (omega arith, omega arith)))))
+    over-ten h (even q g) =
+        (omega arith, λ t. (omega arith, λ u. (omega arith, (omega arith, (omega arith, omega arith)))))
+    over-ten h (long q) =
+        (omega arith, λ t. (omega arith, λ u. (omega arith, (omega arith, (omega arith, omega arith)))))
 
     over-up : W < p → p < 10 * W → Beside x y W Q → Over (l + 1) 0 (suc y) p 0 a b x k e
-    over-up h m (short q g) = (omega arith, λ t. (omega arith, λ u. (omega arith, (omega arith, (omega arith, omega arith)))))
-    over-up h m (even q g) = (omega arith, λ t. (omega arith, λ u. (omega arith, (omega arith, (omega arith, omega arith)))))
-    over-up h m (long q) = (omega arith, λ t. (omega arith, λ u. (omega arith, (omega arith, (omega arith, omega arith)))))
+    over-up h m (short q g) =
+        (omega arith, λ t. (omega arith, λ u. (omega arith, (omega arith, (omega arith, omega arith)))))
+    over-up h m (even q g) =
+        (omega arith, λ t. (omega arith, λ u. (omega arith, (omega arith, (omega arith, omega arith)))))
+    over-up h m (long q) =
+        (omega arith, λ t. (omega arith, λ u. (omega arith, (omega arith, (omega arith, omega arith)))))
 
   over-down : (t : ℕ) → k + t ≡ b + e → W + (l + 1) ≤ t → t < 10 * W + (l + 1) → Beside x y W Q
       → Over (l + 1 - (t - (10 * W - 1))) (t - (10 * W - 1)) (suc y) (t - (t - (10 * W - 1))) 0 a b x k e
@@ -225,7 +236,8 @@ module _ (n : Bool) (c : ℕ) (r : Counted (count c) c) (g : Field) (good : Good
         plain-first n c r (pos p) (count c + p) 0 p fits g good s
         (λ i e. let k = up-plain g n c p s i e in
         (omega (arith, r .same), λ q. (omega (arith, r .same), (omega (arith, r .same), omega (arith, r .same)))))
-        (λ o ds e. let d = tail-good n c r (pos p) g good s (power o ds) e in omega (arith, r .same, open-least o, d .1))
+        (λ o ds e. let d = tail-good n c r (pos p) g good s (power o ds) e in
+        omega (arith, r .same, open-least o, d .1))
 
     -- one zero more: p is a power of ten
     pub first-ten : (x : Counted (count (p - 1)) (p - 1)) → p ≡ 10 * 10 ^ x .less
@@ -249,7 +261,7 @@ module _ (n : Bool) (c : ℕ) (r : Counted (count c) c) (g : Field) (good : Good
     first-up x three h fits =
         let w = heavy n c r (pos p) g good s in
         let l : count c ≡ r .less + 1 = omega (arith, r .same) in
-        let m : p < 10 * 10 ^ x .less = omega (arith, x .most, ten (x .less)) in
+        let m : p < 10 * 10 ^ x .less = omega (arith, x .most, ten-suc (x .less)) in
         raised-first n c r (pos p) (count c) 0 0 fits false p x g good s
         (λ i e. omega (arith, up-plain g n c p s i e, x .same, grows (x .less)))
         (λ o ds e. let d = tail-good n c r (pos p) g good s (power o ds) e in
@@ -294,24 +306,28 @@ module _ (n : Bool) (c : ℕ) (r : Counted (count c) c) (g : Field) (good : Good
         let W = 10 ^ x .less in
         let l : count c ≡ r .less + 1 = omega (arith, r .same) in
         raised-first n c r (negsuc q) (count c - f) f 0 fits true (suc q - f) x g good s
-        (λ i e. long-plain (count c) f (x .less) (count (suc q - f)) (r .less) (s .k) (suc q) (length (g .whole)) (length (g .part)) W
+        (λ i e. long-plain (count c) f (x .less) (count (suc q - f)) (r .less) (s .k) (suc q)
+        (length (g .whole)) (length (g .part)) W
         w three (down-plain g n c q s i e) (r .same) (x .same) lo hi pl (grows (x .less)))
         (λ o ds e. let d = tail-good n c r (negsuc q) g good s (power o ds) e in
         ⊎-elim
         (λ u. over-strict (suc q - f) 0 (s .k) (num ds) (below o ≡ true)
-        (long-plain' (count c) f (x .less) (count (suc q - f)) (r .less) (s .k) (suc q) (length (g .whole)) (length (g .part)) W (num ds) (length ds)
+        (long-plain' (count c) f (x .less) (count (suc q - f)) (r .less) (s .k) (suc q)
+        (length (g .whole)) (length (g .part)) W (num ds) (length ds)
         w three (u .1) (r .same) (x .same) lo hi pl (grows (x .less)) (d .1)))
         (λ u. over-with (below o ≡ true) (u .0)
         (rw (l, x .same, pl)
-        (over-down (r .less) (s .k) (length (g .whole)) (length (g .part)) (length ds) (x .less) (num ds) W (10 ^ length ds)
-        w (num-lt ds (d .0)) (d .1) (grows (x .less)) (suc q) (u .1) (omega (arith, r .same)) (omega (arith, r .same))
+        (over-down (r .less) (s .k) (length (g .whole)) (length (g .part)) (length ds) (x .less) (num ds) W
+        (10 ^ length ds) w (num-lt ds (d .0)) (d .1) (grows (x .less)) (suc q) (u .1)
+        (omega (arith, r .same)) (omega (arith, r .same))
         (beside (length ds) (x .less)))))
         (down-power g n c q s o ds e))
       where
-        long-plain : (d f y x l k t a b W : ℕ) → l + k < a + b → d + 3 ≤ t → k + t ≡ b → d ≡ suc l → x ≡ suc y → W + d ≤ t
-            → t < 10 * W + d → f ≡ t - (10 * W - 1) → 1 + 9 * y ≤ W → d - f + (f + (1 + x)) < a + b
+        long-plain : (d f y x l k t a b W : ℕ) → l + k < a + b → d + 3 ≤ t → k + t ≡ b → d ≡ suc l → x ≡ suc y
+            → W + d ≤ t → t < 10 * W + d → f ≡ t - (10 * W - 1) → 1 + 9 * y ≤ W → d - f + (f + (1 + x)) < a + b
         long-plain d f y x l k t a b W w h3 e rd xs lo hi pl gr = omega arith
 
-        long-plain' : (d f y x l k t a b W m z : ℕ) → l + k < a + b → d + 3 ≤ t → k + m + t ≡ b → d ≡ suc l → x ≡ suc y → W + d ≤ t
-            → t < 10 * W + d → f ≡ t - (10 * W - 1) → 1 + 9 * y ≤ W → 1 ≤ z → d - f + (f + x) < a + (b + z)
+        long-plain' : (d f y x l k t a b W m z : ℕ) → l + k < a + b → d + 3 ≤ t → k + m + t ≡ b → d ≡ suc l
+            → x ≡ suc y → W + d ≤ t → t < 10 * W + d → f ≡ t - (10 * W - 1) → 1 + 9 * y ≤ W → 1 ≤ z
+            → d - f + (f + x) < a + (b + z)
         long-plain' d f y x l k t a b W m z w h3 e rd xs lo hi pl gr o = omega arith

@@ -1,12 +1,12 @@
 -- The field of a layout: its digits, its number and its columns.
 -- Assumes nothing.
-use mathlib.Core.Path.{_≡_, refl, sym, ap, _∙_}
+use mathlib.Core.Path.{_≡_, refl, sym, _∙_}
 use mathlib.Core.Bool.{Bool, true, false}
-use mathlib.Core.List.{List, _++_}
-use Prim.Native.Nat.{ℕ, suc, _+_, _-_, _*_, _^_, _<_, _≤_}
+use mathlib.Core.List.{_++_}
+use Prim.Native.Nat.{ℕ, _+_, _*_, _^_, _<_, _≤_}
 use native.Mathlib.Omega.{arith}
-use lib.ListN.{length, length-append}
-use Rattle.number.specs.Grammar.{Digits, num, signText, Field}
+use lib.ListN.{length}
+use Rattle.number.specs.Grammar.{Digits, num, signText}
 use Rattle.number.specs.Value.{digitsOf}
 use Rattle.canonical.specs.declared.layout.Layout.{Layout}
 use Rattle.canonical.specs.Canonical.{columns, tailColumns}

@@ -1,23 +1,23 @@
 -- The laws of canonical fields, which the layers above cite by these names.
 -- Assumes nothing.
 use mathlib.Core.Path.{_≡_, refl, sym, ap, _∙_}
-use mathlib.Core.List.{List, [], _∷_, _++_}
-use mathlib.Core.Logic.{_⊎_, inl, inr, _↔_}
+use mathlib.Core.List.{List, _++_}
+use mathlib.Core.Logic.{_↔_}
 use Prim.Native.Nat.{ℕ, _+_, _-_, _<_, _≤_}
-use native.Mathlib.Decide.{decLt}
 use native.Mathlib.Omega.{arith}
 use lib.ListN.{length, getD}
 use Rattle.number.specs.declared.value.Decimal.{Decimal}
 use Rattle.number.specs.declared.value.Reading.{Reading}
 use Rattle.number.specs.declared.value.Reading.the-variants.{Blank, Number, Refused}
 use Rattle.number.specs.Grammar.{blanks, Field, write, Good, Letter}
-use Rattle.number.specs.Value.{Normal, Means, Reads}
+use Rattle.number.specs.Value.{Normal, Means}
 use Rattle.number.specs.Reading.{readField}
-use Rattle.number.proofs.Laws.{reads-exactly, blank-exactly, read-wider, number-letters}
-use Rattle.canonical.specs.Canonical.{Canonical, ExactlyOne, NoField, Best}
+use Rattle.number.proofs.Laws.{reads-exactly, blank-exactly, number-letters}
+use Rattle.canonical.specs.Canonical.{columns, Canonical, ExactlyOne, NoField, Best, span}
 use Rattle.canonical.specs.Closed.{canonicalText, canonicalField}
 use Rattle.canonical.specs.Replacing.{replacedBy, canonical, Formed}
 use Rattle.canonical.proofs.Theorems as Theorems
+use Rattle.canonical.proofs.Characters as Characters
 
 -- ---- what wins, for every value and every width
 
@@ -37,12 +37,37 @@ canonical-none w v h = Theorems.canonical-none w v h
 pub canonical-best : (w : ℕ) (v : Decimal) → Normal v → length (canonicalText v) ≤ w → Best w v (canonicalField w v)
 canonical-best w v h l = Theorems.canonical-best w v h l
 
+-- of bytes, no two win
+pub best-one : (w : ℕ) (v : Decimal) (l m : List ℕ) → Best w v l → Best w v m → l ≡ m
+best-one w v l m a b = Theorems.best-one w v l m a b
+
+-- the columns of a field are those of its bytes, from first to last non-blank
+pub columns-span : (f : Field) → Good f → span (write f) ≡ columns f
+columns-span f h = Characters.columns-span f h
+
+-- ---- the canonical text of a value
+
+-- it has two characters at least, none of them blank
+pub text-two : (v : Decimal) → Normal v → 2 ≤ length (canonicalText v)
+text-two v h = Characters.two v h
+
+pub text-no-blank : (v : Decimal) (i : ℕ) → i < length (canonicalText v) → getD (canonicalText v) i 0 ≡ 32 → ⊥
+text-no-blank v i h e = Characters.no-blank v i h e
+
 -- ---- the canonical field of a value
 
 -- it reads to the value
 pub canonical-reads : (w : ℕ) (v : Decimal) → Normal v → length (canonicalText v) ≤ w
     → readField (canonicalField w v) ≡ Number v
 canonical-reads w v h l = reads-exactly (canonicalField w v) v .1 (Theorems.canonical-best w v h l .reads)
+
+-- so does the text alone
+pub text-reads : (v : Decimal) → Normal v → readField (canonicalText v) ≡ Number v
+unfolding canonicalField
+text-reads v h =
+    let n = length (canonicalText v) in
+    let z : n - n ≡ 0 = omega arith in
+    ap (λ (k : ℕ). readField (blanks k ++ canonicalText v)) (sym z) ∙ canonical-reads n v h (omega arith)
 
 -- where columns read to a value, it has a canonical field of as many
 pub number-normal : (l : List ℕ) (v : Decimal) → readField l ≡ Number v → Normal v
@@ -125,8 +150,8 @@ canonical-alike l m w f e = by (readField l) f refl
     by (Refused n) f h = absurd f
 
 -- two numbers of as many columns have one canonical field exactly when their decimals are equal
-pub canonical-equal : (l m : List ℕ) (v u : Decimal) → length l ≡ length m → readField l ≡ Number v → readField m ≡ Number u
-    → (canonical l ≡ canonical m) ↔ (v ≡ u)
+pub canonical-equal : (l m : List ℕ) (v u : Decimal) → length l ≡ length m → readField l ≡ Number v
+    → readField m ≡ Number u → (canonical l ≡ canonical m) ↔ (v ≡ u)
 canonical-equal l m v u w e f = (
   λ q. let r = sym e ∙ (sym (canonical-same l) ∙ ap readField q ∙ canonical-same m) ∙ f in value-is r,
   λ q. number-is l v e ∙ rw (w, q) refl ∙ sym (number-is m u f),

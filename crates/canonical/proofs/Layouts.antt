@@ -1,28 +1,27 @@
 -- Layouts as the code makes them, and what its numbers bear of them.
 -- Assumes nothing.
 use mathlib.Core.Path.{_≡_, refl, sym, ap, _∙_, subst}
-use mathlib.Core.Bool.{Bool, true, false, cond}
-use mathlib.Core.List.{List, _++_}
-use mathlib.Core.Logic.{_⊎_, inl, inr, ⊎-elim}
-use Prim.Native.Nat.{ℕ, zero, suc, _+_, _-_, _*_, _/_, _%_, _<_, _≤_, _^_}
-use native.Mathlib.Nat.{sub-zero, mul-le-mul-left, mul-le-mul-right, mul-one, zero-mul}
+use mathlib.Core.Bool.{Bool, true, false}
+use mathlib.Core.Logic.{⊎-elim}
+use Prim.Native.Nat.{ℕ, suc, _+_, _-_, _*_, _%_, _<_, _≤_, _^_}
+use native.Mathlib.Nat.{sub-zero, mul-le-mul-left, mul-le-mul-right, mul-one}
 use native.Mathlib.Omega.{arith}
 use borrow.Author.Tests.{le-leb, lt-leb, eq-eqb, ne-eqb}
-use lib.Dec.{leb, ltb}
 use lib.ListN.{length}
-use lib.IntN.{ℤ, pos, negsuc, _+ℤ_}
+use lib.IntN.{ℤ, pos, negsuc}
 use lib.Signed.{mag}
 use Rattle.number.specs.declared.value.Decimal.{Decimal}
-use Rattle.number.specs.Value.{decimal, zeroDecimal, Normal, Value, valueOf}
+use Rattle.number.specs.Value.{Normal, Value, valueOf}
 use Rattle.number.proofs.Laws.{value-found}
 use Rattle.canonical.specs.declared.layout.Layout.{Layout}
 use Rattle.canonical.specs.Closed.{count, countFrom, plainly, raisedBy, layoutUp, layoutDown, layoutOf, places}
 use Rattle.canonical.specs.Closed.{shortest, canonicalText}
-use Rattle.canonical.specs.Storing.{layoutColumns, oneIf, Sound, Ready}
-use Rattle.canonical.proofs.Digits.{ten, ten-le, ten-lt, ten-pos, Counted, counts, count-pos, count-short}
+use Rattle.canonical.specs.Storing.{layoutColumns, Sound, Ready}
+use Rattle.number.proofs.Tens.{ten-suc, ten-le, ten-pos}
+use Rattle.canonical.proofs.Digits.{ten-lt, counts, count-pos, count-short}
 use Rattle.canonical.proofs.Sizes.{more-zeros, drop-zeros}
-use Rattle.canonical.proofs.Laid.{laid-wide, one-if}
-use Rattle.canonical.proofs.Shortest.{Exponent, exponent, power-of-ten, each-up, each-down}
+use Rattle.canonical.proofs.Laid.{laid-wide}
+use Rattle.canonical.proofs.Shortest.{exponent, power-of-ten, each-up, each-down}
 use Rattle.canonical.proofs.Winner.{text-columns, above-zero}
 use Rattle.canonical.proofs.Numbers.{count-is, suc-less, mag-add}
 
@@ -46,8 +45,8 @@ count-before : (p : ℕ) → 3 ≤ p → p ≡ 10 ^ (count p - 1) → count (p -
 count-before p h e =
     let x = counts (p - 1) (omega arith) in
     let q = power-of-ten p h x e in
-    let t = ten (x .less) in
-    let s = ten (suc (x .less)) in
+    let t = ten-suc (x .less) in
+    let s = ten-suc (suc (x .less)) in
     let o = ten-pos (x .less) in
     let c = count-is (suc (x .less)) p (λ k. omega arith) (omega arith) in
     omega (arith, x .same)
@@ -73,7 +72,7 @@ module _ (d p : ℕ) where
 pub ten-count : (v : ℕ) → 10 ^ (count v - 1) * 10 ≡ 10 ^ count v
 ten-count v =
     let s : count v ≡ suc (count v - 1) = omega (arith, count-pos v) in
-    let t = ten (count v - 1) in
+    let t = ten-suc (count v - 1) in
     let q : 10 ^ count v ≡ 10 ^ suc (count v - 1) = ap (λ (k : ℕ). 10 ^ k) s in
     omega arith
 
@@ -110,14 +109,17 @@ module _ (d t : ℕ) where
       pub down-all : t ≤ m → raisedLong d 0 0 true n t ≡ layoutDown d t
       down-all l =
           let z : places d t ≡ 0 = ap (λ (k : ℕ). t - k) (sym q) ∙ (let r : t - m ≡ 0 = omega arith in r) in
-          rw long (subst (λ (f : ℕ). raisedLong d 0 0 true (count (t - f)) t ≡ raisedBy (d - f) f 0 true (t - f)) (sym z)
+          rw long
+          (subst (λ (f : ℕ). raisedLong d 0 0 true (count (t - f)) t ≡ raisedBy (d - f) f 0 true (t - f)) (sym z)
           (rw (sub-zero d, sub-zero t) refl) ∙ raised-down)
 
       pub down-some : m < t → raisedLong (d - (t - m)) (t - m) 0 true n m ≡ layoutDown d t
       down-some l =
           let z : places d t ≡ t - m = ap (λ (k : ℕ). t - k) (sym q) in
           let b : t - (t - m) ≡ m = omega arith in
-          rw long (subst (λ (f : ℕ). raisedLong (d - (t - m)) (t - m) 0 true (count (t - f)) m ≡ raisedBy (d - f) f 0 true (t - f)) (sym z)
+          rw long
+          (subst (λ (f : ℕ). raisedLong (d - (t - m)) (t - m) 0 true (count (t - f)) m
+          ≡ raisedBy (d - f) f 0 true (t - f)) (sym z)
           (rw b refl) ∙ raised-down)
 
 -- ---- what the code's numbers bear

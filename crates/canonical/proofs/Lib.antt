@@ -12,4 +12,5 @@ pub mod Numbers
 pub mod Layouts
 pub mod Filled
 pub mod Answers
+pub mod Characters
 pub mod Laws

@@ -2,8 +2,9 @@
 -- Assumes nothing.
 use mathlib.Core.Path.{_≡_, refl, sym, ap, _∙_, subst}
 use mathlib.Core.Bool.{Bool, true, false, cond}
+use mathlib.Core.Logic.{inl}
 use Prim.Native.Nat.{ℕ, zero, suc, _+_, _-_, _*_, _/_, _%_, _<_, _≤_, _^_}
-use native.Mathlib.Nat.{mul-one, mul-le-mul-right, le-trans, lt-of-le-of-lt, zero-mul, zero-add}
+use native.Mathlib.Nat.{mul-assoc, mul-one, mul-le-mul-right, lt-of-le-of-lt, zero-add}
 use native.Mathlib.Omega.{arith}
 use borrow.Author.Tests.{ltb-true}
 use lib.Dec.{T, ltb}
@@ -12,13 +13,12 @@ use lib.Signed.{mag, nonNeg, ltZ}
 use mir.Syntax.{w32, w64}
 use mir.Val.{Fits, SFits, toZ, ofZ}
 use mir.ValLaws.{toZ-ofZ, toZ-pos}
-use Rattle.number.specs.declared.value.Decimal.{Decimal}
 use Rattle.number.specs.Value.{decimal, Value, valueOf}
 use Rattle.number.proofs.Laws.{value-found, value-one}
-use Rattle.canonical.specs.declared.layout.Size.{Size}
 use Rattle.canonical.specs.Closed.{count}
 use Rattle.canonical.specs.Storing.{sizeOf, Bare}
-use Rattle.canonical.proofs.Digits.{ten, ten-pos, ten-lt, Counted, counts, count-one, count-more}
+use Rattle.number.proofs.Tens.{ten-pos}
+use Rattle.canonical.proofs.Digits.{ten-lt, counts, count-one}
 use Rattle.canonical.proofs.Sizes.{slide}
 
 -- ---- how many digits a number has
@@ -40,10 +40,7 @@ module _ (c w z : ℕ) (e : c ≡ w * 10 ^ z) where
   zeros-go h =
       let q : w ≡ 10 * (w / 10) = omega arith in
       let s : z + 1 ≡ suc z = omega arith in
-      rw (s, slide (w / 10) z) (e ∙ let r : w * 10 ^ z ≡ 10 * (w / 10) * 10 ^ z = ap (λ (x : ℕ). x * 10 ^ z) q in r ∙ ten-first (w / 10) (10 ^ z))
-    where
-      ten-first : (a b : ℕ) → 10 * a * b ≡ 10 * (a * b)
-      ten-first a b = native.Mathlib.Nat.mul-assoc 10 a b
+      rw (s, slide (w / 10) z) (e ∙ ap (λ (x : ℕ). x * 10 ^ z) q ∙ mul-assoc 10 (w / 10) (10 ^ z))
 
   pub zeros-few : 0 < w → c < 2 ^ 64 → z < 20
   zeros-few h l =
@@ -64,7 +61,7 @@ bare-value n c p w z b = value-one (value-found n c p) said
             numbers = mul-one c ∙ b .whole;
           };
           sign = λ h. refl;
-          normal = mathlib.Core.Logic.inl (b .bare);
+          normal = inl (b .bare);
         }
 
 pub suc-less : (i : ℕ) → suc i - 1 ≡ i
@@ -106,7 +103,8 @@ pub record Sized (down : Bool) (s m : ℤ) : Type 0 where
   pub cast : T (nonNeg (toZ w64 (ofZ w64 m))) × Fits w64 (natAbs (toZ w64 (ofZ w64 m)))
   pub size : record { down = down; size = natAbs (toZ w64 (ofZ w64 m)) } ≡ sizeOf s
 
-sized : (down : Bool) (s m : ℤ) (n : ℕ) → n < 2 ^ 41 → m ≡ pos n → record { down = down; size = n } ≡ sizeOf s → Sized down s m
+sized : (down : Bool) (s m : ℤ) (n : ℕ) → n < 2 ^ 41 → m ≡ pos n → record { down = down; size = n } ≡ sizeOf s
+    → Sized down s m
 sized down s m n l e q =
     let f : SFits w64 (pos n) = record { sfits = omega arith } in
     let t = toZ-ofZ w64 (pos n) f in
@@ -114,7 +112,8 @@ sized down s m n l e q =
 
 pub sized-below : (s : ℤ) → mag s < 2 ^ 40 → ltZ s (pos 0) ≡ true → Sized true s (pos 0 -ℤ s)
 sized-below (pos n) l e = absurd (omega (arith, ltb-true n 0 e))
-sized-below (negsuc n) l e = sized true (negsuc n) (pos 0 -ℤ negsuc n) (suc n) (omega arith) (ap pos (zero-add (suc n))) refl
+sized-below (negsuc n) l e =
+    sized true (negsuc n) (pos 0 -ℤ negsuc n) (suc n) (omega arith) (ap pos (zero-add (suc n))) refl
 
 pub sized-above : (s : ℤ) → mag s < 2 ^ 40 → ltZ s (pos 0) ≡ false → Sized false s s
 sized-above (pos n) l e = sized false (pos n) (pos n) n (omega arith) refl refl

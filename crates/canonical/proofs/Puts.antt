@@ -69,7 +69,8 @@ put-last l at n a x e h =
     rw (e, take-set-le at l (at + n) a (omega arith), drop-set l (at + n) a h, q) (simp append-assoc)
 
 -- digits from the right are the digits
-pub put-digits : (n : ℕ) (l : List ℕ) (at v : ℕ) → at + n ≤ length l → putDigits l at n v ≡ put l at (text (digitsN n v))
+pub put-digits : (n : ℕ) (l : List ℕ) (at v : ℕ) → at + n ≤ length l
+    → putDigits l at n v ≡ put l at (text (digitsN n v))
 unfolding putDigits digitsN
 put-digits zero l at v h = sym (put-nothing l at)
 put-digits (suc n) l at v h =

@@ -1,20 +1,20 @@
 -- What it takes for a field to mean a value other than zero: its digits are the coefficient's with k zeros behind them,
 -- and its power is smaller by k.
 -- Assumes nothing.
-use mathlib.Core.Path.{_≡_, refl, sym, ap, _∙_}
+use mathlib.Core.Path.{_≡_, refl, sym, _∙_}
 use mathlib.Core.Bool.{Bool, true, false}
-use mathlib.Core.List.{List, _++_}
-use mathlib.Core.Logic.{_⊎_, inl, inr, ⊎-elim}
-use Prim.Native.Nat.{ℕ, zero, suc, _+_, _-_, _*_, _%_, _^_, _<_, _≤_}
-use native.Mathlib.Nat.{mul-le-mul-right, lt-of-le-of-lt, zero-mul, add-zero, mul-comm}
+use mathlib.Core.List.{List}
+use mathlib.Core.Logic.{_⊎_, inl, inr}
+use Prim.Native.Nat.{ℕ, zero, suc, _+_, _*_, _%_, _^_, _<_, _≤_}
+use native.Mathlib.Nat.{mul-le-mul-right, lt-of-le-of-lt, zero-mul}
 use native.Mathlib.Omega.{arith}
 use lib.Pow.{pow-add}
 use lib.ListN.{length}
 use lib.IntN.{ℤ, pos, negsuc, _+ℤ_}
-use Rattle.number.specs.declared.value.Decimal.{Decimal}
-use Rattle.number.specs.Grammar.{Digits, num, minus, below, Opening, Tail, plain, power, Field}
-use Rattle.number.specs.Value.{decimal, zeroDecimal, SameSize, Normal, Value, signedBy, exponentOf, digitsOf, powerOf, Means}
-use Rattle.canonical.proofs.Digits.{ten-pos, ten-lt, num-lt}
+use Rattle.number.specs.Grammar.{Digits, num, minus, below, Opening, plain, power, Field}
+use Rattle.number.specs.Value.{decimal, zeroDecimal, digitsOf, powerOf, Means}
+use Rattle.number.proofs.Tens.{ten-pos}
+use Rattle.canonical.proofs.Digits.{ten-lt, num-lt}
 use Rattle.canonical.proofs.Sizes.{up, down, more-zeros, drop-zeros, pos-from, neg-from}
 
 pub record Says (f : Field) (n : Bool) (c : ℕ) (p : ℤ) : Type 0 where

@@ -2,29 +2,28 @@
 -- Assumes nothing.
 use mathlib.Core.Path.{_≡_, refl, sym, ap, _∙_}
 use mathlib.Core.Bool.{Bool, true, false, cond}
-use mathlib.Core.List.{List, [], _∷_, _++_}
 use mathlib.Core.Logic.{_⊎_, inl, inr}
 use Prim.Native.Nat.{ℕ, zero, suc, _+_, _-_, _*_, _%_, _^_, _<_, _≤_}
-use native.Mathlib.Nat.{eq-or-lt-of-le, le-trans, lt-of-le-of-lt, lt-of-lt-of-le, add-zero, mul-one, mul-lt-mul-of-pos-right}
-use native.Mathlib.Decide.{decLt}
+use native.Mathlib.Nat.{eq-or-lt-of-le, lt-of-le-of-lt, lt-of-lt-of-le, add-zero, mul-one, mul-lt-mul-of-pos-right}
 use native.Mathlib.Omega.{arith}
 use borrow.Author.Tests.{leb-true, leb-false, eqb-true, eqb-false}
 use lib.Dec.{leb, eqb}
 use lib.Pow.{pow-add}
-use lib.ListN.{length}
 use lib.IntN.{ℤ, pos, negsuc, _+ℤ_, +ℤ-idr}
-use Rattle.number.specs.Grammar.{num, minus, Tail, plain, power, GoodTail, Field, Good}
-use Rattle.number.specs.Value.{decimal, exponentOf, signedBy, digitsOf, powerOf, Means}
+use Rattle.number.specs.Grammar.{num, minus, GoodTail, Field, Good}
+use Rattle.number.specs.Value.{decimal, digitsOf, powerOf, Means}
 use Rattle.canonical.specs.declared.layout.Layout.{Layout}
 use Rattle.canonical.specs.Canonical.{behind}
 use Rattle.canonical.specs.Closed.{count, digitsN, plainly, raisedBy, layoutUp, layoutDown, layoutOf, places}
 use Rattle.canonical.specs.Closed.{signOf, tailOf, fieldOf}
-use Rattle.canonical.proofs.Digits.{ten, ten-pos, ten-le, ten-lt, digitsN-length, digitsN-digits, digitsN-num}
+use Rattle.number.proofs.Tens.{ten-suc, ten-pos, ten-le}
+use Rattle.canonical.proofs.Digits.{ten-lt, digitsN-length, digitsN-digits, digitsN-num}
 use Rattle.canonical.proofs.Digits.{Counted, counts, count-pos, count-most}
 use Rattle.canonical.proofs.Sizes.{pos-to, neg-to}
 use Rattle.canonical.proofs.Says.{Says}
-use Rattle.canonical.proofs.Laid.{laid-part, laid-digits, laid-length, laid-num}
-use Rattle.canonical.proofs.First.{Beats, first-whole, first-ten, first-up, first-among, first-behind, first-down}
+use Rattle.canonical.proofs.Laid.{laid-digits, laid-length, laid-num}
+use Rattle.canonical.proofs.First.{Beats, first-whole, first-ten, first-up}
+use Rattle.canonical.proofs.First.{first-among, first-behind, first-down}
 
 -- ---- what an exponent below zero is
 
@@ -45,10 +44,10 @@ exponent d t h =
     let z = counts (t - d) (rest t d h) in
     let W = 10 ^ z .less in
     let o = ten-pos (z .less) in
-    let pl : f ≡ t - (10 * W - 1) = rw (z .same, ten (z .less)) refl in
-    let zm : t - d < 10 * W = rw (← ten (z .less)) (z .most) in
+    let pl : f ≡ t - (10 * W - 1) = rw (z .same, ten-suc (z .less)) refl in
+    let zm : t - d < 10 * W = rw (← ten-suc (z .less)) (z .most) in
     let lo : W ≤ t - f = rw pl (low-end t d W (z .least) zm o h) in
-    let hi : t - f < 10 ^ suc (z .less) = rw (pl, ten (z .less)) (high-end t W o) in
+    let hi : t - f < 10 ^ suc (z .less) = rw (pl, ten-suc (z .less)) (high-end t W o) in
     let x = counts (t - f) (lt-of-lt-of-le o lo) in
     let e : x .less ≡ z .less =
     both (x .less) (z .less) (ten-lt (x .less) (suc (z .less)) (lt-of-le-of-lt (x .least) hi))
@@ -90,7 +89,8 @@ exponent d t h =
 -- where p is a power of ten, p - 1 has one digit less
 module _ (p : ℕ) (h : 3 ≤ p) where
   pub power-of-ten : (x : Counted (count (p - 1)) (p - 1)) → p ≡ 10 ^ (count p - 1) → p ≡ 10 * 10 ^ x .less
-  power-of-ten x e = by (y .less) (e ∙ ap (λ (k : ℕ). 10 ^ (k - 1)) (y .same) ∙ ap (λ (k : ℕ). 10 ^ k) (one-less (y .less)))
+  power-of-ten x e =
+      by (y .less) (e ∙ ap (λ (k : ℕ). 10 ^ (k - 1)) (y .same) ∙ ap (λ (k : ℕ). 10 ^ k) (one-less (y .less)))
     where
       y : Counted (count p) p
       y = counts p (omega arith)
@@ -101,7 +101,7 @@ module _ (p : ℕ) (h : 3 ≤ p) where
       by : (k : ℕ) → p ≡ 10 ^ k → p ≡ 10 * 10 ^ x .less
       by zero q = absurd (omega arith)
       by (suc k) q =
-          let t = ten k in
+          let t = ten-suc k in
           let o = ten-pos k in
           let a : k < suc (x .less) = ten-lt k (suc (x .less)) (omega (arith, x .most)) in
           let b : x .less < suc k = ten-lt (x .less) (suc k) (omega (arith, x .least)) in
@@ -109,12 +109,12 @@ module _ (p : ℕ) (h : 3 ≤ p) where
           rw c (q ∙ t)
 
   no-power-of-ten : (x : Counted (count p) p) → (p ≡ 10 ^ (count p - 1) → ⊥) → 10 ^ x .less < p
-  no-power-of-ten x n =
-      let q : 10 ^ (count p - 1) ≡ 10 ^ x .less = ap (λ (k : ℕ). 10 ^ k) (let e : count p - 1 ≡ x .less = omega (arith, x .same) in e) in
-      by (eq-or-lt-of-le (x .least))
+  no-power-of-ten x n = by (eq-or-lt-of-le (x .least))
     where
       by : (10 ^ x .less ≡ p) ⊎ (10 ^ x .less < p) → 10 ^ x .less < p
-      by (inl e) = absurd (n (sym e ∙ ap (λ (k : ℕ). 10 ^ k) (let e : x .less ≡ count p - 1 = omega (arith, x .same) in e)))
+      by (inl e) =
+          let k : x .less ≡ count p - 1 = omega (arith, x .same) in
+          absurd (n (sym e ∙ ap (λ (k : ℕ). 10 ^ k) k))
       by (inr l) = l
 
 -- ---- a layout has room for the coefficient's digits
@@ -135,7 +135,8 @@ module _ (c : ℕ) (h : 0 < c) (P : Layout → Type 0) where
       (same : 3 ≤ p → (x : Counted (count p) p) → 10 ^ x .less < p
       → c * 10 ^ 0 < 10 ^ (count c + 0) → P (raisedBy (count c) 0 0 false p)) where
     by-up : (t u : Bool) → leb p 2 ≡ t → eqb p (10 ^ (count p - 1)) ≡ u
-        → P (cond t (plainly (count c + p) 0 p) (cond u (raisedBy (count c + 1) 0 1 false (p - 1)) (raisedBy (count c) 0 0 false p)))
+        → P (cond t (plainly (count c + p) 0 p)
+        (cond u (raisedBy (count c + 1) 0 1 false (p - 1)) (raisedBy (count c) 0 0 false p)))
     by-up true u e d = whole (leb-true p 2 e) (fits-more c h p)
     by-up false true e d =
         let l : 3 ≤ p = leb-false p 2 e in

@@ -1,17 +1,16 @@
 -- Numbers of one size: what the equation of a value says of naturals alone.
 -- Assumes nothing.
-use mathlib.Core.Path.{_≡_, refl, sym, ap, _∙_}
+use mathlib.Core.Path.{_≡_, sym, ap, _∙_}
 use mathlib.Core.Bool.{Bool, true, false}
-use mathlib.Core.Logic.{_⊎_, inl, inr}
-use Prim.Native.Nat.{ℕ, zero, suc, _+_, _-_, _*_, _%_, _^_}
-use native.Mathlib.Nat.{mul-assoc, mul-comm, mul-one, add-zero}
+use Prim.Native.Nat.{ℕ, zero, suc, _+_, _*_, _%_, _^_}
+use native.Mathlib.Nat.{mul-assoc, mul-comm, mul-one}
 use native.Mathlib.Omega.{arith}
-use lib.IntN.{ℤ, pos, negsuc, negℤ, _+ℤ_, _-ℤ_, +ℤ-assoc, +ℤ-comm, +ℤ-idl, +ℤ-idr, +ℤ-invl, +ℤ-negℤ-cancel, -ℤ-+ℤ-cancel}
+use lib.IntN.{ℤ, pos, negsuc, _+ℤ_, _-ℤ_, +ℤ-assoc, +ℤ-comm, +ℤ-idl, +ℤ-idr, +ℤ-invl, +ℤ-negℤ-cancel, -ℤ-+ℤ-cancel}
 use Rattle.number.specs.Value.{signedBy}
-use Rattle.canonical.proofs.Digits.{ten}
+use Rattle.number.proofs.Tens.{ten-suc}
 
 pub slide : (a n : ℕ) → a * 10 ^ suc n ≡ 10 * (a * 10 ^ n)
-slide a n = rw (ten n, ← mul-assoc a 10 (10 ^ n), mul-comm a 10) (mul-assoc 10 a (10 ^ n))
+slide a n = rw (ten-suc n, ← mul-assoc a 10 (10 ^ n), mul-comm a 10) (mul-assoc 10 a (10 ^ n))
 
 -- where ten does not divide c, the other number has c's digits with zeros behind them
 pub more-zeros : (m n a c : ℕ) → (c % 10 ≡ 0 → ⊥) → a * 10 ^ m ≡ c * 10 ^ n → (k : ℕ) × (n ≡ m + k) × (a ≡ c * 10 ^ k)

@@ -2,7 +2,7 @@
 -- Assumes nothing.
 use mathlib.Core.Path.{_≡_, sym, ap, _∙_}
 use mathlib.Core.List.{List, _∷_, _++_, append-assoc}
-use mathlib.Core.Logic.{_⊎_, inl, inr, ⊎-elim, _↔_}
+use mathlib.Core.Logic.{inl, inr, ⊎-elim, _↔_}
 use Prim.Native.Nat.{ℕ, zero, suc, _+_, _-_, _<_, _≤_}
 use native.Mathlib.Nat.{zero-add, suc-add}
 use native.Mathlib.Decide.{decLt}
@@ -10,10 +10,11 @@ use native.Mathlib.Omega.{arith}
 use lib.ListN.{length}
 use Rattle.number.specs.declared.value.Decimal.{Decimal}
 use Rattle.number.specs.Grammar.{blanks, Field, write, Good}
-use Rattle.number.specs.Value.{Normal, Means, Reads}
+use Rattle.number.specs.Value.{Normal, Means}
 use Rattle.canonical.specs.Canonical.{Canonical, ExactlyOne, NoField, Best}
 use Rattle.canonical.specs.Closed.{canonicalText, canonicalField}
-use Rattle.canonical.proofs.Winner.{placed, placed-text, field-length, closed-wins, none-shorter, alone}
+use Rattle.canonical.proofs.Winner.{placed, placed-text, field-length, closed-wins, none-shorter}
+use Rattle.canonical.proofs.Winner.{alone, never-both}
 
 -- where some field reads to the value, the closed form is no wider
 pub canonical-fits : (w : ℕ) (v : Decimal) (g : Field) → Good g → length (write g) ≡ w → Means g v
@@ -37,6 +38,14 @@ closed-form w v f c =
     let l = canonical-fits w v f (c .good) (c .wide) (c .says) in
     alone w v f (placed w v) c (closed-wins w v h l) ∙ placed-text w v
 
+-- of bytes too, no two win
+pub best-one : (w : ℕ) (v : Decimal) (l m : List ℕ) → Best w v l → Best w v m → l ≡ m
+best-one w v l m a b =
+    ⊎-elim (λ e. sym e)
+    (λ p. ⊎-elim (λ e. e) (λ q. absurd (never-both (a .reads .field) (b .reads .field) p q))
+    (b .first l (a .wide) (a .reads)))
+    (a .first m (b .wide) (b .reads))
+
 -- no field reads to the value exactly when the closed form is wider
 pub canonical-none : (w : ℕ) (v : Decimal) → Normal v → NoField w v ↔ (w < length (canonicalText v))
 canonical-none w v h = (λ none. by none (decLt w (length (canonicalText v))), λ l. none-shorter w v h l)
@@ -53,8 +62,6 @@ canonical-best w v h l =
     let c = closed-wins w v h l in
     let e = placed-text w v in
     record {
-      field = placed w v;
-      same = e;
       wide = field-length w v h l;
       reads = record { field = placed w v; spells = record { good = c .good; same = e }; means = c .says };
       first = λ m wm r.
@@ -68,7 +75,8 @@ blanks-add zero n = ap blanks (zero-add n)
 blanks-add (suc k) n = rw (suc-add k n) (ap (λ (l : List ℕ). 32 ∷ l) (blanks-add k n))
 
 -- in more columns it stands behind more blanks
-pub wider : (k w : ℕ) (v : Decimal) → length (canonicalText v) ≤ w → canonicalField (k + w) v ≡ blanks k ++ canonicalField w v
+pub wider : (k w : ℕ) (v : Decimal) → length (canonicalText v) ≤ w
+    → canonicalField (k + w) v ≡ blanks k ++ canonicalField w v
 unfolding canonicalField
 wider k w v l =
     let n = length (canonicalText v) in

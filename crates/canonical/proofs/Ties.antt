@@ -9,7 +9,7 @@ use native.Mathlib.Nat.{eq-or-lt-of-le}
 use native.Mathlib.Omega.{arith}
 use lib.ListN.{length, replicate, length-append, length-replicate}
 use Rattle.number.specs.Grammar.{Digits, num, signText, Sign, unsigned, signed, signByte, minus}
-use Rattle.number.specs.Grammar.{Opening, bySign, byMark, byBare, openText, below, Tail, power, Field}
+use Rattle.number.specs.Grammar.{Opening, bySign, byMark, byBare, openText, below, power, Field}
 use Rattle.canonical.specs.Canonical.{Fewer, Ahead, columns, exponents, marks, behind}
 use Rattle.canonical.specs.Closed.{signOf}
 use Rattle.canonical.proofs.Digits.{num-inj, append-inj}

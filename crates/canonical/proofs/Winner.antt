@@ -1,21 +1,21 @@
 -- The canonical field: there is one exactly where the columns suffice, it is the closed form, and there is no other.
 -- Assumes nothing.
 use mathlib.Core.Path.{_≡_, refl, sym, ap, _∙_, subst}
-use mathlib.Core.Bool.{Bool, true, false}
-use mathlib.Core.List.{List, [], _∷_, _++_}
-use mathlib.Core.Logic.{_⊎_, inl, inr, ⊎-elim, _↔_}
-use Prim.Native.Nat.{ℕ, zero, suc, _+_, _-_, _*_, _%_, _^_, _<_, _≤_}
-use native.Mathlib.Decide.{decLt}
+use mathlib.Core.Bool.{false}
+use mathlib.Core.List.{[], _∷_}
+use mathlib.Core.Logic.{_⊎_, inl, inr, ⊎-elim}
+use Prim.Native.Nat.{ℕ, zero, suc, _+_, _-_, _%_, _<_, _≤_}
 use native.Mathlib.Omega.{arith}
 use lib.ListN.{length, length-append, length-replicate}
-use lib.IntN.{ℤ, pos, negsuc}
+use lib.IntN.{pos}
 use Rattle.number.specs.declared.value.Decimal.{Decimal}
-use Rattle.number.specs.Grammar.{blanks, Digits, text, Sign, unsigned, signed, signText, Tail, plain, power, tailText, Field, write, Good, Spells}
-use Rattle.number.specs.Value.{decimal, zeroDecimal, Normal, Value, digitsOf, Means, Reads}
-use Rattle.canonical.specs.Canonical.{Fewer, Ahead, columns, tailColumns, behind, Canonical, ExactlyOne, NoField, Best}
-use Rattle.canonical.specs.Closed.{count, countFrom, digitsN, shift, layoutUp, layoutOf, fieldOf, shortest, canonicalText, canonicalField}
+use Rattle.number.specs.Grammar.{Sign, unsigned, signed, signText, Tail, plain, power, tailText, Field, write, Good}
+use Rattle.number.specs.Value.{zeroDecimal, Normal, Means}
+use Rattle.canonical.specs.Canonical.{Fewer, Ahead, columns, tailColumns, behind, Canonical, NoField}
+use Rattle.canonical.specs.Closed.{count, countFrom, digitsN, shift, layoutUp, fieldOf}
+use Rattle.canonical.specs.Closed.{shortest, canonicalText, canonicalField}
 use Rattle.canonical.proofs.Digits.{text-length}
-use Rattle.canonical.proofs.Says.{Says, says, zero-digits}
+use Rattle.canonical.proofs.Says.{says, zero-digits}
 use Rattle.canonical.proofs.Ties.{Same, settle, settle-less, same-digits}
 use Rattle.canonical.proofs.First.{Beats}
 use Rattle.canonical.proofs.Shortest.{Fine, first, found}
@@ -88,10 +88,11 @@ some-fine : (v : Decimal) → (v .coefficient % 10 ≡ 0 → ⊥) → Fine (v .n
 unfolding shortest
 some-fine v nz = found (v .negative) (v .coefficient) (v .power) (above-zero (v .coefficient) nz) nz
 
-shortest-fine : (v : Decimal) → Normal v → Fine (v .negative) (v .coefficient) (v .power) (shortest v)
+pub shortest-fine : (v : Decimal) → Normal v → Fine (v .negative) (v .coefficient) (v .power) (shortest v)
 shortest-fine v h =
     ⊎-elim (λ nz. some-fine v nz)
-    (λ e. subst (λ (u : Decimal). Fine (u .negative) (u .coefficient) (u .power) (shortest u)) (sym e) (rw zero-form zero-fine)) h
+    (λ e. subst (λ (u : Decimal). Fine (u .negative) (u .coefficient) (u .power) (shortest u)) (sym e)
+    (rw zero-form zero-fine)) h
 
 some-first : (v : Decimal) → (v .coefficient % 10 ≡ 0 → ⊥) → (g : Field) → Good g → Means g v → Beats (shortest v) g
 unfolding shortest
@@ -105,7 +106,8 @@ zero-first g good m = subst (λ (f : Field). Beats f g) (sym zero-form) (zero-by
 shortest-first : (v : Decimal) → Normal v → (g : Field) → Good g → Means g v → Beats (shortest v) g
 shortest-first v h g good m =
     ⊎-elim (λ nz. some-first v nz g good m)
-    (λ e. subst (λ (u : Decimal). Beats (shortest u) g) (sym e) (zero-first g good (subst (λ (u : Decimal). Means g u) e m))) h
+    (λ e. subst (λ (u : Decimal). Beats (shortest u) g) (sym e)
+    (zero-first g good (subst (λ (u : Decimal). Means g u) e m))) h
 
 -- ---- the text, and the field of w columns
 
@@ -180,13 +182,14 @@ fewer-never a b R S f (inl l) (inr m) = omega (arith, m .0)
 fewer-never a b R S f (inr l) (inl m) = omega (arith, l .0)
 fewer-never a b R S f (inr l) (inr m) = f (l .1) (m .1)
 
-never-both : (f g : Field) → Ahead f g → Ahead g f → ⊥
+pub never-both : (f g : Field) → Ahead f g → Ahead g f → ⊥
 unfolding Ahead
 never-both f g a b =
     fewer-never _ _ _ _
     (fewer-never _ _ _ _
     (fewer-never _ _ _ _
-    (fewer-never _ _ _ _ (λ (p : behind (f .tail) < behind (g .tail)) (q : behind (g .tail) < behind (f .tail)). omega arith)))) a b
+    (fewer-never _ _ _ _
+    (λ (p : behind (f .tail) < behind (g .tail)) (q : behind (g .tail) < behind (f .tail)). omega arith)))) a b
 
 pub alone : (w : ℕ) (v : Decimal) (f g : Field) → Canonical w v f → Canonical w v g → write f ≡ write g
 alone w v f g a b =

@@ -1,17 +1,19 @@
 -- The canonical field of a value (document 01, "Canonical field"):
 --
---   "Of all fields reading to the value: the one with fewest columns from first to last non-blank; among equals, without
---   exponent; then without E; then with most digits before the point; right-adjusted. That exactly one field wins is
---   proved."
+--   "Of all fields reading to the value: the one with fewest columns from first to last non-blank; among equals,
+--   without exponent; then without E; then with most digits before the point; right-adjusted. That exactly one field
+--   wins is proved."
 --
 -- The five keys, the order that they make, and what wins. How it is found is another matter (Closed.antt).
 use mathlib.Core.Path.{_≡_}
-use mathlib.Core.List.{List}
+use mathlib.Core.Bool.{Bool, true, false, cond}
+use mathlib.Core.List.{List, [], _∷_}
 use mathlib.Core.Logic.{_⊎_}
-use Prim.Native.Nat.{ℕ, _+_, _<_}
+use Prim.Native.Nat.{ℕ, zero, suc, _+_, _<_}
+use lib.Dec.{eqb}
 use lib.ListN.{length}
 use Rattle.number.specs.declared.value.Decimal.{Decimal}
-use Rattle.number.specs.Grammar.{signText, Opening, bySign, byMark, byBare, openText, Tail, plain, power, Field, write, Good}
+use Rattle.number.specs.Grammar.{signText, bySign, byMark, byBare, openText, Tail, plain, power, Field, write, Good}
 use Rattle.number.specs.Value.{Means, Reads}
 
 -- ---- the five keys
@@ -75,10 +77,28 @@ pub record ExactlyOne (w : ℕ) (v : Decimal) : Type 0 where
 abbrev pub NoField : ℕ → Decimal → Type 0
 NoField w v = (g : Field) → Good g → length (write g) ≡ w → Means g v → ⊥
 
--- ---- the same of columns: of all lists of w bytes that read to v, l is ahead of every other one
+-- ---- the same of bytes
+
+-- of all lists of w bytes that read to v, l comes before every other one
 pub record Best (w : ℕ) (v : Decimal) (l : List ℕ) : Type 0 where
-  pub field : Field
-  pub same : write field ≡ l
   pub wide : length l ≡ w
   pub reads : Reads l v
-  pub first : (m : List ℕ) → length m ≡ w → (r : Reads m v) → (m ≡ l) ⊎ Ahead field (r .field)
+  pub first : (m : List ℕ) → length m ≡ w → (r : Reads m v) → (m ≡ l) ⊎ Ahead (reads .field) (r .field)
+
+-- "columns from first to last non-blank" of bytes; that a field has as many is the law `columns-span`
+abbrev pub pastBlanks : List ℕ → List ℕ
+pastBlanks [] = []
+pastBlanks (b ∷ l) = cond (eqb b 32) (pastBlanks l) (b ∷ l)
+
+-- one column more, unless that and all behind it are blank
+abbrev pub oneMore : ℕ → Bool → ℕ
+oneMore zero true = 0
+oneMore zero false = 1
+oneMore (suc n) blank = suc (suc n)
+
+abbrev pub upToLast : List ℕ → ℕ
+upToLast [] = 0
+upToLast (b ∷ l) = oneMore (upToLast l) (eqb b 32)
+
+abbrev pub span : List ℕ → ℕ
+span l = upToLast (pastBlanks l)

@@ -1,5 +1,5 @@
--- The canonical field in closed form: by arithmetic on the count of the coefficient's digits and the power. That it wins
--- is the law `closed-form`.
+-- The canonical field in closed form: by arithmetic on the count of the coefficient's digits and the power. That it
+-- wins is the law `closed-form`.
 use mathlib.Core.Bool.{Bool, true, false, cond}
 use mathlib.Core.List.{List, [], _∷_, _++_}
 use Prim.Native.Nat.{ℕ, zero, suc, _+_, _-_, _*_, _/_, _%_, _^_}

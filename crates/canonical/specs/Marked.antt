@@ -2,8 +2,8 @@
 --
 --   "Marked to be proved, this paragraph (right-adjusted unless shown): `0.14` (14,-2) `.14`; `1.45-1` (145,-3) `.145`;
 --   `1.40 E 00` (14,-1) `1.4`; `1000.` (1,3) `1.+3`; `100.` (1,2) `100.`; `1.-3` (1,-3) `.001`; `1.+100` (1,100)
---   `10.+99`; `-.0` zero, `0.`; `.12345678-9` and `.1-99999999` are their own. Malformed: `14`, `.`, `+ 1.`, `1.4-1` with
---   a blank in column 11. Writing 12345678901 is 41; so is 1 with power 100,000,000."
+--   `10.+99`; `-.0` zero, `0.`; `.12345678-9` and `.1-99999999` are their own. Malformed: `14`, `.`, `+ 1.`, `1.4-1`
+--   with a blank in column 11. Writing 12345678901 is 41; so is 1 with power 100,000,000."
 use mathlib.Core.Path.{_≡_, refl}
 use mathlib.Core.Bool.{false}
 use mathlib.Core.List.{List, [], _∷_, _++_, map}
@@ -87,5 +87,7 @@ marked =
     ∷ []
 
 pub marked-right : map found marked ≡ map said marked
-unfolding finish readField readNumber trimFrom trim valueOf write countFrom count digitsN shift layoutUp layoutDown fieldOf shortest canonicalText canonicalField answered stored written bytes
+unfolding finish readField readNumber trimFrom trim valueOf write
+    countFrom count digitsN shift layoutUp layoutDown fieldOf shortest canonicalText canonicalField
+    answered stored written bytes
 marked-right = refl

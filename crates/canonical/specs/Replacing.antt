@@ -1,7 +1,7 @@
 -- What a field becomes in the canonical copy (document 01):
 --
---   "The canonical copy replaces each non-blank value field of COMMON and DATA by its canonical field and keeps every other
---   byte."
+--   "The canonical copy replaces each non-blank value field of COMMON and DATA by its canonical field and keeps every
+--   other byte."
 use mathlib.Core.List.{List}
 use Prim.Native.Nat.{ℕ}
 use lib.ListN.{length}

@@ -1,15 +1,16 @@
 -- What the parts of the writer work out and store.
 use mathlib.Core.Path.{_≡_}
 use mathlib.Core.Bool.{Bool, true, false}
-use mathlib.Core.List.{List, [], _∷_, _++_}
-use Prim.Native.Nat.{ℕ, zero, suc, _+_, _*_, _/_, _%_, _^_, _<_, _≤_}
+use mathlib.Core.List.{List, _∷_, _++_}
+use Prim.Native.Nat.{ℕ, zero, suc, _+_, _-_, _*_, _/_, _%_, _^_, _<_, _≤_}
 use lib.ListN.{length, take, drop, set}
 use lib.IntN.{ℤ, pos, negsuc}
 use Rattle.number.specs.declared.value.Decimal.{Decimal}
 use Rattle.canonical.specs.declared.layout.Layout.{Layout}
 use Rattle.canonical.specs.declared.layout.Size.{Size}
+use Rattle.number.specs.Grammar.{blanks, text, write}
 use Rattle.canonical.specs.declared.layout.Prepared.{Prepared}
-use Rattle.canonical.specs.Closed.{count, layoutOf}
+use Rattle.canonical.specs.Closed.{count, digitsN, shift, layoutOf, fieldOf}
 
 -- the size of a power, and whether it is below zero
 abbrev pub sizeOf : ℤ → Size
@@ -59,6 +60,14 @@ pub record Ready (negative : Bool) (c : ℕ) (p : Layout) (w : ℕ) : Type 0 whe
 -- l with x in the place from `at`
 unfoldable pub put : List ℕ → ℕ → List ℕ → List ℕ
 put l at x = take at l ++ (x ++ drop (at + length x) l)
+
+-- the digits of v, the last `part` of them behind the point
+abbrev pub bodyText : ℕ → ℕ → ℕ → List ℕ
+bodyText whole part v = text (digitsN whole (shift part v)) ++ (46 ∷ text (digitsN part v))
+
+-- a layout's field, right-adjusted in w columns
+abbrev pub fieldText : ℕ → Bool → ℕ → Layout → List ℕ
+fieldText w negative c p = blanks (w - layoutColumns negative p) ++ write (fieldOf negative c p)
 
 -- the last n digits of v put in from the right
 unfoldable pub putDigits : List ℕ → ℕ → ℕ → ℕ → List ℕ

@@ -1,6 +1,6 @@
 // Where the digits of a canonical field stand, by arithmetic on the count of its digits and the power.
 ghost use mathlib.Core.Path.{_≡_};
-ghost use Prim.Native.Nat.{ℕ, _+_, _-_, _*_, _<_, _≤_, _^_};
+ghost use Prim.Native.Nat.{_+_, _-_, _*_, _<_, _≤_, _^_};
 ghost use lib.IntN.{ℤ, pos, _+ℤ_};
 ghost use Rattle.number.specs.Value.{valueOf};
 ghost use Rattle.canonical.specs.Closed.{«count» as countOf, layoutUp, layoutDown, layoutOf};

@@ -1,11 +1,11 @@
 // The bytes of a canonical field, stored from the right, each once.
 ghost use mathlib.Core.Path.{_≡_};
-ghost use mathlib.Core.List.{[], _∷_, _++_};
-ghost use Prim.Native.Nat.{ℕ, suc, _+_, _-_, _*_, _<_, _≤_, _^_};
+ghost use mathlib.Core.List.{[], _∷_};
+ghost use Prim.Native.Nat.{_+_, _-_, _*_, _<_, _≤_, _^_};
 ghost use lib.ListN.{length};
-ghost use Rattle.number.specs.Grammar.{write, blanks, text, signByte, signText, tailText};
-ghost use Rattle.canonical.specs.Closed.{digitsN, shift, signOf, tailOf, fieldOf};
-ghost use Rattle.canonical.specs.Storing.{put, oneIf, layoutColumns, Sound, Ready};
+ghost use Rattle.number.specs.Grammar.{blanks, text, signByte, signText, tailText};
+ghost use Rattle.canonical.specs.Closed.{digitsN, shift, signOf, tailOf};
+ghost use Rattle.canonical.specs.Storing.{put, oneIf, layoutColumns, Ready, bodyText, fieldText};
 use crate::layout::Layout;
 
 fn put_byte(out: &mut [u8], at: usize, b: u8)
@@ -82,7 +82,7 @@ fn put_sign(out: &mut [u8], at: usize, negative: bool)
 // The digits before the point, the point, and those behind it.
 fn put_body(out: &mut [u8], at: usize, whole: usize, part: usize, v: u64)
     requires { ⌜ at + (whole + (1 + part)) ≤ length (now out) ⌝ }
-    ensures { λ r. ⌜ now (out .exit) ≡ put (now (out .entry)) at (text (digitsN whole (shift part v)) ++ (46 ∷ text (digitsN part v))) ⌝ }
+    ensures { λ r. ⌜ now (out .exit) ≡ put (now (out .entry)) at (bodyText whole part v) ⌝ }
 {
     let w = put_digits(out, at + (whole + 1), part, v);
     put_byte(out, at + whole, 46);
@@ -116,7 +116,7 @@ fn with_zeros(c: u64, zeros: usize) -> u64
 // A layout's field, right-adjusted in the whole of a buffer.
 pub(crate) fn put_field(out: &mut [u8], negative: bool, c: u64, p: Layout)
     requires { ⌜ Ready negative c p (length (now out)) ⌝ }
-    ensures { λ r. ⌜ now (out .exit) ≡ blanks (length (now (out .entry)) - layoutColumns negative p) ++ write (fieldOf negative c p) ⌝ }
+    ensures { λ r. ⌜ now (out .exit) ≡ fieldText (length (now (out .entry))) negative c p ⌝ }
 {
     let whole = p.whole;
     let part = p.part;

@@ -1,6 +1,6 @@
 // Writing a decimal as its canonical field.
 ghost use mathlib.Core.Path.{_≡_};
-ghost use Prim.Native.Nat.{ℕ, _≤_};
+ghost use Prim.Native.Nat.{_≤_};
 ghost use lib.ListN.{length};
 ghost use Rattle.number.specs.Value.{valueOf};
 ghost use Rattle.canonical.specs.Writing.{answered, stored, written, bytes, refusal, refusalOf};
@@ -17,7 +17,8 @@ pub enum Written {
 // The canonical field of a value in a buffer of at most 19 columns.
 fn write_columns(negative: bool, coefficient: u64, power: i32, out: &mut [u8]) -> Written
     requires { ⌜ length (now out) ≤ 19 ⌝ }
-    ensures { λ r. ⌜ (r ≡ answered (now (out .entry)) (valueOf negative coefficient power)) × (now (out .exit) ≡ stored (now (out .entry)) (valueOf negative coefficient power)) ⌝ }
+    ensures { λ r. ⌜ r ≡ answered (now (out .entry)) (valueOf negative coefficient power) ⌝ }
+    ensures { λ r. ⌜ now (out .exit) ≡ stored (now (out .entry)) (valueOf negative coefficient power) ⌝ }
 {
     let q = prepare(negative, coefficient, power);
     let g = q.negative;
@@ -32,7 +33,8 @@ fn write_columns(negative: bool, coefficient: u64, power: i32, out: &mut [u8]) -
 
 // The canonical field of a value in eleven columns.
 pub fn write_number(negative: bool, coefficient: u64, power: i32, out: &mut [u8]) -> Written
-    ensures { λ r. ⌜ (r ≡ written (now (out .entry)) (valueOf negative coefficient power)) × (now (out .exit) ≡ bytes (now (out .entry)) (valueOf negative coefficient power)) ⌝ }
+    ensures { λ r. ⌜ r ≡ written (now (out .entry)) (valueOf negative coefficient power) ⌝ }
+    ensures { λ r. ⌜ now (out .exit) ≡ bytes (now (out .entry)) (valueOf negative coefficient power) ⌝ }
     ensures { λ r. ⌜ refusal r ≡ refusalOf (now (out .entry)) (valueOf negative coefficient power) ⌝ }
 {
     if out.len() != 11 {

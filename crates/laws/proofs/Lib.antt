@@ -10,3 +10,4 @@ pub mod Replacing
 pub mod Pasting
 pub mod Seeking
 pub mod Bits
+pub mod Promise

@@ -101,7 +101,8 @@ same-trans {a} {b} {c} {p} {q} {r} s t =
       m = s .m + t .m;
       n = t .n + s .n;
       powers =
-          plus-plus p (t .n) (s .n) ∙ plus-swap p (pos (t .n)) (pos (s .n)) ∙ ap (λ (x : ℤ). x +ℤ pos (t .n)) (s .powers)
+          plus-plus p (t .n) (s .n) ∙ plus-swap p (pos (t .n)) (pos (s .n))
+          ∙ ap (λ (x : ℤ). x +ℤ pos (t .n)) (s .powers)
           ∙ plus-swap q (pos (s .m)) (pos (t .n)) ∙ ap (λ (x : ℤ). x +ℤ pos (s .m)) (t .powers)
           ∙ plus-swap r (pos (t .m)) (pos (s .m)) ∙ sym (plus-plus r (s .m) (t .m));
       numbers =

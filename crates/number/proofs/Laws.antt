@@ -14,7 +14,8 @@ use Rattle.number.specs.declared.value.Reading.{Reading}
 use Rattle.number.specs.declared.value.Reading.the-variants.{Blank, Number, Refused}
 use Rattle.number.specs.Grammar.{blanks, Field, Good, write, Spells, Letter}
 use Rattle.number.specs.Value.{Value, valueOf, meaning, Reads, Says, blank, number, malformed, Within}
-use Rattle.number.specs.Reading.{Lead, finish, readField}
+use Rattle.number.specs.Reading.{Lead, finish, readField, answer}
+use Rattle.number.specs.Form.{formOf, refusalOf}
 use Rattle.number.proofs.Equation as Equation
 use Rattle.number.proofs.Spelling as Spelling
 use Rattle.number.proofs.Follow as Follow
@@ -67,9 +68,22 @@ blank-exactly l = (λ e. by-says (Agree.says l) e, λ b. Agree.said-so (blank b)
     by-says (number r) e = let z : _≡_ {A = ℕ} 0 1 = cc in absurd (omega arith)
     by-says (malformed b n) e = let z : _≡_ {A = ℕ} 0 1 = cc in absurd (omega arith)
 
--- the reading is total and one: what it says of a list is what the paper says, and the paper says one thing
+-- the reading is total: of each list it says what the paper says
 pub says-exactly : (l : List ℕ) (r : Reading) → (readField l ≡ r) ↔ Says l r
 says-exactly l r = (λ e. rw e at (Agree.says l), Agree.said-so)
+
+-- and one: the paper says one thing of it
+pub says-once : {l : List ℕ} {r s : Reading} → Says l r → Says l s → r ≡ s
+says-once x y = sym (Agree.said-so x) ∙ Agree.said-so y
+
+-- its form has the number of what it reads to
+pub form-refusal : (l : List ℕ) → refusalOf (formOf (readField l)) ≡ answer (readField l) .refusal
+form-refusal l = by-says (Agree.says l)
+  where
+    by-says : {r : Reading} → Says l r → refusalOf (formOf r) ≡ answer r .refusal
+    by-says (blank b) = refl
+    by-says (number r) = refl
+    by-says (malformed b n) = refl
 
 -- a field of fewer columns reads like the wider one with blanks in front
 pub read-wider : (k : ℕ) (l : List ℕ) → readField (blanks k ++ l) ≡ readField l

@@ -48,10 +48,10 @@ place-small (Power m s e) = omega arith
 place-small Bad = omega arith
 
 -- from place n the kind k leads to t
-abbrev Leads : ℕ → Kind → Scan → Type 0
-Leads n k t = getD nextTable (n * 8 + kindNumber k) 0 ≡ placeNumber t
+abbrev LeadsTo : ℕ → Kind → Scan → Type 0
+LeadsTo n k t = getD nextTable (n * 8 + kindNumber k) 0 ≡ placeNumber t
 
-leads-bad : (k : Kind) → Leads 10 k Bad
+leads-bad : (k : Kind) → LeadsTo 10 k Bad
 unfolding nextTable listOf
 leads-bad R.blank = refl
 leads-bad R.digit = refl
@@ -60,18 +60,18 @@ leads-bad R.sign = refl
 leads-bad R.mark = refl
 leads-bad R.other = refl
 
-leads : (t : Scan) (k : Column) → Leads (placeNumber t) (k .kind) (stepOf t k)
+leads : (t : Scan) (k : Column) → LeadsTo (placeNumber t) (k .kind) (stepOf t k)
 unfolding nextTable listOf
-leads Lead k = on-each (Leads 0) (k .kind) refl refl refl refl refl refl
-leads (Signed n) k = on-each (Leads 1) (k .kind) refl refl refl refl refl refl
-leads (Whole n c) k = on-each (Leads 2) (k .kind) refl refl refl refl refl refl
-leads (Point n) k = on-each (Leads 3) (k .kind) refl refl refl refl refl refl
-leads (Fraction m) k = on-each (Leads 4) (k .kind) refl refl refl refl refl refl
-leads (Gap m) k = on-each (Leads 5) (k .kind) refl refl refl refl refl refl
-leads (Mark m) k = on-each (Leads 6) (k .kind) refl refl refl refl refl refl
-leads (MarkGap m) k = on-each (Leads 7) (k .kind) refl refl refl refl refl refl
-leads (PowerSign m s) k = on-each (Leads 8) (k .kind) refl refl refl refl refl refl
-leads (Power m s e) k = on-each (Leads 9) (k .kind) refl refl refl refl refl refl
+leads Lead k = on-each (LeadsTo 0) (k .kind) refl refl refl refl refl refl
+leads (Signed n) k = on-each (LeadsTo 1) (k .kind) refl refl refl refl refl refl
+leads (Whole n c) k = on-each (LeadsTo 2) (k .kind) refl refl refl refl refl refl
+leads (Point n) k = on-each (LeadsTo 3) (k .kind) refl refl refl refl refl refl
+leads (Fraction m) k = on-each (LeadsTo 4) (k .kind) refl refl refl refl refl refl
+leads (Gap m) k = on-each (LeadsTo 5) (k .kind) refl refl refl refl refl refl
+leads (Mark m) k = on-each (LeadsTo 6) (k .kind) refl refl refl refl refl refl
+leads (MarkGap m) k = on-each (LeadsTo 7) (k .kind) refl refl refl refl refl refl
+leads (PowerSign m s) k = on-each (LeadsTo 8) (k .kind) refl refl refl refl refl refl
+leads (Power m s e) k = on-each (LeadsTo 9) (k .kind) refl refl refl refl refl refl
 leads Bad k = leads-bad (k .kind)
 
 pub next-right : (t : Scan) (b : ℕ) → b < 256

@@ -1,5 +1,5 @@
--- What form a field has, and the two tables by which it is told with no arithmetic: the kind of each byte, and the place
--- to which a kind of byte leads from each place of the reading. What the reading holds at a place is left out.
+-- What form a field has, and the two tables by which it is told with no arithmetic: the kind of each byte, and where
+-- each kind leads from each place of the reading. What the reading holds at a place is left out.
 use mathlib.Core.Path.{_≡_}
 use mathlib.Core.Bool.{false, cond}
 use mathlib.Core.List.{List, [], _∷_}
@@ -20,6 +20,12 @@ abbrev pub formOf : Reading → Form
 formOf R.Blank = F.Blank
 formOf (R.Number v) = F.Number
 formOf (R.Refused n) = F.Malformed
+
+-- document 01's number for each form
+abbrev pub refusalOf : Form → ℕ
+refusalOf F.Blank = 0
+refusalOf F.Number = 0
+refusalOf F.Malformed = 15
 
 -- ---- the kinds and the places by number
 

@@ -1,4 +1,5 @@
-// Reads number fields from standard input, a line each, and says what each reads to: `145 e-3` is 145 times ten to the -3.
+// Reads number fields from standard input, a line each, and says what each reads to: `145 e-3` is 145 times ten to the
+// power -3.
 ghost use Prim.Native.Nat.{_≤_};
 ghost use lib.ListN.{length};
 use libc::STDIN_FILENO;

@@ -1,4 +1,5 @@
--- A number that columns say stays small. No byte says more than 207 = 9 * 23, so i columns say at most 23 * (10 ^ i - 1).
+-- A number that columns say stays small: no byte says more than 207 = 9 * 23, so i columns say at most
+-- 23 * (10 ^ i - 1).
 -- Assumes nothing.
 use Prim.Native.Nat.{ℕ, _+_, _*_, _^_, _≤_}
 use mathlib.Core.Path.{_≡_}

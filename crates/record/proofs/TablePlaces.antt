@@ -26,5 +26,6 @@ module _ (section : RecordNo) (columns : ℕ) (line : LineNo) (column : ℕ) whe
     -- what `place_of` asks, for a section whose last record has a number of 32 bits
     pub in-table : section .0 + (2 + lines) * recordsFor columns < 4294967296 → InTable section columns line column
     in-table h =
-        let u : placeOf section columns line column .at .0 ≤ section .0 + (2 + lines) * recordsFor columns = place-upto in
+        let u : placeOf section columns line column .at .0 ≤ section .0 + (2 + lines) * recordsFor columns
+        = place-upto in
         record { line-from = from; column-from = first; number = omega (arith, u, h) }

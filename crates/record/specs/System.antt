@@ -6,7 +6,7 @@ use lib.Dec.{eqb}
 use lib.ListN.{getD}
 use Rattle.laws.specs.Search.{first}
 use Rattle.record.specs.Text.{within, isDigit, isCapital}
-use Rattle.record.specs.Word.{filledAt, blankTo}
+use Rattle.record.specs.Word.{filledFrom, blankTo}
 use Rattle.record.specs.declared.system.Count.{Count}
 use Rattle.record.specs.declared.system.Count.the-variants.{Number, Bad}
 
@@ -31,7 +31,7 @@ numberIn f i (suc n) = numberIn f i n * 10 + digitOf (getD f (i + n) 0)
 
 -- the first filled of w columns, or w
 abbrev pub startOf : ℕ → List ℕ → ℕ
-startOf w f = first (filledAt f) 0 w
+startOf w f = filledFrom w f 0
 
 -- a whole number in w columns: at least one digit, so all blanks are none
 unfoldable pub integerOf : ℕ → List ℕ → Count

@@ -15,9 +15,13 @@ blankAt f i = isBlank (getD f i 0)
 abbrev pub filledAt : List ℕ → ℕ → Bool
 filledAt f i = not (blankAt f i)
 
+-- the first filled one of the columns from i up to w, or w
+abbrev pub filledFrom : ℕ → List ℕ → ℕ → ℕ
+filledFrom w f i = first (filledAt f) i (w - i)
+
 -- the first w columns are blank
 unfoldable pub blankTo : ℕ → List ℕ → Bool
-blankTo w f = eqb (first (filledAt f) 0 w) w
+blankTo w f = eqb (filledFrom w f 0) w
 
 abbrev pub differAt : List ℕ → List ℕ → ℕ → Bool
 differAt a b i = not (eqb (getD a i 0) (getD b i 0))
@@ -31,10 +35,6 @@ equalTo w a b = eqb (first (differAt a b) 0 w) w
 -- how many columns stand before the first blank, of a place of w columns
 abbrev pub wordEnd : ℕ → List ℕ → ℕ
 wordEnd w f = first (blankAt f) 0 w
-
--- the first filled column from i on, or w
-abbrev pub filledFrom : ℕ → List ℕ → ℕ → ℕ
-filledFrom w f i = first (filledAt f) i (w - i)
 
 unfoldable pub isWord : ℕ → List ℕ → Bool
 isWord w f = not (eqb (wordEnd w f) 0) && eqb (filledFrom w f (wordEnd w f)) w

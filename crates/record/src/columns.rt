@@ -1,7 +1,8 @@
 // Where things stand: record numbers, line numbers, and how many records stand before a record.
 ghost use mathlib.Core.Path.{_≡_};
 ghost use Prim.Native.Nat.{ℕ};
-ghost use Rattle.record.specs.Columns.{Whole, hasLineFeed, recordOf, offsetOf, Counted, recordsFor, placeOf, InTable};
+ghost use Rattle.record.specs.Columns.{Whole, hasLineFeed, recordOf, offsetOf};
+ghost use Rattle.record.specs.Columns.{Counted, recordsFor, placeOf, InTable};
 
 pub struct RecordNo(pub u32);
 

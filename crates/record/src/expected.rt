@@ -3,7 +3,8 @@ ghost use mathlib.Core.Path.{_≡_};
 ghost use Prim.Native.Nat.{ℕ};
 ghost use Rattle.record.specs.Columns.{Whole};
 ghost use Rattle.record.specs.Word.{equalTo};
-ghost use Rattle.record.specs.Expected.{accessionOf, identificationOf, sequenceOf, inDigits, identificationFor, entryAccession, subentIdentification};
+ghost use Rattle.record.specs.Expected.{accessionOf, identificationOf, sequenceOf, inDigits};
+ghost use Rattle.record.specs.Expected.{identificationFor, entryAccession, subentIdentification};
 use crate::word::equal_to;
 
 // Columns 67 to 71.

@@ -3,29 +3,16 @@ ghost use mathlib.Core.Path.{_≡_};
 ghost use Prim.Native.Nat.{ℕ, _+_, _*_, _^_, _≤_};
 ghost use mathlib.Core.Bool.{_||_};
 ghost use Rattle.record.specs.Text.{within, isCapital, isDigit};
-ghost use Rattle.record.specs.System.{digitOf, digitsIn, numberIn, startOf, countOf, isCount, numberOf, isDate, isAccession, isEntryN1, isSubentN1, subentryOf};
+ghost use Rattle.record.specs.System.{digitOf, digitsIn, numberIn, countOf, isCount, numberOf};
+ghost use Rattle.record.specs.System.{isDate, isAccession, isEntryN1, isSubentN1, subentryOf};
 use crate::word::blank_to;
+use crate::word::filled_from;
 use crate::word::is_within;
 
 // A whole number written as blanks, then digits up to the last column; or a field that is none.
 pub enum Count {
     Number(u64),
     Bad,
-}
-
-// The first filled column of a field, or 11.
-fn start_of(f: [u8; 11]) -> usize
-    ensures { λ r. ⌜ r ≡ startOf 11 f ⌝ }
-    ensures { λ r. ⌜ r ≤ 11 ⌝ }
-{
-    let mut i = 0;
-    while i < 11 {
-        if f[i] != b' ' {
-            return i;
-        }
-        i += 1;
-    }
-    11
 }
 
 // Whether a field is a count.
@@ -96,7 +83,7 @@ fn number_in(f: [u8; 11], from: usize, n: usize) -> u64
 pub fn count_of(f: [u8; 11]) -> Count
     ensures { λ r. ⌜ r ≡ countOf f ⌝ }
 {
-    let start = start_of(f);
+    let start = filled_from(f, 0, 11);
     if start == 11 {
         return Count::Bad;
     }

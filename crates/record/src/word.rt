@@ -4,21 +4,32 @@ ghost use Prim.Native.Nat.{ℕ, _≤_};
 ghost use lib.ListN.{length};
 ghost use Rattle.record.specs.Text.{within};
 ghost use Rattle.record.specs.Fields.{firstField};
-ghost use Rattle.record.specs.Word.{blankTo, equalTo, wordEnd, filledFrom, isWord, isPointer, badPointer, isUnit, pointerFault, headingFault, unitFault};
+ghost use Rattle.record.specs.Word.{blankTo, equalTo, wordEnd, filledFrom, isWord, isPointer};
+ghost use Rattle.record.specs.Word.{badPointer, isUnit, pointerFault, headingFault, unitFault};
+
+// The first filled one of the columns of a field from `from` up to `w`, or `w`.
+pub(crate) fn filled_from(f: [u8; 11], from: usize, w: usize) -> usize
+    requires { ⌜ from ≤ w ⌝ }
+    requires { ⌜ w ≤ 11 ⌝ }
+    ensures { λ r. ⌜ r ≡ filledFrom w f from ⌝ }
+    ensures { λ r. ⌜ r ≤ w ⌝ }
+{
+    let mut i = from;
+    while i < w {
+        if f[i] != b' ' {
+            return i;
+        }
+        i += 1;
+    }
+    w
+}
 
 // Whether the first `w` columns of a field are blank.
 pub(crate) fn blank_to(f: [u8; 11], w: usize) -> bool
     requires { ⌜ w ≤ 11 ⌝ }
     ensures { λ r. ⌜ r ≡ blankTo w f ⌝ }
 {
-    let mut i = 0;
-    while i < w {
-        if f[i] != b' ' {
-            return false;
-        }
-        i += 1;
-    }
-    true
+    filled_from(f, 0, w) == w
 }
 
 // Whether a field is blank.
@@ -80,21 +91,6 @@ fn word_end(f: [u8; 11]) -> usize
     10
 }
 
-// The first filled one of ten columns from `from` on, or 10.
-fn filled_from(f: [u8; 11], from: usize) -> usize
-    requires { ⌜ from ≤ 10 ⌝ }
-    ensures { λ r. ⌜ r ≡ filledFrom 10 f from ⌝ }
-{
-    let mut i = from;
-    while i < 10 {
-        if f[i] != b' ' {
-            return i;
-        }
-        i += 1;
-    }
-    10
-}
-
 // Whether columns 1 to 10 are a word.
 pub fn is_word(f: [u8; 11]) -> bool
     ensures { λ r. ⌜ r ≡ isWord 10 f ⌝ }
@@ -103,7 +99,7 @@ pub fn is_word(f: [u8; 11]) -> bool
     if end == 0 {
         return false;
     }
-    filled_from(f, end) == 10
+    filled_from(f, end, 10) == 10
 }
 
 // Whether `low <= b <= high`.

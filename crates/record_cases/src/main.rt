@@ -1,5 +1,5 @@
-// Says of each record of the input what the record layer says of it, a line for each. Column 80 tells how many of the six
-// fields are to be taken as used.
+// Says of each record of the input what the record layer says of it, a line for each. Column 80 tells how many of the
+// six fields are to be taken as used.
 ghost use Prim.Native.Nat.{_≤_};
 ghost use Rattle.number.specs.Form.{Tables};
 ghost use Rattle.record.specs.Class.{ClassesLent};

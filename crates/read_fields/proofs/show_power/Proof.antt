@@ -18,7 +18,11 @@ write-all-requires : tie.Need-write-all-requires
 write-all-requires c κs = search needs
 
 cast-print-decimal : tie.Need-cast-print-decimal
-cast-print-decimal c = let (n, e, l) = below (c .before .before .before .args .p) (c .before .before .before .fits .p) (c .before .before .if1 .taken) in
+cast-print-decimal c =
+    let args = c .before .before .before .args in
+    let fits-call = c .before .before .before .fits in
+    let if1 = c .before .before .if1 in
+    let (n, e, l) = below (args .p) (fits-call .p) (if1 .taken) in
     rw (e, size-made n l) (tt, record { fits = omega arith })
 
 print-decimal-requires : tie.Need-print-decimal-requires

@@ -1,6 +1,7 @@
 use Rattle.canonical.proofs.Layouts.{few-behind}
 use Prim.Native.Nat.{_*_, _-_}
-use Rattle.canonical.proofs.Digits.{counts, ten-pos}
+use Rattle.number.proofs.Tens.{ten-pos}
+use Rattle.canonical.proofs.Digits.{counts}
 use Rattle.canonical.proofs.Layouts.{down-all, down-some, least-of, most-of}
 use Rattle.canonical.specs.Closed.{count}
 use native.Mathlib.Omega.{arith}

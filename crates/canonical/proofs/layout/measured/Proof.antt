@@ -2,7 +2,7 @@ use Prim.Native.Nat.{ℕ}
 use Rattle.number.proofs.Tens.{ten-more}
 use mathlib.Core.Path.{_∙_, ap}
 use Prim.Native.Nat.{_-_, _<_, _^_, _≤_}
-use Rattle.canonical.proofs.Digits.{ten, ten-le}
+use Rattle.number.proofs.Tens.{ten-suc, ten-le}
 use Rattle.canonical.proofs.Numbers.{count-is, suc-less}
 use Rattle.laws.proofs.Table.{at}
 use mathlib.Core.Path.{_≡_, refl}
@@ -30,7 +30,7 @@ add-t6 c = omega arith
 
 -- src/layout.rt:33:13
 returns : tie.Need-returns Inv-loop μ-loop
-returns c = let e = count-is (c .before .before .loop .i) (c .before .before .before .args .v) (c .before .before .loop .inv .1 .1) (omega (arith, c .before .before .loop .inv .1 .0, ten (c .before .before .loop .i))) in
+returns c = let e = count-is (c .before .before .loop .i) (c .before .before .before .args .v) (c .before .before .loop .inv .1 .1) (omega (arith, c .before .before .loop .inv .1 .0, ten-suc (c .before .before .loop .i))) in
     (rw (e, add-one (c .before .before .loop .i)) refl, rw (e, suc-less (c .before .before .loop .i)) (c .before .before .loop .inv .1 .0))
 
 -- src/layout.rt:38:17

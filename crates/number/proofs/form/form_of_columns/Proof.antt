@@ -24,7 +24,11 @@ shared-slice-read-next-place : tie.Need-shared-slice-read-next-place Inv-loop μ
 shared-slice-read-next-place c = omega arith
 
 next-place-requires : tie.Need-next-place-requires Inv-loop μ-loop
-next-place-requires c κs = (c .before .before .before .before .pre, rw (c .before .before .loop .inv .1) (place-small (scanOf Lead (take (c .before .before .loop .i) (c .before .before .before .before .args .s .now)))))
+next-place-requires c κs =
+    let pre = c .before .before .before .before .pre in
+    let args = c .before .before .before .before .args in
+    let loop = c .before .before .loop in
+    (pre, rw (loop .inv .1) (place-small (scanOf Lead (take (loop .i) (args .s .now)))))
 
 add-i : tie.Need-add-i Inv-loop μ-loop
 add-i c = omega arith
@@ -33,10 +37,14 @@ loop-less : tie.Need-loop-less Inv-loop μ-loop
 loop-less c = omega arith
 
 loop-again : tie.Need-loop-again Inv-loop μ-loop
-loop-again c = let s = c .before .before .before .before .before .args .s .now in
-    let i = c .before .before .before .loop .i in (
+loop-again c =
+    let args = c .before .before .before .before .before .args in
+    let loop = c .before .before .before .loop in
+    let s = args .s .now in
+    let i = loop .i in (
       omega arith,
-      c .next-place .ensures (scanOf Lead (take i s)) (c .before .before .before .loop .inv .1) ∙ ap placeNumber (sym (scan-take s Lead i (omega arith))),
+      c .next-place .ensures (scanOf Lead (take i s)) (loop .inv .1)
+          ∙ ap placeNumber (sym (scan-take s Lead i (omega arith))),
     )
 
 form-at-requires : tie.Need-form-at-requires Inv-loop μ-loop
@@ -44,9 +52,12 @@ form-at-requires c κs = search needs
 
 returns : tie.Need-returns Inv-loop μ-loop
 unfolding readField
-returns c = let s = c .before .before .before .before .args .s .now in
-    let i = c .before .before .loop .i in
-    let e = c .before .before .loop .inv .1 ∙ ap (λ (l : List ℕ). placeNumber (scanOf Lead l)) (take-all i s (omega arith)) in
+returns c =
+    let args = c .before .before .before .before .args in
+    let loop = c .before .before .loop in
+    let s = args .s .now in
+    let i = loop .i in
+    let e = loop .inv .1 ∙ ap (λ (l : List ℕ). placeNumber (scanOf Lead l)) (take-all i s (omega arith)) in
     c .form-at .ensures ∙ ap endOf e ∙ ends (scanOf Lead s)
 
 pub form-of-columns-spec : {M : Type 1} → statement M

@@ -13,19 +13,31 @@ mul-at : tie.Need-mul-at
 mul-at c = search needs
 
 cast-at : tie.Need-cast-at
-cast-at c = let h : getD (c .before .args .kinds .now) (c .before .args .b) 0 < 6 = rw (c .before .pre .0 .kinds-right) (kind-below (c .before .args .b) (omega arith)) in
+cast-at c =
+    let args = c .before .args in
+    let pre = c .before .pre in
+    let h : getD (args .kinds .now) (args .b) 0 < 6 = rw (pre .0 .kinds-right) (kind-below (args .b) (omega arith)) in
     omega arith
 
 add-at : tie.Need-add-at
-add-at c = let h : getD (c .before .args .kinds .now) (c .before .args .b) 0 < 6 = rw (c .before .pre .0 .kinds-right) (kind-below (c .before .args .b) (omega arith)) in
+add-at c =
+    let args = c .before .args in
+    let pre = c .before .pre in
+    let h : getD (args .kinds .now) (args .b) 0 < 6 = rw (pre .0 .kinds-right) (kind-below (args .b) (omega arith)) in
     omega arith
 
 element-copy-out-result : tie.Need-element-copy-out-result
-element-copy-out-result c = let h : getD (c .before .args .kinds .now) (c .before .args .b) 0 < 6 = rw (c .before .pre .0 .kinds-right) (kind-below (c .before .args .b) (omega arith)) in
+element-copy-out-result c =
+    let args = c .before .args in
+    let pre = c .before .pre in
+    let h : getD (args .kinds .now) (args .b) 0 < 6 = rw (pre .0 .kinds-right) (kind-below (args .b) (omega arith)) in
     omega arith
 
 returns : tie.Need-returns
-returns c = λ t e. rw (c .before .before .pre .0 .kinds-right, c .before .before .pre .0 .nexts-right, e) (next-right t (c .before .before .args .b) (omega arith))
+returns c =
+    let pre = c .before .before .pre in
+    let args = c .before .before .args in
+    λ t e. rw (pre .0 .kinds-right, pre .0 .nexts-right, e) (next-right t (args .b) (omega arith))
 
 pub next-place-spec : {M : Type 1} → statement M
 next-place-spec =

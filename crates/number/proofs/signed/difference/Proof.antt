@@ -12,7 +12,9 @@ cast-result-2 : tie.Need-cast-result-2
 cast-result-2 c = search needs
 
 sub-result : tie.Need-sub-result
-sub-result c = rw (toZ-pos w32 (c .args .up) (c .pre .0), toZ-pos w32 (c .args .down) (c .pre .1)) (diff-fits _ _ (c .pre .0) (c .pre .1))
+sub-result c =
+    rw (toZ-pos w32 (c .args .up) (c .pre .0), toZ-pos w32 (c .args .down) (c .pre .1))
+    (diff-fits _ _ (c .pre .0) (c .pre .1))
 
 returns : tie.Need-returns
 returns c = diff-made (c .args .up) (c .args .down) (c .pre .0) (c .pre .1)

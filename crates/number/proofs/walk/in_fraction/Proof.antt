@@ -12,8 +12,10 @@ use Rattle.number.proofs.walk.in_fraction.Statement.{statement}
 use Rattle.number.proofs.walk.in_fraction.Tie as tie
 
 abbrev Inv-loop : tie.InvT-loop
-Inv-loop s from first behind number₀ places₀ i₀ number places i = (from ≤ i) × (i ≤ length s) × (number < 10 ^ i) × (places ≤ i)
-    × ((g : Bool) → readFrom (Fraction (mantissa g first behind)) from s ≡ readFrom (Fraction (mantissa g number places)) i s)
+Inv-loop s from first behind number₀ places₀ i₀ number places i =
+    (from ≤ i) × (i ≤ length s) × (number < 10 ^ i) × (places ≤ i)
+    × ((g : Bool) →
+    readFrom (Fraction (mantissa g first behind)) from s ≡ readFrom (Fraction (mantissa g number places)) i s)
 
 abbrev μ-loop : tie.MeasureT-loop
 μ-loop s from first behind number₀ places₀ i₀ number places i = length s - i
@@ -28,20 +30,34 @@ is-digit-requires : tie.Need-is-digit-requires Inv-loop μ-loop
 is-digit-requires c κs = search needs
 
 sub-d : tie.Need-sub-d Inv-loop μ-loop
-sub-d c = digit-in (getD (c .before .before .before .before .before .before .args .s .now) (c .before .before .before .before .loop .i) 0) (sym (c .before .is-digit .ensures) ∙ c .if1 .taken) .0
+sub-d c =
+    let args = c .before .before .before .before .before .before .args in
+    let loop = c .before .before .before .before .loop in
+    let is-digit-call = c .before .is-digit in
+    digit-in (getD (args .s .now) (loop .i) 0) (sym (is-digit-call .ensures) ∙ c .if1 .taken) .0
 
 cast-d : tie.Need-cast-d Inv-loop μ-loop
-cast-d c = let d = digit-in (getD (c .before .before .before .before .before .before .args .s .now) (c .before .before .before .before .loop .i) 0) (sym (c .before .is-digit .ensures) ∙ c .if1 .taken) in
+cast-d c =
+    let args = c .before .before .before .before .before .before .args in
+    let loop = c .before .before .before .before .loop in
+    let is-digit-call = c .before .is-digit in
+    let d = digit-in (getD (args .s .now) (loop .i) 0) (sym (is-digit-call .ensures) ∙ c .if1 .taken) in
     omega arith
 
 mul-number : tie.Need-mul-number Inv-loop μ-loop
-mul-number c = let p = ten-le {i = c .before .before .before .before .loop .i} {j = 10} (omega arith) in
-    omega (arith, c .before .before .before .before .loop .inv .2)
+mul-number c =
+    let loop = c .before .before .before .before .loop in
+    let p = ten-le {i = loop .i} {j = 10} (omega arith) in
+    omega (arith, loop .inv .2)
 
 add-number : tie.Need-add-number Inv-loop μ-loop
-add-number c = let d = digit-in (getD (c .before .before .before .before .before .before .args .s .now) (c .before .before .before .before .loop .i) 0) (sym (c .before .is-digit .ensures) ∙ c .if1 .taken) in
-    let p = ten-le {i = c .before .before .before .before .loop .i} {j = 10} (omega arith) in
-    omega (arith, c .before .before .before .before .loop .inv .2)
+add-number c =
+    let args = c .before .before .before .before .before .before .args in
+    let loop = c .before .before .before .before .loop in
+    let is-digit-call = c .before .is-digit in
+    let d = digit-in (getD (args .s .now) (loop .i) 0) (sym (is-digit-call .ensures) ∙ c .if1 .taken) in
+    let p = ten-le {i = loop .i} {j = 10} (omega arith) in
+    omega (arith, loop .inv .2)
 
 add-places : tie.Need-add-places Inv-loop μ-loop
 add-places c = omega (arith, c .before .before .before .before .loop .inv .3)
@@ -53,30 +69,41 @@ loop-less : tie.Need-loop-less Inv-loop μ-loop
 loop-less c = omega arith
 
 loop-again : tie.Need-loop-again Inv-loop μ-loop
-loop-again c = let s = c .before .before .before .before .before .before .args .s .now in
-    let i = c .before .before .before .before .loop .i in
-    let e = sym (c .before .is-digit .ensures) ∙ c .if1 .taken in
+loop-again c =
+    let args = c .before .before .before .before .before .before .args in
+    let loop = c .before .before .before .before .loop in
+    let is-digit-call = c .before .is-digit in
+    let s = args .s .now in
+    let i = loop .i in
+    let e = sym (is-digit-call .ensures) ∙ c .if1 .taken in
     let d = digit-in (getD s i 0) e in
+    let m : Bool → Mantissa = λ g. mantissa g (loop .number) (loop .places) in
     let p = ten-more i in
     let y = is-digit (getD s i 0) e in (
       omega arith,
       omega arith,
-      omega (arith, c .before .before .before .before .loop .inv .2),
-      omega (arith, c .before .before .before .before .loop .inv .3),
-      λ g. c .before .before .before .before .loop .inv .4 g
-          ∙ moves s (Fraction (mantissa g (c .before .before .before .before .loop .number) (c .before .before .before .before .loop .places))) i (column digit (getD s i 0 - 48) false) (omega arith) y,
+      omega (arith, loop .inv .2),
+      omega (arith, loop .inv .3),
+      λ g. loop .inv .4 g
+          ∙ moves s (Fraction (m g)) i (column digit (getD s i 0 - 48) false) (omega arith) y,
     )
 
 returns : tie.Need-returns Inv-loop μ-loop
-returns c = let s = c .before .before .before .before .before .before .args .s .now in
-    let i = c .before .before .before .before .loop .i in
-    let m : Bool → Mantissa = λ g. mantissa g (c .before .before .before .before .loop .number) (c .before .before .before .before .loop .places) in
-    let e = sym (c .before .is-digit .ensures) ∙ c .if1 .left in
+returns c =
+    let args = c .before .before .before .before .before .before .args in
+    let loop = c .before .before .before .before .loop in
+    let is-digit-call = c .before .is-digit in
+    let s = args .s .now in
+    let i = loop .i in
+    let m : Bool → Mantissa = λ g. mantissa g (loop .number) (loop .places) in
+    let e = sym (is-digit-call .ensures) ∙ c .if1 .left in
     record {
-      reads = λ g. c .before .before .before .before .loop .inv .4 g ∙ alike s (Fraction (m g)) (Gap (m g)) i (omega arith) (fraction-alike (getD s i 0) (m g) e);
-      past = c .before .before .before .before .loop .inv .0;
-      inside = c .before .before .before .before .loop .inv .1;
-      places = c .before .before .before .before .loop .inv .3;
+      reads =
+          λ g. loop .inv .4 g
+          ∙ alike s (Fraction (m g)) (Gap (m g)) i (omega arith) (fraction-alike (getD s i 0) (m g) e);
+      past = loop .inv .0;
+      inside = loop .inv .1;
+      places = loop .inv .3;
     }
 
 returns-2 : tie.Need-returns-2 Inv-loop μ-loop

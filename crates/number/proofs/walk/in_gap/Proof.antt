@@ -27,48 +27,73 @@ add-in-mark : tie.Need-add-in-mark Inv-loop μ-loop
 add-in-mark c = omega arith
 
 in-mark-requires : tie.Need-in-mark-requires Inv-loop μ-loop
-in-mark-requires c κs = (record { short = c .before .before .before .before .before .before .pre .0 .short; inside = omega arith }, omega (arith, c .before .before .before .before .before .before .pre .1))
+in-mark-requires c κs =
+    let pre = c .before .before .before .before .before .before .pre in
+    (record { short = pre .0 .short; inside = omega arith }, omega (arith, pre .1))
 
 returns : tie.Need-returns Inv-loop μ-loop
-returns c = let s = c .before .before .before .before .before .before .before .args .s .now in
-    let i = c .before .before .before .before .before .loop .i in
-    raises-on s (c .before .before .before .before .before .before .before .args .from) (i + 1) _ _ _ (c .in-mark .ensures)
-    (λ m. c .before .before .before .before .before .loop .inv .2 m ∙ moves s (Gap m) i (column mark 0 false) (omega arith) (is-mark (getD s i 0) (c .before .if2 .taken)))
+returns c =
+    let args = c .before .before .before .before .before .before .before .args in
+    let loop = c .before .before .before .before .before .loop in
+    let if2 = c .before .if2 in
+    let s = args .s .now in
+    let i = loop .i in
+    raises-on s (args .from) (i + 1) _ _ _ (c .in-mark .ensures)
+    (λ m. loop .inv .2 m ∙ moves s (Gap m) i (column mark 0 false) (omega arith) (is-mark (getD s i 0) (if2 .taken)))
 
 add-in-power-sign : tie.Need-add-in-power-sign Inv-loop μ-loop
 add-in-power-sign c = omega arith
 
 in-power-sign-requires : tie.Need-in-power-sign-requires Inv-loop μ-loop
-in-power-sign-requires c κs = (record { short = c .before .before .before .before .before .before .before .pre .0 .short; inside = omega arith }, omega (arith, c .before .before .before .before .before .before .before .pre .1))
+in-power-sign-requires c κs =
+    let pre = c .before .before .before .before .before .before .before .pre in
+    (record { short = pre .0 .short; inside = omega arith }, omega (arith, pre .1))
 
 returns-2 : tie.Need-returns-2 Inv-loop μ-loop
-returns-2 c = let s = c .before .before .before .before .before .before .before .before .args .s .now in
-    let i = c .before .before .before .before .before .before .loop .i in
-    raises-on s (c .before .before .before .before .before .before .before .before .args .from) (i + 1) _ _ _ (c .in-power-sign .ensures)
-    (λ m. c .before .before .before .before .before .before .loop .inv .2 m ∙ moves s (Gap m) i (column sign 0 true) (omega arith) (is-minus (getD s i 0) (c .before .if3 .taken)))
+returns-2 c =
+    let args = c .before .before .before .before .before .before .before .before .args in
+    let loop = c .before .before .before .before .before .before .loop in
+    let if3 = c .before .if3 in
+    let s = args .s .now in
+    let i = loop .i in
+    raises-on s (args .from) (i + 1) _ _ _ (c .in-power-sign .ensures)
+    (λ m. loop .inv .2 m ∙ moves s (Gap m) i (column sign 0 true) (omega arith) (is-minus (getD s i 0) (if3 .taken)))
 
 add-in-power-sign-2 : tie.Need-add-in-power-sign-2 Inv-loop μ-loop
 add-in-power-sign-2 c = omega arith
 
 in-power-sign-requires-2 : tie.Need-in-power-sign-requires-2 Inv-loop μ-loop
-in-power-sign-requires-2 c κs = (record { short = c .before .before .before .before .before .before .before .before .pre .0 .short; inside = omega arith }, omega (arith, c .before .before .before .before .before .before .before .before .pre .1))
+in-power-sign-requires-2 c κs =
+    let pre = c .before .before .before .before .before .before .before .before .pre in
+    (record { short = pre .0 .short; inside = omega arith }, omega (arith, pre .1))
 
 returns-3 : tie.Need-returns-3 Inv-loop μ-loop
-returns-3 c = let s = c .before .before .before .before .before .before .before .before .before .args .s .now in
-    let i = c .before .before .before .before .before .before .before .loop .i in
-    raises-on s (c .before .before .before .before .before .before .before .before .before .args .from) (i + 1) _ _ _ (c .in-power-sign2 .ensures)
-    (λ m. c .before .before .before .before .before .before .before .loop .inv .2 m ∙ moves s (Gap m) i (column sign 0 false) (omega arith) (is-plus (getD s i 0) (c .before .if4 .taken)))
+returns-3 c =
+    let args = c .before .before .before .before .before .before .before .before .before .args in
+    let loop = c .before .before .before .before .before .before .before .loop in
+    let if4 = c .before .if4 in
+    let s = args .s .now in
+    let i = loop .i in
+    raises-on s (args .from) (i + 1) _ _ _ (c .in-power-sign2 .ensures)
+    (λ m. loop .inv .2 m ∙ moves s (Gap m) i (column sign 0 false) (omega arith) (is-plus (getD s i 0) (if4 .taken)))
 
 bad-exponent-requires : tie.Need-bad-exponent-requires Inv-loop μ-loop
 bad-exponent-requires c κs = search needs
 
 returns-4 : tie.Need-returns-4 Inv-loop μ-loop
-returns-4 c = let s = c .before .before .before .before .before .before .before .before .before .args .s .now in
-    let i = c .before .before .before .before .before .before .before .loop .i in
-    raises-none s (c .before .before .before .before .before .before .before .before .before .args .from) _ _ (c .bad-exponent .ensures)
-    (λ m. c .before .before .before .before .before .before .before .loop .inv .2 m
+returns-4 c =
+    let args = c .before .before .before .before .before .before .before .before .before .args in
+    let loop = c .before .before .before .before .before .before .before .loop in
+    let if1 = c .before .before .before .before .if1 in
+    let if2 = c .before .before .before .if2 in
+    let if3 = c .before .before .if3 in
+    let if4 = c .before .if4 in
+    let s = args .s .now in
+    let i = loop .i in
+    raises-none s (args .from) _ _ (c .bad-exponent .ensures)
+    (λ m. loop .inv .2 m
     ∙ stuck s (Gap m) i (omega arith)
-    (bad-gap (getD s i 0) m (c .before .before .before .before .if1 .taken) (c .before .before .before .if2 .left) (c .before .before .if3 .left) (c .before .if4 .left)))
+    (bad-gap (getD s i 0) m (if1 .taken) (if2 .left) (if3 .left) (if4 .left)))
 
 add-i : tie.Need-add-i Inv-loop μ-loop
 add-i c = omega arith
@@ -77,16 +102,22 @@ loop-less : tie.Need-loop-less Inv-loop μ-loop
 loop-less c = omega arith
 
 loop-again : tie.Need-loop-again Inv-loop μ-loop
-loop-again c = let s = c .before .before .before .before .before .args .s .now in
-    let i = c .before .before .before .loop .i in
+loop-again c =
+    let args = c .before .before .before .before .before .args in
+    let loop = c .before .before .before .loop in
+    let s = args .s .now in
+    let i = loop .i in
     let y = is-blank (getD s i 0) (c .if1 .left) in
-    (omega arith, omega arith, λ m. c .before .before .before .loop .inv .2 m ∙ moves s (Gap m) i (column blank 0 false) (omega arith) y)
+    (omega arith, omega arith, λ m. loop .inv .2 m ∙ moves s (Gap m) i (column blank 0 false) (omega arith) y)
 
 returns-5 : tie.Need-returns-5 Inv-loop μ-loop
-returns-5 c = record {
-  reads = λ m. c .before .loop .inv .2 m ∙ over (c .before .before .before .args .s .now) (Gap m) (c .before .loop .i) (omega arith) ∙ ends-gap m;
-  small = omega arith;
-}
+returns-5 c =
+    let args = c .before .before .before .args in
+    let loop = c .before .loop in
+    record {
+      reads = λ m. loop .inv .2 m ∙ over (args .s .now) (Gap m) (loop .i) (omega arith) ∙ ends-gap m;
+      small = omega arith;
+    }
 
 pub in-gap-spec : {M : Type 1} → statement M
 in-gap-spec =

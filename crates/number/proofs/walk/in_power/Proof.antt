@@ -29,20 +29,34 @@ is-digit-requires : tie.Need-is-digit-requires Inv-loop μ-loop
 is-digit-requires c κs = search needs
 
 sub-d : tie.Need-sub-d Inv-loop μ-loop
-sub-d c = digit-in (getD (c .before .before .before .before .before .before .args .s .now) (c .before .before .before .before .loop .i) 0) (sym (c .before .is-digit .ensures) ∙ c .if1 .taken) .0
+sub-d c =
+    let args = c .before .before .before .before .before .before .args in
+    let loop = c .before .before .before .before .loop in
+    let is-digit-call = c .before .is-digit in
+    digit-in (getD (args .s .now) (loop .i) 0) (sym (is-digit-call .ensures) ∙ c .if1 .taken) .0
 
 cast-d : tie.Need-cast-d Inv-loop μ-loop
-cast-d c = let d = digit-in (getD (c .before .before .before .before .before .before .args .s .now) (c .before .before .before .before .loop .i) 0) (sym (c .before .is-digit .ensures) ∙ c .if1 .taken) in
+cast-d c =
+    let args = c .before .before .before .before .before .before .args in
+    let loop = c .before .before .before .before .loop in
+    let is-digit-call = c .before .is-digit in
+    let d = digit-in (getD (args .s .now) (loop .i) 0) (sym (is-digit-call .ensures) ∙ c .if1 .taken) in
     omega arith
 
 mul-size : tie.Need-mul-size Inv-loop μ-loop
-mul-size c = let p = ten-le {i = c .before .before .before .before .loop .i} {j = 10} (omega arith) in
-    omega (arith, c .before .before .before .before .loop .inv .1)
+mul-size c =
+    let loop = c .before .before .before .before .loop in
+    let p = ten-le {i = loop .i} {j = 10} (omega arith) in
+    omega (arith, loop .inv .1)
 
 add-size : tie.Need-add-size Inv-loop μ-loop
-add-size c = let d = digit-in (getD (c .before .before .before .before .before .before .args .s .now) (c .before .before .before .before .loop .i) 0) (sym (c .before .is-digit .ensures) ∙ c .if1 .taken) in
-    let p = ten-le {i = c .before .before .before .before .loop .i} {j = 10} (omega arith) in
-    omega (arith, c .before .before .before .before .loop .inv .1)
+add-size c =
+    let args = c .before .before .before .before .before .before .args in
+    let loop = c .before .before .before .before .loop in
+    let is-digit-call = c .before .is-digit in
+    let d = digit-in (getD (args .s .now) (loop .i) 0) (sym (is-digit-call .ensures) ∙ c .if1 .taken) in
+    let p = ten-le {i = loop .i} {j = 10} (omega arith) in
+    omega (arith, loop .inv .1)
 
 add-i : tie.Need-add-i Inv-loop μ-loop
 add-i c = omega arith
@@ -51,35 +65,47 @@ loop-less : tie.Need-loop-less Inv-loop μ-loop
 loop-less c = omega arith
 
 loop-again : tie.Need-loop-again Inv-loop μ-loop
-loop-again c = let s = c .before .before .before .before .before .before .args .s .now in
-    let i = c .before .before .before .before .loop .i in
-    let e = sym (c .before .is-digit .ensures) ∙ c .if1 .taken in
+loop-again c =
+    let args = c .before .before .before .before .before .before .args in
+    let loop = c .before .before .before .before .loop in
+    let is-digit-call = c .before .is-digit in
+    let s = args .s .now in
+    let i = loop .i in
+    let e = sym (is-digit-call .ensures) ∙ c .if1 .taken in
     let d = digit-in (getD s i 0) e in
     let p = ten-more i in
     let y = is-digit (getD s i 0) e in (
       omega arith,
-      omega (arith, c .before .before .before .before .loop .inv .1),
-      λ m. c .before .before .before .before .loop .inv .2 m
-          ∙ moves s (Power m (c .before .before .before .before .before .before .args .below) (c .before .before .before .before .loop .size)) i (column digit (getD s i 0 - 48) false) (omega arith) y,
+      omega (arith, loop .inv .1),
+      λ m. loop .inv .2 m
+          ∙ moves s (Power m (args .below) (loop .size)) i (column digit (getD s i 0 - 48) false) (omega arith) y,
     )
 
 bad-exponent-requires : tie.Need-bad-exponent-requires Inv-loop μ-loop
 bad-exponent-requires c κs = search needs
 
 returns : tie.Need-returns Inv-loop μ-loop
-returns c = let s = c .before .before .before .before .before .before .before .args .s .now in
-    let i = c .before .before .before .before .before .loop .i in
-    raises-none s (c .before .before .before .before .before .before .before .args .from) _ _ (c .bad-exponent .ensures)
-    (λ m. c .before .before .before .before .before .loop .inv .2 m
-    ∙ stuck s (Power m (c .before .before .before .before .before .before .before .args .below) (c .before .before .before .before .before .loop .size)) i (omega arith)
-    (bad-power (getD s i 0) m (c .before .before .before .before .before .before .before .args .below) (c .before .before .before .before .before .loop .size) (sym (c .before .before .is-digit .ensures) ∙ c .before .if1 .left)))
+returns c =
+    let args = c .before .before .before .before .before .before .before .args in
+    let loop = c .before .before .before .before .before .loop in
+    let is-digit-call = c .before .before .is-digit in
+    let if1 = c .before .if1 in
+    let s = args .s .now in
+    let i = loop .i in
+    raises-none s (args .from) _ _ (c .bad-exponent .ensures)
+    (λ m. loop .inv .2 m
+    ∙ stuck s (Power m (args .below) (loop .size)) i (omega arith)
+    (bad-power (getD s i 0) m (args .below) (loop .size) (sym (is-digit-call .ensures) ∙ if1 .left)))
 
 returns-2 : tie.Need-returns-2 Inv-loop μ-loop
-returns-2 c = let p = ten-le {i = c .before .loop .i} {j = 11} (omega arith) in
-    let t : Mantissa → Scan = λ m. Power m (c .before .before .before .args .below) (c .before .loop .size) in
+returns-2 c =
+    let args = c .before .before .before .args in
+    let loop = c .before .loop in
+    let p = ten-le {i = loop .i} {j = 11} (omega arith) in
+    let t : Mantissa → Scan = λ m. Power m (args .below) (loop .size) in
     record {
-      reads = λ m. c .before .loop .inv .2 m ∙ over (c .before .before .before .args .s .now) (t m) (c .before .loop .i) (omega arith) ∙ ends-power m _ _;
-      small = omega (arith, c .before .loop .inv .1);
+      reads = λ m. loop .inv .2 m ∙ over (args .s .now) (t m) (loop .i) (omega arith) ∙ ends-power m _ _;
+      small = omega (arith, loop .inv .1);
     }
 
 pub in-power-spec : {M : Type 1} → statement M

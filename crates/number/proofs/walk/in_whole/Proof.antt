@@ -28,20 +28,34 @@ is-digit-requires : tie.Need-is-digit-requires Inv-loop μ-loop
 is-digit-requires c κs = search needs
 
 sub-d : tie.Need-sub-d Inv-loop μ-loop
-sub-d c = digit-in (getD (c .before .before .before .before .before .before .args .s .now) (c .before .before .before .before .loop .i) 0) (sym (c .before .is-digit .ensures) ∙ c .if1 .taken) .0
+sub-d c =
+    let args = c .before .before .before .before .before .before .args in
+    let loop = c .before .before .before .before .loop in
+    let is-digit-call = c .before .is-digit in
+    digit-in (getD (args .s .now) (loop .i) 0) (sym (is-digit-call .ensures) ∙ c .if1 .taken) .0
 
 cast-d : tie.Need-cast-d Inv-loop μ-loop
-cast-d c = let d = digit-in (getD (c .before .before .before .before .before .before .args .s .now) (c .before .before .before .before .loop .i) 0) (sym (c .before .is-digit .ensures) ∙ c .if1 .taken) in
+cast-d c =
+    let args = c .before .before .before .before .before .before .args in
+    let loop = c .before .before .before .before .loop in
+    let is-digit-call = c .before .is-digit in
+    let d = digit-in (getD (args .s .now) (loop .i) 0) (sym (is-digit-call .ensures) ∙ c .if1 .taken) in
     omega arith
 
 mul-number : tie.Need-mul-number Inv-loop μ-loop
-mul-number c = let p = ten-le {i = c .before .before .before .before .loop .i} {j = 10} (omega arith) in
-    omega (arith, c .before .before .before .before .loop .inv .2)
+mul-number c =
+    let loop = c .before .before .before .before .loop in
+    let p = ten-le {i = loop .i} {j = 10} (omega arith) in
+    omega (arith, loop .inv .2)
 
 add-number : tie.Need-add-number Inv-loop μ-loop
-add-number c = let d = digit-in (getD (c .before .before .before .before .before .before .args .s .now) (c .before .before .before .before .loop .i) 0) (sym (c .before .is-digit .ensures) ∙ c .if1 .taken) in
-    let p = ten-le {i = c .before .before .before .before .loop .i} {j = 10} (omega arith) in
-    omega (arith, c .before .before .before .before .loop .inv .2)
+add-number c =
+    let args = c .before .before .before .before .before .before .args in
+    let loop = c .before .before .before .before .loop in
+    let is-digit-call = c .before .is-digit in
+    let d = digit-in (getD (args .s .now) (loop .i) 0) (sym (is-digit-call .ensures) ∙ c .if1 .taken) in
+    let p = ten-le {i = loop .i} {j = 10} (omega arith) in
+    omega (arith, loop .inv .2)
 
 add-i : tie.Need-add-i Inv-loop μ-loop
 add-i c = omega arith
@@ -50,52 +64,70 @@ loop-less : tie.Need-loop-less Inv-loop μ-loop
 loop-less c = omega arith
 
 loop-again : tie.Need-loop-again Inv-loop μ-loop
-loop-again c = let s = c .before .before .before .before .before .before .args .s .now in
-    let i = c .before .before .before .before .loop .i in
-    let e = sym (c .before .is-digit .ensures) ∙ c .if1 .taken in
+loop-again c =
+    let args = c .before .before .before .before .before .before .args in
+    let loop = c .before .before .before .before .loop in
+    let is-digit-call = c .before .is-digit in
+    let s = args .s .now in
+    let i = loop .i in
+    let e = sym (is-digit-call .ensures) ∙ c .if1 .taken in
     let d = digit-in (getD s i 0) e in
     let p = ten-more i in
     let y = is-digit (getD s i 0) e in (
       omega arith,
       omega arith,
-      omega (arith, c .before .before .before .before .loop .inv .2),
-      λ g. c .before .before .before .before .loop .inv .3 g
-          ∙ moves s (Whole g (c .before .before .before .before .loop .number)) i (column digit (getD s i 0 - 48) false) (omega arith) y,
+      omega (arith, loop .inv .2),
+      λ g. loop .inv .3 g
+          ∙ moves s (Whole g (loop .number)) i (column digit (getD s i 0 - 48) false) (omega arith) y,
     )
 
 add-t16 : tie.Need-add-t16 Inv-loop μ-loop
 add-t16 c = search needs
 
 returns : tie.Need-returns Inv-loop μ-loop
-returns c = let s = c .before .before .before .before .before .before .before .args .s .now in
-    let i = c .before .before .before .before .before .loop .i in
+returns c =
+    let args = c .before .before .before .before .before .before .before .args in
+    let pre = c .before .before .before .before .before .before .before .pre in
+    let loop = c .before .before .before .before .before .loop in
+    let s = args .s .now in
+    let i = loop .i in
     let p = ten-more i in
     let y = is-point (getD s i 0) (c .if2 .taken) in
     record {
-      reads = λ g. c .before .before .before .before .before .loop .inv .3 g ∙ moves s (Whole g (c .before .before .before .before .before .loop .number)) i (column point 0 false) (omega arith) y;
+      reads = λ g. loop .inv .3 g ∙ moves s (Whole g (loop .number)) i (column point 0 false) (omega arith) y;
       inside = omega arith;
-      number = omega (arith, c .before .before .before .before .before .loop .inv .2);
+      number = omega (arith, loop .inv .2);
       places = omega arith;
-      wide = λ _. omega (arith, c .before .before .before .before .before .loop .inv .0, c .before .before .before .before .before .before .before .pre .1 .1);
+      wide = λ _. omega (arith, loop .inv .0, pre .1 .1);
     }
 
 bad-front-requires : tie.Need-bad-front-requires Inv-loop μ-loop
 bad-front-requires c κs = search needs
 
 returns-2 : tie.Need-returns-2 Inv-loop μ-loop
-returns-2 c = let s = c .before .before .before .before .before .before .before .before .args .s .now in
-    let i = c .before .before .before .before .before .before .loop .i in
-    let e = sym (c .before .before .before .is-digit .ensures) ∙ c .before .before .if1 .left in
-    points-none s (c .before .before .before .before .before .before .before .before .args .from) _ _ (c .bad-front .ensures)
-    (λ g. c .before .before .before .before .before .before .loop .inv .3 g ∙ stuck s (Whole g (c .before .before .before .before .before .before .loop .number)) i (omega arith) (bad-whole (getD s i 0) g (c .before .before .before .before .before .before .loop .number) e (c .before .if2 .left)))
+returns-2 c =
+    let args = c .before .before .before .before .before .before .before .before .args in
+    let loop = c .before .before .before .before .before .before .loop in
+    let is-digit-call = c .before .before .before .is-digit in
+    let if1 = c .before .before .if1 in
+    let if2 = c .before .if2 in
+    let s = args .s .now in
+    let i = loop .i in
+    let e = sym (is-digit-call .ensures) ∙ if1 .left in
+    points-none s (args .from) _ _ (c .bad-front .ensures)
+    (λ g. loop .inv .3 g
+    ∙ stuck s (Whole g (loop .number)) i (omega arith) (bad-whole (getD s i 0) g (loop .number) e (if2 .left)))
 
 bad-front-requires-2 : tie.Need-bad-front-requires-2 Inv-loop μ-loop
 bad-front-requires-2 c κs = search needs
 
 returns-3 : tie.Need-returns-3 Inv-loop μ-loop
 unfolding finish
-returns-3 c = points-none (c .before .before .before .before .args .s .now) (c .before .before .before .before .args .from) _ _ (c .bad-front2 .ensures)
-    (λ g. c .before .before .loop .inv .3 g ∙ over (c .before .before .before .before .args .s .now) (Whole g (c .before .before .loop .number)) (c .before .before .loop .i) (omega arith))
+returns-3 c =
+    let args = c .before .before .before .before .args in
+    let loop = c .before .before .loop in
+    points-none (args .s .now) (args .from) _ _ (c .bad-front2 .ensures)
+    (λ g. loop .inv .3 g ∙ over (args .s .now) (Whole g (loop .number)) (loop .i) (omega arith))
 
 pub in-whole-spec : {M : Type 1} → statement M
 in-whole-spec =

@@ -24,7 +24,9 @@ shared-slice-read-b : tie.Need-shared-slice-read-b Inv-loop μ-loop
 shared-slice-read-b c = search needs
 
 returns : tie.Need-returns Inv-loop μ-loop
-returns c = record { reads = c .before .before .before .loop .inv .1; inside = c .before .before .before .loop .inv .0; stops = λ _. c .if1 .taken }
+returns c =
+    let loop = c .before .before .before .loop in
+    record { reads = loop .inv .1; inside = loop .inv .0; stops = λ _. c .if1 .taken }
 
 add-i : tie.Need-add-i Inv-loop μ-loop
 add-i c = search needs
@@ -33,12 +35,18 @@ loop-less : tie.Need-loop-less Inv-loop μ-loop
 loop-less c = search needs
 
 loop-again : tie.Need-loop-again Inv-loop μ-loop
-loop-again c = let s = c .before .before .before .before .args .s .now in
-    let i = c .before .before .before .loop .i in
-    (omega arith, c .before .before .before .loop .inv .1 ∙ moves s Lead i (column blank 0 false) (omega arith) (is-blank (getD s i 0) (c .if1 .left)))
+loop-again c =
+    let args = c .before .before .before .before .args in
+    let loop = c .before .before .before .loop in
+    let s = args .s .now in
+    let i = loop .i in
+    let y = is-blank (getD s i 0) (c .if1 .left) in
+    (omega arith, loop .inv .1 ∙ moves s Lead i (column blank 0 false) (omega arith) y)
 
 returns-2 : tie.Need-returns-2 Inv-loop μ-loop
-returns-2 c = record { reads = c .before .loop .inv .1; inside = c .before .loop .inv .0; stops = λ h. absurd (omega arith) }
+returns-2 c =
+    let loop = c .before .loop in
+    record { reads = loop .inv .1; inside = loop .inv .0; stops = λ h. absurd (omega arith) }
 
 pub past-blanks-spec : {M : Type 1} → statement M
 past-blanks-spec =

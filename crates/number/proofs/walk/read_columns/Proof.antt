@@ -17,48 +17,86 @@ past-sign-requires : tie.Need-past-sign-requires
 past-sign-requires c κs = search needs
 
 add-in-signed : tie.Need-add-in-signed
-add-in-signed c = let k = past-one (getD (c .before .before .before .before .before .args .s .now) (c .before .before .before .past-blanks .result) 0) in
+add-in-signed c =
+    let args = c .before .before .before .before .before .args in
+    let past-blanks-call = c .before .before .before .past-blanks in
+    let k = past-one (getD (args .s .now) (past-blanks-call .result) 0) in
     omega (arith, c .past-sign .ensures)
 
 in-signed-requires : tie.Need-in-signed-requires
-in-signed-requires c κs = let k = past-one (getD (c .before .before .before .before .before .args .s .now) (c .before .before .before .past-blanks .result) 0) in
-    record { short = c .before .before .before .before .before .pre; inside = omega (arith, c .past-sign .ensures) }
+in-signed-requires c κs =
+    let args = c .before .before .before .before .before .args in
+    let pre = c .before .before .before .before .before .pre in
+    let past-blanks-call = c .before .before .before .past-blanks in
+    let k = past-one (getD (args .s .now) (past-blanks-call .result) 0) in
+    record { short = pre; inside = omega (arith, c .past-sign .ensures) }
 
 in-fraction-requires : tie.Need-in-fraction-requires
 in-fraction-requires c κs = search needs
 
 in-gap-requires : tie.Need-in-gap-requires
-in-gap-requires c κs = let w = c .before .before .in-signed .ensures .wide (c .before .if2 .taken) in
+in-gap-requires c κs =
+    let pre = c .before .before .before .before .before .before .before .before .pre in
+    let in-signed-call = c .before .before .in-signed in
+    let if2 = c .before .if2 in
+    let w = in-signed-call .ensures .wide (if2 .taken) in
     let p = c .in-fraction .ensures .past in
-    (record { short = c .before .before .before .before .before .before .before .before .pre; inside = c .in-fraction .ensures .inside }, omega arith)
+    (record { short = pre; inside = c .in-fraction .ensures .inside }, omega arith)
 
 value-requires : tie.Need-value-requires
 value-requires c κs = search needs
 
 returns : tie.Need-returns
-returns c = let s = c .before .before .before .before .before .before .before .before .before .before .before .args .s .now in
-    let i = c .before .before .before .before .before .before .before .before .before .past-blanks .result in
-    let q = field-tail s i (c .before .before .before .before .before .before .past-sign .result) (c .before .before .before .before .before .in-signed .result) (c .before .before .before .before .before .before .before .before .before .past-blanks .ensures) (omega arith)
-    (c .before .before .before .before .before .before .past-sign .ensures) (c .before .before .before .before .before .in-signed .ensures) (c .before .before .before .in-fraction .result) (c .before .before .in-gap .result) (c .before .before .before .before .if2 .taken)
-    (c .before .before .before .in-fraction .ensures) (c .before .before .in-gap .ensures) in
-    ap Number (c .value .ensures) ∙ sym (q ∙ rw (c .before .if3 .taken) refl)
+returns c =
+    let args = c .before .before .before .before .before .before .before .before .before .before .before .args in
+    let past-blanks-call = c .before .before .before .before .before .before .before .before .before .past-blanks in
+    let if1 = c .before .before .before .before .before .before .before .before .if1 in
+    let past-sign-call = c .before .before .before .before .before .before .past-sign in
+    let in-signed-call = c .before .before .before .before .before .in-signed in
+    let if2 = c .before .before .before .before .if2 in
+    let in-fraction-call = c .before .before .before .in-fraction in
+    let in-gap-call = c .before .before .in-gap in
+    let if3 = c .before .if3 in
+    let s = args .s .now in
+    let i = past-blanks-call .result in
+    let q = field-tail s i (past-sign-call .result) (in-signed-call .result) (past-blanks-call .ensures) (if1 .taken)
+    (past-sign-call .ensures) (in-signed-call .ensures) (in-fraction-call .result) (in-gap-call .result) (if2 .taken)
+    (in-fraction-call .ensures) (in-gap-call .ensures) in
+    ap Number (c .value .ensures) ∙ sym (q ∙ rw (if3 .taken) refl)
 
 returns-2 : tie.Need-returns-2
-returns-2 c = let s = c .before .before .before .before .before .before .before .before .before .before .args .s .now in
-    let i = c .before .before .before .before .before .before .before .before .past-blanks .result in
-    let q = field-tail s i (c .before .before .before .before .before .past-sign .result) (c .before .before .before .before .in-signed .result) (c .before .before .before .before .before .before .before .before .past-blanks .ensures) (omega arith)
-    (c .before .before .before .before .before .past-sign .ensures) (c .before .before .before .before .in-signed .ensures) (c .before .before .in-fraction .result) (c .before .in-gap .result) (c .before .before .before .if2 .taken)
-    (c .before .before .in-fraction .ensures) (c .before .in-gap .ensures) in
+returns-2 c =
+    let args = c .before .before .before .before .before .before .before .before .before .before .args in
+    let past-blanks-call = c .before .before .before .before .before .before .before .before .past-blanks in
+    let if1 = c .before .before .before .before .before .before .before .if1 in
+    let past-sign-call = c .before .before .before .before .before .past-sign in
+    let in-signed-call = c .before .before .before .before .in-signed in
+    let if2 = c .before .before .before .if2 in
+    let in-fraction-call = c .before .before .in-fraction in
+    let in-gap-call = c .before .in-gap in
+    let s = args .s .now in
+    let i = past-blanks-call .result in
+    let q = field-tail s i (past-sign-call .result) (in-signed-call .result) (past-blanks-call .ensures) (if1 .taken)
+    (past-sign-call .ensures) (in-signed-call .ensures) (in-fraction-call .result) (in-gap-call .result) (if2 .taken)
+    (in-fraction-call .ensures) (in-gap-call .ensures) in
     sym (q ∙ rw (c .if3 .left) refl)
 
 returns-3 : tie.Need-returns-3
-returns-3 c = let s = c .before .before .before .before .before .before .before .args .s .now in
-    let i = c .before .before .before .before .before .past-blanks .result in
-    sym (field-bad s i (c .before .before .past-sign .result) (c .before .in-signed .result) (c .before .before .before .before .before .past-blanks .ensures) (omega arith)
-    (c .before .before .past-sign .ensures) (c .before .in-signed .ensures) (c .if2 .left))
+returns-3 c =
+    let args = c .before .before .before .before .before .before .before .args in
+    let past-blanks-call = c .before .before .before .before .before .past-blanks in
+    let past-sign-call = c .before .before .past-sign in
+    let in-signed-call = c .before .in-signed in
+    let s = args .s .now in
+    let i = past-blanks-call .result in
+    sym (field-bad s i (past-sign-call .result) (in-signed-call .result) (past-blanks-call .ensures) (omega arith)
+    (past-sign-call .ensures) (in-signed-call .ensures) (c .if2 .left))
 
 returns-4 : tie.Need-returns-4
-returns-4 c = sym (field-blank (c .before .before .before .args .s .now) (c .before .past-blanks .result) (c .before .past-blanks .ensures) (omega arith))
+returns-4 c =
+    let args = c .before .before .before .args in
+    let past-blanks-call = c .before .past-blanks in
+    sym (field-blank (args .s .now) (past-blanks-call .result) (past-blanks-call .ensures) (omega arith))
 
 pub read-columns-spec : {M : Type 1} → statement M
 read-columns-spec =

@@ -26,28 +26,41 @@ difference-requires c κs = let z = zeros-few (c .before .before .before .args .
     (omega (arith, c .before .without-zeros .ensures .zeros), omega arith)
 
 returns-2 : tie.Need-returns-2
-returns-2 c = let a = c .before .before .before .before .args in
-    let t = c .before .before .without-zeros in
+returns-2 c =
+    let args = c .before .before .before .before .args in
+    let if1 = c .before .before .before .if1 in
+    let without-zeros-call = c .before .before .without-zeros in
+    let if2 = c .before .if2 in
+    let a = args in
+    let t = without-zeros-call in
     let z = zeros-few (a .number) (omega arith) (omega arith) in
     let f = diff-flat (t .result .zeros) (a .size + a .places) (omega (arith, t .ensures .zeros)) (omega arith) in
-    made-value (a .negative) (a .number) _ _ (t .result) (t .ensures) (c .before .before .before .if1 .left)
-    (rw (c .difference .ensures, c .before .if2 .taken) (f ∙ sym (power-sum true (a .size) (a .places) (t .result .zeros))))
+    made-value (a .negative) (a .number) _ _ (t .result) (t .ensures) (if1 .left)
+    (rw (c .difference .ensures, if2 .taken) (f ∙ sym (power-sum true (a .size) (a .places) (t .result .zeros))))
 
 add-difference-2 : tie.Need-add-difference-2
 add-difference-2 c = let z = zeros-few (c .before .before .before .args .number) (omega arith) (omega arith) in
     omega (arith, c .before .without-zeros .ensures .zeros)
 
 difference-requires-2 : tie.Need-difference-requires-2
-difference-requires-2 c κs = let z = zeros-few (c .before .before .before .args .number) (omega arith) (omega arith) in
-    (omega (arith, c .before .without-zeros .ensures .zeros), omega arith)
+difference-requires-2 c κs =
+    let args = c .before .before .before .args in
+    let without-zeros-call = c .before .without-zeros in
+    let z = zeros-few (args .number) (omega arith) (omega arith) in
+    (omega (arith, without-zeros-call .ensures .zeros), omega arith)
 
 returns-3 : tie.Need-returns-3
-returns-3 c = let a = c .before .before .before .before .args in
-    let t = c .before .before .without-zeros in
+returns-3 c =
+    let args = c .before .before .before .before .args in
+    let if1 = c .before .before .before .if1 in
+    let without-zeros-call = c .before .before .without-zeros in
+    let if2 = c .before .if2 in
+    let a = args in
+    let t = without-zeros-call in
     let z = zeros-few (a .number) (omega arith) (omega arith) in
     let f = diff-flat (a .size + t .result .zeros) (a .places) (omega (arith, t .ensures .zeros)) (omega arith) in
-    made-value (a .negative) (a .number) _ _ (t .result) (t .ensures) (c .before .before .before .if1 .left)
-    (rw (c .difference2 .ensures, c .before .if2 .left) (f ∙ sym (power-sum false (a .size) (a .places) (t .result .zeros))))
+    made-value (a .negative) (a .number) _ _ (t .result) (t .ensures) (if1 .left)
+    (rw (c .difference2 .ensures, if2 .left) (f ∙ sym (power-sum false (a .size) (a .places) (t .result .zeros))))
 
 pub value-spec : {M : Type 1} → statement M
 value-spec =

@@ -15,16 +15,27 @@ loop-holds : tie.Need-loop-holds Inv-loop μ-loop
 loop-holds c = (c .pre, omega arith)
 
 add-zeros : tie.Need-add-zeros Inv-loop μ-loop
-add-zeros c = omega (arith, few-zeros (c .before .before .args .n) (c .before .loop .number) (c .before .loop .zeros) (c .before .loop .inv .0) (c .before .loop .inv .1) (omega arith))
+add-zeros c =
+    let args = c .before .before .args in
+    let loop = c .before .loop in
+    omega (arith, few-zeros (args .n) (loop .number) (loop .zeros) (loop .inv .0) (loop .inv .1) (omega arith))
 
 loop-less : tie.Need-loop-less Inv-loop μ-loop
 loop-less c = omega (arith, c .before .loop .inv .0)
 
 loop-again : tie.Need-loop-again Inv-loop μ-loop
-loop-again c = (omega (arith, c .before .loop .inv .0), one-zero (c .before .before .args .n) (c .before .loop .number) (c .before .loop .zeros) (c .before .loop .inv .0) (c .before .loop .inv .1) (omega arith))
+loop-again c =
+    let args = c .before .before .args in
+    let loop = c .before .loop in (
+      omega (arith, loop .inv .0),
+      one-zero (args .n) (loop .number) (loop .zeros) (loop .inv .0) (loop .inv .1) (omega arith),
+    )
 
 returns : tie.Need-returns Inv-loop μ-loop
-returns c = trimmed (c .before .before .args .n) (c .before .loop .number) (c .before .loop .zeros) (c .before .loop .inv .0) (c .before .loop .inv .1) (omega arith)
+returns c =
+    let args = c .before .before .args in
+    let loop = c .before .loop in
+    trimmed (args .n) (loop .number) (loop .zeros) (loop .inv .0) (loop .inv .1) (omega arith)
 
 pub without-zeros-spec : {M : Type 1} → statement M
 without-zeros-spec =

@@ -7,44 +7,44 @@ use Rattle.record.proofs.system.count_of.Reads as reads
 use Rattle.record.proofs.system.count_of.Lts as lts
 use Rattle.record.proofs.system.digits_in.Reads as digits-in-reads
 use Rattle.record.proofs.system.number_in.Reads as number-in-reads
-use Rattle.record.proofs.system.start_of.Reads as start-of-reads
+use Rattle.record.proofs.word.filled_from.Reads as filled-from-reads
 
--- src/system.rt:99:9
-start-of-requires : tie.Need-start-of-requires
-start-of-requires c κs = search needs
+-- src/system.rt:85:9
+filled-from-requires : tie.Need-filled-from-requires
+filled-from-requires c κs = search needs
 
--- src/system.rt:101:9
+-- src/system.rt:87:9
 returns : tie.Need-returns
 unfolding integerOf
-returns c = rw (← c .before .start-of .ensures .0, eq-eqb _ _ (c .if1 .taken))
+returns c = rw (← c .before .filled-from .ensures .0, eq-eqb _ _ (c .if1 .taken))
 
--- src/system.rt:103:13
+-- src/system.rt:89:13
 sub-n : tie.Need-sub-n
 sub-n c = search needs
 
--- src/system.rt:104:9
+-- src/system.rt:90:9
 digits-in-requires : tie.Need-digits-in-requires
 digits-in-requires c κs = search needs
 
--- src/system.rt:105:9
+-- src/system.rt:91:9
 returns-2 : tie.Need-returns-2
 unfolding integerOf
-returns-2 c = rw (← c .before .before .before .start-of .ensures .0, ne-eqb _ _ (c .before .before .if1 .left), ← c .before .digits-in .ensures, not-true (c .before .digits-in .result) (c .if2 .taken))
+returns-2 c = rw (← c .before .before .before .filled-from .ensures .0, ne-eqb _ _ (c .before .before .if1 .left), ← c .before .digits-in .ensures, not-true (c .before .digits-in .result) (c .if2 .taken))
 
--- src/system.rt:107:9
+-- src/system.rt:93:9
 number-in-requires : tie.Need-number-in-requires
 number-in-requires c κs = search needs
 
--- src/system.rt:96:1
+-- src/system.rt:82:1
 returns-3 : tie.Need-returns-3
 unfolding integerOf
-returns-3 c = rw (← c .before .before .before .before .start-of .ensures .0, ne-eqb _ _ (c .before .before .before .if1 .left), ← c .before .before .digits-in .ensures, not-false (c .before .before .digits-in .result) (c .before .if2 .left), ← c .number-in .ensures .0)
+returns-3 c = rw (← c .before .before .before .before .filled-from .ensures .0, ne-eqb _ _ (c .before .before .before .if1 .left), ← c .before .before .digits-in .ensures, not-false (c .before .before .digits-in .result) (c .before .if2 .left), ← c .number-in .ensures .0)
 
 pub count-of-spec : {M : Type 1} → statement M
 count-of-spec =
     tie.close
     (tie.spec
-    start-of-requires
+    filled-from-requires
     returns
     sub-n
     digits-in-requires

@@ -8,23 +8,23 @@ use Rattle.record.proofs.word.is_word.Lts as lts
 use Rattle.record.proofs.word.filled_from.Reads as filled-from-reads
 use Rattle.record.proofs.word.word_end.Reads as word-end-reads
 
--- src/word.rt:102:9
+-- src/word.rt:97:9
 word-end-requires : tie.Need-word-end-requires
 word-end-requires c κs = search needs
 
--- src/word.rt:104:9
+-- src/word.rt:99:9
 returns : tie.Need-returns
 unfolding isWord
 returns c = rw (← c .before .word-end .ensures .0, eq-eqb _ _ (c .if1 .taken))
 
--- src/word.rt:106:5
+-- src/word.rt:101:5
 filled-from-requires : tie.Need-filled-from-requires
 filled-from-requires c κs = search needs
 
--- src/word.rt:99:1
+-- src/word.rt:94:1
 returns-2 : tie.Need-returns-2
 unfolding isWord
-returns-2 c = rw (← c .before .before .word-end .ensures .0, ne-eqb _ _ (c .before .if1 .left), ← c .filled-from .ensures)
+returns-2 c = rw (← c .before .before .word-end .ensures .0, ne-eqb _ _ (c .before .if1 .left), ← c .filled-from .ensures .0)
 
 pub is-word-spec : {M : Type 1} → statement M
 is-word-spec = tie.close (tie.spec word-end-requires returns filled-from-requires returns-2)
