@@ -1,23 +1,29 @@
 -- The laws of canonical fields, which the layers above cite by these names.
 -- Assumes nothing.
 use mathlib.Core.Path.{_≡_, refl, sym, ap, _∙_}
+use mathlib.Core.Bool.{Bool}
 use mathlib.Core.List.{List, _++_}
 use mathlib.Core.Logic.{_↔_}
 use Prim.Native.Nat.{ℕ, _+_, _-_, _<_, _≤_}
 use native.Mathlib.Omega.{arith}
+use lib.IntN.{ℤ}
 use lib.ListN.{length, getD}
 use Rattle.number.specs.declared.value.Decimal.{Decimal}
 use Rattle.number.specs.declared.value.Reading.{Reading}
-use Rattle.number.specs.declared.value.Reading.the-variants.{Blank, Number, Refused}
+use Rattle.number.specs.declared.value.Reading.the-variants.{Blank, Number}
+use Rattle.number.specs.declared.value.Reading.the-variants as R
 use Rattle.number.specs.Grammar.{blanks, Field, write, Good, Letter}
-use Rattle.number.specs.Value.{Normal, Means}
+use Rattle.number.specs.Value.{Normal, Means, valueOf}
 use Rattle.number.specs.Reading.{readField}
-use Rattle.number.proofs.Laws.{reads-exactly, blank-exactly, number-letters}
+use Rattle.number.proofs.Laws.{value-found, reads-exactly, blank-exactly, number-letters}
+use Rattle.canonical.specs.declared.write.Written.the-variants.{Done, Refused}
 use Rattle.canonical.specs.Canonical.{columns, Canonical, ExactlyOne, NoField, Best, span}
 use Rattle.canonical.specs.Closed.{canonicalText, canonicalField}
 use Rattle.canonical.specs.Replacing.{replacedBy, canonical, Formed}
+use Rattle.canonical.specs.Writing.{written, bytes}
 use Rattle.canonical.proofs.Theorems as Theorems
 use Rattle.canonical.proofs.Characters as Characters
+use Rattle.canonical.proofs.Promises as Promises
 
 -- ---- what wins, for every value and every width
 
@@ -89,6 +95,18 @@ pub canonical-wider : (k w : ℕ) (v : Decimal) → length (canonicalText v) ≤
     → canonicalField (k + w) v ≡ blanks k ++ canonicalField w v
 canonical-wider k w v h = Theorems.wider k w v h
 
+-- ---- writing
+
+-- "Writing a decimal" that is done leaves its one canonical field in the buffer
+pub written-best : (l : List ℕ) (negative : Bool) (a : ℕ) (p : ℤ) → written l (valueOf negative a p) ≡ Done
+    → Best 11 (valueOf negative a p) (bytes l (valueOf negative a p))
+written-best l negative a p e = Promises.done-best l (valueOf negative a p) (value-found negative a p .normal) e
+
+-- "41 no field reads to the value", and no other
+pub written-none : (l : List ℕ) (negative : Bool) (a : ℕ) (p : ℤ) → length l ≡ 11
+    → (written l (valueOf negative a p) ≡ Refused 41) ↔ NoField 11 (valueOf negative a p)
+written-none l negative a p w = Promises.refused-none l (valueOf negative a p) (value-found negative a p .normal) w
+
 -- ---- the canonical field of a field: of all columns, whatever they hold
 
 module _ (l : List ℕ) where
@@ -99,7 +117,7 @@ module _ (l : List ℕ) where
       let h = number-normal l v e in
       let k = number-fits l v e in
       (Theorems.canonical-best (length l) v h k .wide, canonical-reads (length l) v h k ∙ sym e)
-  same-reading (Refused n) e = (refl, refl)
+  same-reading (R.Refused n) e = (refl, refl)
 
   -- it has as many columns
   pub canonical-length : length (canonical l) ≡ length l
@@ -123,10 +141,10 @@ module _ (l : List ℕ) where
   canonical-letters f i h =
       number-letters (canonical l) (λ e. formed (readField l) f (sym canonical-same ∙ e)) i (rw canonical-length h)
     where
-      formed : (r : Reading) → Formed r → r ≡ Refused 15 → ⊥
+      formed : (r : Reading) → Formed r → r ≡ R.Refused 15 → ⊥
       formed Blank f e = let z : _≡_ {A = ℕ} 0 1 = cc in omega arith
       formed (Number v) f e = let z : _≡_ {A = ℕ} 0 1 = cc in omega arith
-      formed (Refused n) f e = f
+      formed (R.Refused n) f e = f
 
 stays : (l : List ℕ) (r : Reading) → readField l ≡ r → replacedBy l r ≡ l → canonical l ≡ l
 unfolding canonical
@@ -147,7 +165,7 @@ canonical-alike l m w f e = by (readField l) f refl
         ∙ sym (stays m Blank (sym e ∙ h) refl)
     by (Number v) f h =
         number-is l v h ∙ ap (λ (n : ℕ). canonicalField n v) w ∙ sym (number-is m v (sym e ∙ h))
-    by (Refused n) f h = absurd f
+    by (R.Refused n) f h = absurd f
 
 -- two numbers of as many columns have one canonical field exactly when their decimals are equal
 pub canonical-equal : (l m : List ℕ) (v u : Decimal) → length l ≡ length m → readField l ≡ Number v
@@ -169,4 +187,4 @@ canonical-again l = by (readField l) refl
     by (Number v) e =
         number-is (canonical l) v (canonical-same l ∙ e) ∙ ap (λ (n : ℕ). canonicalField n v) (canonical-length l)
         ∙ sym (number-is l v e)
-    by (Refused n) e = ap canonical (stays l (Refused n) e refl)
+    by (R.Refused n) e = ap canonical (stays l (R.Refused n) e refl)

@@ -13,4 +13,5 @@ pub mod Layouts
 pub mod Filled
 pub mod Answers
 pub mod Characters
+pub mod Promises
 pub mod Laws

@@ -6,9 +6,9 @@ use Prim.Native.Nat.{ℕ, zero, suc, _+_, _-_, _*_, _/_, _%_, _^_, _<_, _≤_}
 use lib.ListN.{length, take, drop, set}
 use lib.IntN.{ℤ, pos, negsuc}
 use Rattle.number.specs.declared.value.Decimal.{Decimal}
+use Rattle.number.specs.Grammar.{blanks, text, write}
 use Rattle.canonical.specs.declared.layout.Layout.{Layout}
 use Rattle.canonical.specs.declared.layout.Size.{Size}
-use Rattle.number.specs.Grammar.{blanks, text, write}
 use Rattle.canonical.specs.declared.layout.Prepared.{Prepared}
 use Rattle.canonical.specs.Closed.{count, digitsN, shift, layoutOf, fieldOf}
 
