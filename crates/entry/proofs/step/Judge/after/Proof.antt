@@ -1,0 +1,30 @@
+use Rattle.entry.specs.Numbers.{judgeAfter}
+use borrow.Author.Needs.{needs}
+use Rattle.entry.proofs.step.Judge.after.Statement.{statement}
+use Rattle.entry.proofs.step.Judge.after.Tie as tie
+use Rattle.entry.proofs.step.Judge.after.Reads as reads
+use Rattle.entry.proofs.step.Judge.after.Lts as lts
+use Rattle.entry.proofs.next.phase_after.Reads as phase-after-reads
+use Rattle.entry.proofs.next.ranges_after.Reads as ranges-after-reads
+use Rattle.entry.proofs.next.track_after.Reads as track-after-reads
+
+-- src/step.rt:76:13
+phase-after-requires : tie.Need-phase-after-requires
+phase-after-requires c κs = search needs
+
+-- src/step.rt:77:13
+track-after-requires : tie.Need-track-after-requires
+track-after-requires c κs = (c .before .before .before .before .before .pre .0 .stands .bounded, (c .before .before .before .before .before .pre .0 .few, (c .before .before .before .before .before .pre .0 .whole, c .before .before .before .before .before .pre .1)))
+
+-- src/step.rt:78:13
+ranges-after-requires : tie.Need-ranges-after-requires
+ranges-after-requires c κs = c .before .before .before .before .before .before .pre .0 .few
+
+-- src/step.rt:62:5
+returns : tie.Need-returns
+unfolding judgeAfter
+returns c = rw (c .before .before .phase-after .ensures, c .before .track-after .ensures, c .ranges-after .ensures)
+
+pub after-spec : {M : Type 1} → statement M
+after-spec =
+    tie.close (tie.spec phase-after-requires track-after-requires ranges-after-requires returns)

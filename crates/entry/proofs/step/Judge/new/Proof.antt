@@ -1,0 +1,17 @@
+use borrow.Author.Needs.{needs}
+use Rattle.entry.proofs.step.Judge.new.Statement.{statement}
+use Rattle.entry.proofs.step.Judge.new.Tie as tie
+use Rattle.entry.proofs.step.Judge.new.Reads as reads
+use Rattle.entry.proofs.step.Judge.new.Lts as lts
+use Rattle.rules.proofs.state.Track.new.Reads as new-reads
+
+-- src/step.rt:53:13
+new-requires : tie.Need-new-requires
+new-requires c κs = search needs
+
+-- src/step.rt:38:5
+returns : tie.Need-returns
+returns c = rw (c .new .ensures)
+
+pub new-spec : {M : Type 1} → statement M
+new-spec = tie.close (tie.spec new-requires returns)

@@ -1,0 +1,5 @@
+pub mod Leftmost
+pub mod FewColumns
+pub mod EarlierParts
+pub mod ReadValues
+pub mod Least

@@ -1,0 +1,72 @@
+-- The table of refusals: which rules are made on which kind of record, and in which order.
+--
+--   "within one record the lowest number; within that the leftmost column"
+--
+-- That the fault is the least by number and column of all that the rules find is the law `fault-least`.
+use Prim.Native.Nat.{ℕ, _<_, _≤_}
+use mathlib.Core.Path.{_≡_}
+use mathlib.Core.Bool.{cond}
+use mathlib.Core.List.{List, [], _∷_}
+use mathlib.Core.Logic.{_⊎_}
+use lib.Dec.{eqb}
+use lib.ListN.{length, getD}
+use Rattle.record.specs.Columns.{Whole}
+use Rattle.record.specs.declared.numbers.Values.{Values}
+use Rattle.rules.specs.declared.fault.Fault.{Fault}
+use Rattle.rules.specs.declared.state.Track.{Track}
+use Rattle.rules.specs.declared.state.Ranges.{Ranges}
+use Rattle.rules.specs.State.{Seen, Stands}
+use Rattle.rules.specs.Role.{TEXT, DATA-HEADING, isSystem, opensSubentry, isHeading, isUnit, isValue}
+use Rattle.rules.specs.Fault.{on, leftmost, Finding, finding, firstFault}
+use Rattle.rules.specs.Every.{rule2, rule3, rule4, rule5, rule6}
+use Rattle.rules.specs.System.{rule7, rule8, rule9}
+use Rattle.rules.specs.Text.{rule10, rule11Text}
+use Rattle.rules.specs.Headings.{rule11Heading, rule12Heading, rule12Unit, rule13, rule14}
+use Rattle.rules.specs.Values.{rule15, valuesFor}
+
+-- what the rules find on a record, from what is counted and seen before it, its role and its six fields
+abbrev pub findings : Track → Seen → ℕ → List (List ℕ) → List ℕ → List Finding
+findings t s role fs r =
+    finding 2 (rule2 r)
+    ∷ finding 3 (rule3 r)
+    ∷ finding 4 (rule4 role)
+    ∷ finding 5 (rule5 t role fs r)
+    ∷ finding 6 (rule6 t role r)
+    ∷ finding 7 (on (isSystem role) (rule7 role fs))
+    ∷ finding 8 (on (isSystem role) (rule8 t role fs))
+    ∷ finding 9 (on (opensSubentry role) (rule9 t fs))
+    ∷ finding 10 (on (eqb role TEXT) (rule10 (s .bib) t fs))
+    ∷ finding 11 (cond (eqb role TEXT) (rule11Text (s .under) fs) (on (isHeading role) (rule11Heading t fs)))
+    ∷ finding 12 (cond (isHeading role) (rule12Heading t fs) (on (isUnit role) (rule12Unit t fs)))
+    ∷ finding 13 (on (isHeading role) (rule13 s t fs r))
+    ∷ finding 14 (on (eqb role DATA-HEADING) (rule14 s t fs))
+    ∷ finding 15 (on (isValue role) (rule15 t role fs))
+    ∷ []
+
+unfoldable pub faultOf : Track → Seen → ℕ → List (List ℕ) → List ℕ → Fault
+faultOf t s role fs r = firstFault (findings t s role fs r)
+
+-- what the rules are lent: the state before the record, the record, its fields and what these read to
+pub record Judged (t : Track) (g : Ranges) (before r : List ℕ) (role : ℕ) (fs : List (List ℕ)) (values : Values)
+    : Type 0 where
+  pub stands : Stands t g before
+  pub whole : Whole r
+  pub read : values ≡ valuesFor t role fs
+
+-- ---- the order of faults
+
+-- the fault n at the column k comes before m at j, or is the same: "the lowest number; within that the leftmost column"
+abbrev pub Before : ℕ → ℕ → ℕ → ℕ → Type 0
+Before n k m j = (n < m) ⊎ ((n ≡ m) × (k ≤ j))
+
+abbrev pub noFinding : Finding
+noFinding = finding 0 []
+
+-- the fault n at the column k is one of what is found, and none of it comes before
+pub record Least (fs : List Finding) (n k : ℕ) : Type 0 where
+  pub at : ℕ
+  pub there : at < length fs
+  pub number : getD fs at noFinding .number ≡ n
+  pub column : leftmost (getD fs at noFinding .columns) ≡ k
+  pub least : (i j : ℕ) → i < length fs → j < length (getD fs i noFinding .columns)
+      → Before n k (getD fs i noFinding .number) (getD (getD fs i noFinding .columns) j 0)

@@ -1,0 +1,126 @@
+// The bytes of a case, and what a line changes in them.
+ghost use Prim.Native.Nat.{_≤_};
+use crate::text::byte_at;
+use crate::text::number;
+use std::num::wrapping_add_usize;
+use std::num::wrapping_sub_usize;
+
+const RECORD: usize = 81;
+
+// Stores nothing past the room that there is, so a place may be any number.
+fn put(space: &mut [u8], at: usize, byte: u8) {
+    if at < space.len() {
+        space[at] = byte;
+    }
+}
+
+// How many bytes stand before a column of the nth record.
+fn place(nth: usize, column: usize) -> usize
+    requires { ⌜ nth ≤ 9999999 ⌝ }
+    requires { ⌜ column ≤ 9999999 ⌝ }
+{
+    wrapping_sub_usize(nth * RECORD + column, RECORD + 1)
+}
+
+fn byte_of(n: usize) -> u8 {
+    (n % 256) as u8
+}
+
+// Puts a record at `at`: 80 columns from `from` of the line, and a line feed. Hands back where it ends.
+pub fn put_record(line: &[u8], from: usize, space: &mut [u8], at: usize) -> usize {
+    let mut column: usize = 0;
+    while column < 80 {
+        let byte = byte_at(line, wrapping_add_usize(from, column));
+        put(space, wrapping_add_usize(at, column), byte);
+        column += 1;
+    }
+    put(space, wrapping_add_usize(at, 80), b'\n');
+    wrapping_add_usize(at, RECORD)
+}
+
+// Puts what the line has from `from` on, up to a bar.
+fn put_text(line: &[u8], from: usize, space: &mut [u8], at: usize) {
+    let mut i = from;
+    let mut to = at;
+    while i < line.len() {
+        if line[i] == b'|' {
+            return;
+        }
+        put(space, to, line[i]);
+        to = wrapping_add_usize(to, 1);
+        i += 1;
+    }
+}
+
+// The case begins again from the whole entry.
+pub fn begin(whole: &[u8], length: usize, case: &mut [u8]) {
+    let mut i: usize = 0;
+    while i < length {
+        put(case, i, byte_at(whole, i));
+        i += 1;
+    }
+}
+
+// Moves what stands from one record on to the left, over that record.
+fn leave_out(case: &mut [u8], start: usize, length: usize) -> usize {
+    let mut i = start;
+    while i < length {
+        let byte = byte_at(case, wrapping_add_usize(i, RECORD));
+        put(case, i, byte);
+        i += 1;
+    }
+    wrapping_sub_usize(length, RECORD)
+}
+
+// Moves what stands from one record on to the right, by a record.
+fn make_room(case: &mut [u8], start: usize, length: usize) -> usize {
+    let mut i = length;
+    while i > start {
+        i -= 1;
+        let byte = byte_at(case, i);
+        put(case, wrapping_add_usize(i, RECORD), byte);
+    }
+    wrapping_add_usize(length, RECORD)
+}
+
+// Line feeds stand where a case is made longer.
+fn resize(case: &mut [u8], length: usize, wanted: usize) -> usize {
+    let mut i = length;
+    while i < wanted {
+        put(case, i, b'\n');
+        i += 1;
+    }
+    wanted
+}
+
+fn put_unknown(line: &[u8]) {
+    io::write_all(1, b"? ");
+    io::write_all(1, line);
+    io::write_all(1, b"\n");
+}
+
+// Makes the change that a line of this kind asks for, and hands back the case's length.
+pub fn change(kind: u8, line: &[u8], case: &mut [u8], length: usize) -> usize {
+    let record = number(line, 1, 6);
+    let column = number(line, 7, 10);
+    let start = place(record, 1);
+    let at = place(record, column);
+    match kind {
+        b'=' => put_text(line, 11, case, at),
+        b'@' => put(case, at, byte_of(number(line, 11, 14))),
+        b'-' => {
+            return leave_out(case, start, length);
+        }
+        b'+' => {
+            let grown = make_room(case, start, length);
+            put_record(line, 7, case, start);
+            return grown;
+        }
+        b'<' => {
+            return resize(case, length, number(line, 1, 8));
+        }
+        b'#' | b' ' => {}
+        _ => put_unknown(line),
+    }
+    length
+}

@@ -1,0 +1,128 @@
+// Judges changed copies of one entry, and writes each verdict under the title of its case.
+//
+// Standard input is lines of text, and the first character says what a line is. Numbers have leading zeros; records are
+// counted as they stand when the line is met.
+//
+//     *COLUMNS             the next record of the entry; blanks up to column 80
+//     =RRRRR CCC TEXT      puts the text into record RRRRR from column CCC on; a bar ends a text that ends in blanks
+//     @RRRRR CCC BBB       puts the byte of value BBB into record RRRRR at column CCC
+//     -RRRRR               leaves record RRRRR out
+//     +RRRRR COLUMNS       puts a record before record RRRRR
+//     <LLLLLLL             makes the case LLLLLLL bytes long: cut, or with line feeds behind it
+//     ! TITLE              judges the case, writes TITLE and the seven numbers, and begins again from the whole entry
+//     # ..                 a comment
+mod case;
+mod text;
+
+ghost use mathlib.Core.Path.{_≡_};
+ghost use lib.ListN.{length};
+use case::begin;
+use case::change;
+use case::put_record;
+use entry::verdict::Verdict;
+use entry::verdict::judge;
+use text::byte_at;
+use text::least;
+use text::line_end;
+
+// How many bytes the whole entry has, and the case.
+struct Lengths {
+    whole: usize,
+    case: usize,
+}
+
+fn wide(n: u32) -> u64 {
+    n as u64
+}
+
+fn put_number(n: u64) {
+    io::write_all(1, b" ");
+    io::print_decimal(1, n);
+}
+
+fn put_verdict(v: Verdict) {
+    let at = v.record;
+    let totals = v.totals;
+    put_number(v.refusal as u64);
+    put_number(wide(at.0));
+    put_number(v.column as u64);
+    put_number(wide(totals.subentries));
+    put_number(wide(totals.keywords));
+    put_number(wide(totals.lines));
+    put_number(wide(totals.numbers));
+    io::write_all(1, b"\n");
+}
+
+// Writes the title, which follows `! ` in the line, and the verdict on the first `used` bytes.
+fn show(line: &[u8], case: &[u8], used: usize) {
+    let from = least(2, line.len());
+    let length = least(used, case.len());
+    io::write_all(1, &line[from..]);
+    io::write_all(1, b":");
+    put_verdict(judge(&case[0..length]));
+}
+
+impl Lengths {
+    // What follows from one line of the input.
+    fn after(self, line: &[u8], whole: &mut [u8], case: &mut [u8]) -> Lengths {
+        let entry = self.whole;
+        let used = self.case;
+        let kind = byte_at(line, 0);
+        if kind == b'*' {
+            let grown = put_record(line, 1, whole, entry);
+            begin(whole, grown, case);
+            return Lengths {
+                whole: grown,
+                case: grown,
+            };
+        }
+        if kind == b'!' {
+            show(line, case, used);
+            begin(whole, entry, case);
+            return Lengths {
+                whole: entry,
+                case: entry,
+            };
+        }
+        let length = change(kind, line, case, used);
+        Lengths {
+            whole: entry,
+            case: length,
+        }
+    }
+}
+
+fn run(text: &[u8], whole: &mut [u8], case: &mut [u8]) {
+    let mut lengths = Lengths { whole: 0, case: 0 };
+    let mut at = 0;
+    while at < text.len() {
+        let end = line_end(text, at);
+        lengths = lengths.after(&text[at..end], whole, case);
+        if end == text.len() {
+            return;
+        }
+        at = end + 1;
+    }
+}
+
+// Room for the lines.
+fn text_room() -> [u8; 160000]
+    ensures { λ r. ⌜ 160000 ≡ length r ⌝ }
+{
+    [0; 160000]
+}
+
+// Room for one record more than an entry may have.
+fn case_room() -> [u8; 1620081]
+    ensures { λ r. ⌜ 1620081 ≡ length r ⌝ }
+{
+    [0; 1620081]
+}
+
+fn main() {
+    let mut text = text_room();
+    let mut whole = io::large_buffer();
+    let mut case = case_room();
+    let n = io::read_full(0, &mut text);
+    run(&text[..n], &mut whole, &mut case);
+}
