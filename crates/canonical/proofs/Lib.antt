@@ -15,3 +15,4 @@ pub mod Answers
 pub mod Characters
 pub mod Promises
 pub mod Laws
+pub mod WriteBack

@@ -9,31 +9,20 @@ use lib.Dec.{eqb, leb}
 use lib.ListN.{getD}
 use Rattle.record.specs.Identifier.{ENTRY, BIB, COMMON, DATA}
 use Rattle.record.specs.Word.{blankTo}
-use Rattle.record.specs.declared.numbers.Values.{Values}
-use Rattle.record.proofs.Found.{values-few}
 use Rattle.rules.specs.declared.state.Table.{Table}
 use Rattle.rules.specs.declared.state.Track.{Track}
-use Rattle.rules.specs.State.{MOST-RECORDS, Bounded, counted, rowEnds, used}
+use Rattle.rules.specs.State.{MOST-RECORDS, Bounded, counted, rowEnds}
 use Rattle.rules.specs.Role.{TEXT, DATA-VALUE, isSystem, opensSubentry, isHeading, isUnit, isValue}
-use Rattle.rules.specs.Values.{optional, valuesFor}
+use Rattle.rules.specs.Values.{valuesFor}
+use Rattle.rules.proofs.EitherWay.{either-way}
+use Rattle.rules.proofs.ReadValues.{numbers-few}
 use Rattle.entry.specs.Next.{headingsRead, unitsRead, valuesRead, linesRead, textRead, afterSystem, afterInside}
 use Rattle.entry.specs.Next.{trackAfter}
-
--- it holds whichever is taken
-pub either-way : {A : Type 0} (P : A → Type 0) (b : Bool) (x y : A) → P x → P y → P (cond b x y)
-either-way P true x y p q = p
-either-way P false x y p q = q
 
 -- the track u is one that may follow t
 pub record Follows (t u : Track) : Type 0 where
   pub records : u .records .0 ≡ t .records .0 + 1
   pub bounded : Bounded u
-
-pub numbers-few : (t : Track) (role : ℕ) (fs : List (List ℕ)) → valuesFor t role fs .numbers ≤ 6
-unfolding valuesFor
-numbers-few t role fs =
-    either-way (λ (v : Values). v .numbers ≤ 6) (isValue role) _ _ (values-few (optional role) (used t) fs)
-    (omega arith)
 
 module _ (t : Track) (b : Bounded t) (few : t .records .0 < MOST-RECORDS) where
   line-headings : headingsRead (t .table) .line .0 ≤ t .table .line .0 + 1

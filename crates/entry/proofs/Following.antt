@@ -5,12 +5,12 @@ use mathlib.Core.Path.{_≡_, refl, sym, _∙_, ap}
 use mathlib.Core.Bool.{Bool, true, false, cond, _&&_, _||_}
 use mathlib.Core.List.{List, [], _++_}
 use native.Mathlib.Omega.{arith}
-use borrow.Author.Tests.{eqb-true, ne-eqb}
+use borrow.Author.Tests.{eqb-true}
 use lib.Dec.{eqb, leb}
 use lib.ListN.{length, take, drop, getD, length-append, length-drop}
 use lib.Seq.{take-all, drop-at, drop-append-le, take-append-le}
 use Rattle.record.specs.Identifier.{ENTRY, SUBENT, NOSUBENT, BIB, NOBIB, ENDBIB, COMMON, NOCOMMON, ENDCOMMON, DATA}
-use Rattle.record.specs.Identifier.{NODATA, ENDDATA, ENDSUBENT, ENDENTRY, OTHER, isEnd}
+use Rattle.record.specs.Identifier.{NODATA, ENDDATA, ENDSUBENT}
 use Rattle.record.specs.Word.{blankTo}
 use Rattle.record.specs.declared.columns.Index.{Index}
 use Rattle.rules.specs.declared.state.Phase.{Phase}
@@ -20,17 +20,17 @@ use Rattle.rules.specs.declared.state.Range.{Range}
 use Rattle.rules.specs.declared.state.Ranges.{Ranges}
 use Rattle.rules.specs.declared.state.Table.{Table}
 use Rattle.rules.specs.declared.state.Track.{Track}
-use Rattle.rules.specs.State.{HEADINGS, UNITS, bytesOf, seenOf, Placed, AllPlaced}
+use Rattle.rules.specs.State.{HEADINGS, bytesOf, seenOf, Placed, AllPlaced}
 use Rattle.rules.specs.Role.{TEXT, COMMON-HEADING, COMMON-UNIT, COMMON-VALUE, DATA-HEADING, DATA-UNIT, DATA-VALUE}
-use Rattle.rules.specs.Role.{NOT-DUE, isHeading, opensSubentry, only, either, bibRole, tableRole, dataRole, allRead}
-use Rattle.rules.specs.Role.{nextRole, roleIn}
+use Rattle.rules.specs.Role.{isHeading, opensSubentry, roleIn, inBib, inTable}
 use Rattle.entry.specs.declared.next.Change.{Change}
 use Rattle.entry.specs.declared.next.Change.the-variants.{Kept, Emptied, Begun, Joined}
 use Rattle.entry.specs.Next.{partAfter, emptiesBib, bibChange, underChange, tableChange, ends001, seenAfter}
 use Rattle.entry.specs.Next.{leadsToBib, leadsToCommon, leadsToData, phaseAfter, trackAfter, afterInside}
 use Rattle.entry.specs.Next.{unitsRead, valuesRead}
 use Rattle.entry.specs.Numbers.{rangeAfter, commonAfter, rangesAfter}
-use Rattle.entry.proofs.Counting.{either-way}
+use Rattle.rules.proofs.EitherWay.{either-way, no}
+use Rattle.rules.proofs.RolePlaces.{isText, text-in-bib, heading-in-table}
 
 -- ---- one part
 
@@ -149,149 +149,11 @@ module _ (t : Track) (g : Ranges) (role : ℕ) (fs : List (List ℕ)) where
 
 -- ---- which parts reach up to the record
 
-abbrev pub inBib : Phase → Bool
-inBib Start = false
-inBib Opened = false
-inBib InSubentry = false
-inBib InBib = true
-inBib AfterBib = false
-inBib InCommon = false
-inBib AfterCommon = false
-inBib InData = false
-inBib AfterData = false
-inBib Between = false
-inBib Done = false
-
-abbrev pub inTable : Phase → Bool
-inTable Start = false
-inTable Opened = false
-inTable InSubentry = false
-inTable InBib = false
-inTable AfterBib = false
-inTable InCommon = true
-inTable AfterCommon = false
-inTable InData = true
-inTable AfterData = false
-inTable Between = false
-inTable Done = false
-
 -- in BIB its records, in the headings of a table those, reach up to the record in hand
 pub record Joins (p : Phase) (t : Track) (g : Ranges) : Type 0 where
   pub bib : inBib p ≡ true → g .bib .past .0 ≡ t .records .0
   pub under : inBib p ≡ true → g .under .past .0 ≡ t .records .0
   pub table : inTable p ≡ true → eqb (t .table .row) HEADINGS ≡ true → g .table .past .0 ≡ t .records .0
-
-no : {X : Type 0} → false ≡ true → X
-no e = let z : _≡_ {A = ℕ} 0 1 = cc in absurd (omega arith)
-
--- neither of two: a test that fails on both
-neither : (f : ℕ → Bool) (b : Bool) (x y : ℕ) → f x ≡ false → f y ≡ false → f (cond b x y) ≡ false
-neither f b x y p q = either-way (λ (k : ℕ). f k ≡ false) b x y p q
-
--- a kind of record that is no system record, and due
-record Inner (f : ℕ → Bool) : Type 0 where
-  system : (k : ℕ) → k < 14 → f k ≡ false
-  due : f NOT-DUE ≡ false
-
-only-not : (f : ℕ → Bool) → Inner f → (a k : ℕ) → a < 14 → f (only a k) ≡ false
-only-not f o a k h = neither f (eqb k a) a NOT-DUE (o .system a h) (o .due)
-
-either-not : (f : ℕ → Bool) → Inner f → (a b k : ℕ) → a < 14 → b < 14 → f (either a b k) ≡ false
-either-not f o a b k h i = neither f (eqb k a) a (only b k) (o .system a h) (only-not f o b k i)
-
-data-not : (f : ℕ → Bool) → Inner f → (t : Track) (k : ℕ) → f (dataRole t k) ≡ false
-unfolding dataRole
-data-not f o t k =
-    neither f (eqb (t .subentry .number) 1) (only ENDSUBENT k) (either DATA NODATA k)
-    (only-not f o ENDSUBENT k (omega arith))
-    (either-not f o DATA NODATA k (omega arith) (omega arith))
-
-next-not : (f : ℕ → Bool) → Inner f → (k : ℕ) → f (nextRole k) ≡ false
-next-not f o k =
-    neither f (eqb k SUBENT) SUBENT (either NOSUBENT ENDENTRY k) (o .system SUBENT (omega arith))
-    (either-not f o NOSUBENT ENDENTRY k (omega arith) (omega arith))
-
-abbrev isText : ℕ → Bool
-isText k = eqb k TEXT
-
-text-inner : Inner isText
-text-inner = record { system = λ k h. ne-eqb k TEXT (λ e. omega arith); due = refl }
-
-heading-inner : Inner isHeading
-heading-inner =
-    record {
-      system = λ k h. rw (ne-eqb k COMMON-HEADING (λ e. omega arith), ne-eqb k DATA-HEADING (λ e. omega arith));
-      due = refl;
-    }
-
--- a text record stands in BIB
-text-in-bib : (p : Phase) (t : Track) (k : ℕ) → isText (roleIn p t k) ≡ true → inBib p ≡ true
-unfolding roleIn tableRole
-text-in-bib Start t k e = no (sym (only-not isText text-inner ENTRY k (omega arith)) ∙ e)
-text-in-bib Opened t k e = no (sym (only-not isText text-inner SUBENT k (omega arith)) ∙ e)
-text-in-bib InSubentry t k e = no (sym (either-not isText text-inner BIB NOBIB k (omega arith) (omega arith)) ∙ e)
-text-in-bib InBib t k e = refl
-text-in-bib AfterBib t k e = no (sym (either-not isText text-inner COMMON NOCOMMON k (omega arith) (omega arith)) ∙ e)
-text-in-bib InCommon t k e =
-    no (sym (neither isText (allRead t) _ _ (only-not isText text-inner ENDCOMMON k (omega arith))
-    (neither isText (isEnd k) _ _ refl
-    (neither isText (eqb (t .table .row) HEADINGS) _ _ refl
-    (neither isText (eqb (t .table .row) UNITS) _ _ refl refl)))) ∙ e)
-text-in-bib AfterCommon t k e = no (sym (data-not isText text-inner t k) ∙ e)
-text-in-bib InData t k e =
-    no (sym (neither isText (allRead t) _ _ (only-not isText text-inner ENDDATA k (omega arith))
-    (neither isText (isEnd k) _ _ refl
-    (neither isText (eqb (t .table .row) HEADINGS) _ _ refl
-    (neither isText (eqb (t .table .row) UNITS) _ _ refl refl)))) ∙ e)
-text-in-bib AfterData t k e = no (sym (only-not isText text-inner ENDSUBENT k (omega arith)) ∙ e)
-text-in-bib Between t k e = no (sym (next-not isText text-inner k) ∙ e)
-text-in-bib Done t k e = no e
-
--- a heading record stands in a table, in the row of headings
-record Heading (p : Phase) (t : Track) : Type 0 where
-  table : inTable p ≡ true
-  row : eqb (t .table .row) HEADINGS ≡ true
-
-heading-row : (end heading unit value : ℕ) → end < 14 → isHeading unit ≡ false → isHeading value ≡ false
-    → (t : Track) (k : ℕ) → isHeading (tableRole end heading unit value t k) ≡ true
-    → eqb (t .table .row) HEADINGS ≡ true
-unfolding tableRole
-heading-row end heading unit value s u v t k e = by-row (eqb (t .table .row) HEADINGS) e
-  where
-    by-row : (b : Bool)
-        → isHeading
-        (cond (allRead t) (only end k)
-        (cond (isEnd k) NOT-DUE (cond b heading (cond (eqb (t .table .row) UNITS) unit value)))) ≡ true
-        → b ≡ true
-    by-row true h = refl
-    by-row false h =
-        no (sym (neither isHeading (allRead t) _ _ (only-not isHeading heading-inner end k s)
-        (neither isHeading (isEnd k) _ _ refl (neither isHeading (eqb (t .table .row) UNITS) _ _ u v))) ∙ h)
-
-heading-in-table : (p : Phase) (t : Track) (k : ℕ) → isHeading (roleIn p t k) ≡ true → Heading p t
-unfolding roleIn bibRole
-heading-in-table Start t k e = no (sym (only-not isHeading heading-inner ENTRY k (omega arith)) ∙ e)
-heading-in-table Opened t k e = no (sym (only-not isHeading heading-inner SUBENT k (omega arith)) ∙ e)
-heading-in-table InSubentry t k e = no
-    (sym (either-not isHeading heading-inner BIB NOBIB k (omega arith) (omega arith)) ∙ e)
-heading-in-table InBib t k e =
-    no (sym (neither isHeading (eqb (t .section) (t .bib .records)) _ _
-    (only-not isHeading heading-inner ENDBIB k (omega arith))
-    (neither isHeading (eqb k OTHER) _ _ refl refl)) ∙ e)
-heading-in-table AfterBib t k e = no
-    (sym (either-not isHeading heading-inner COMMON NOCOMMON k (omega arith) (omega arith)) ∙ e)
-heading-in-table InCommon t k e =
-    record {
-      table = refl;
-      row = heading-row ENDCOMMON COMMON-HEADING COMMON-UNIT COMMON-VALUE (omega arith) refl refl
-          t k e;
-    }
-heading-in-table AfterCommon t k e = no (sym (data-not isHeading heading-inner t k) ∙ e)
-heading-in-table InData t k e =
-    record { table = refl; row = heading-row ENDDATA DATA-HEADING DATA-UNIT DATA-VALUE (omega arith) refl refl t k e }
-heading-in-table AfterData t k e = no (sym (only-not isHeading heading-inner ENDSUBENT k (omega arith)) ∙ e)
-heading-in-table Between t k e = no (sym (next-not isHeading heading-inner k) ∙ e)
-heading-in-table Done t k e = no e
 
 -- a change that joins is that of a text record, or of a heading record
 joined-only : (a b : Bool) → cond a Emptied (cond b Joined Kept) ≡ Joined → b ≡ true

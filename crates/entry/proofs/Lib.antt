@@ -2,3 +2,4 @@ pub mod Counting
 pub mod Following
 pub mod Numbered
 pub mod Stepping
+pub mod GoingOn

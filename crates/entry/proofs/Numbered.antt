@@ -79,7 +79,7 @@ module _ (s : List ℕ) (n : ℕ) (whole : length s ≡ n * 81) (few : n ≤ MOS
   turn i c j l k Fine = goes-on i j l c k
   turn i c j l k (At number column) = refl
 
-  turns : (i : ℕ) (c : Context) (j : Judge) → i < n → Standing i c j
+  pub turns : (i : ℕ) (c : Context) (j : Judge) → i < n → Standing i c j
       → Agree (Standing (i + 1)) (turnOf c i (blockAt 81 s i)) (stepTurn s j i)
   unfolding turnOf turnAs stepOf stepAs
   turns i c j l k =
@@ -88,11 +88,11 @@ module _ (s : List ℕ) (n : ℕ) (whole : length s ≡ n * 81) (few : n ≤ MOS
       rw (← k .same)
       (turn i c j l k (faultOf (j .track) (seenOf b (j .ranges)) (roleOf (contextOf b j) r) (fieldsOf r) r))
 
-  ends : (c : Context) (j : Judge) → Standing n c j → endOf c ≡ finishOf j
+  pub ends : (c : Context) (j : Judge) → Standing n c j → endOf c ≡ finishOf j
   unfolding endOf finishOf
   ends c j k = rw (← k .same)
 
-  starts : Standing 0 startContext startJudge
+  pub starts : Standing 0 startContext startJudge
   starts =
       record {
         same = refl;

@@ -24,7 +24,7 @@ pub struct Verdict {
     pub totals: Totals,
 }
 
-fn refused(refusal: u8, at: RecordNo, column: u8) -> Verdict
+pub fn refused(refusal: u8, at: RecordNo, column: u8) -> Verdict
     ensures { λ r. ⌜ r ≡ refused refusal at column ⌝ }
 {
     Verdict {
@@ -43,7 +43,7 @@ fn refused(refusal: u8, at: RecordNo, column: u8) -> Verdict
 const MOST_BYTES: usize = 1620000;
 
 // Whether the length is that of 1 to 20,000 records.
-fn length_good(n: usize) -> bool
+pub fn length_good(n: usize) -> bool
     ensures { λ r. ⌜ r ≡ lengthGood n ⌝ }
 {
     if n == 0 {
@@ -75,7 +75,7 @@ fn is_done(phase: Phase) -> bool
 
 impl Judge {
     // The verdict after the last record.
-    fn finish(self) -> Verdict
+    pub fn finish(self) -> Verdict
         requires { ⌜ Bounded (self .track) ⌝ }
         ensures { λ r. ⌜ r ≡ finishOf self ⌝ }
     {

@@ -43,6 +43,14 @@ module _ {A C R M : Type 0} (turn : C → ℕ → A → Turn C R) (mark : C → 
       by-turn (go d) next = next d
       by-turn (out v) next = tt
 
+  -- what holds of each element from which a turn goes on, by its mark
+  pub marks-hold : (P : M → A → Type 0) → Passing turn (λ c i r d. P (mark c r) r)
+      → (c : C) (i : ℕ) (rs : List A) (z : C) → Goes turn c i rs z
+      → Alikes (λ m r t. P m r) (marks turn mark c i rs) rs rs
+  unfolding marks
+  marks-hold P h c i [] z g = tt
+  marks-hold P h c i (r ∷ rs) z g = rw (g .1) (h c i r (g .0) (g .1), marks-hold P h (g .0) (i + 1) rs z (g .2))
+
 -- ---- lists of records
 
 module _ {C R M : Type 0} {turn : C → ℕ → List ℕ → Turn C R} {copy : C → List ℕ → List ℕ}
@@ -74,6 +82,26 @@ module _ {C R M : Type 0} {turn : C → ℕ → List ℕ → Turn C R} {copy : C
   copies-wide w c i (r ∷ rs) z g h =
       rw (g .1)
       (faithful .size c i r (g .0) (g .1) ∙ h .0, copies-wide w (g .0) (i + 1) rs z (g .2) (h .1))
+
+  -- another mark that the copy of a record keeps
+  pub copies-marks : {N : Type 0} (note : C → List ℕ → N) → Passing turn (λ c i r d. note c (copy c r) ≡ note c r)
+      → (c : C) (i : ℕ) (rs : List (List ℕ)) (z : C) → Goes turn c i rs z
+      → marks turn note c i (copies turn copy c i rs) ≡ marks turn note c i rs
+  unfolding copies marks
+  copies-marks note h c i [] z g = refl
+  copies-marks note h c i (r ∷ rs) z g =
+      rw (g .1)
+      (rw (faithful .keeps c i r (g .0) (g .1))
+      (rw (h c i r (g .0) (g .1), copies-marks note h (g .0) (i + 1) rs z (g .2))))
+
+  -- what holds between the copy of each record and the record
+  pub copies-at : (P : List ℕ → List ℕ → Type 0) → Passing turn (λ c i r d. P (copy c r) r)
+      → (c : C) (i : ℕ) (rs : List (List ℕ)) (z : C) → Goes turn c i rs z
+      → (j : ℕ) → j < length rs → P (getD (copies turn copy c i rs) j []) (getD rs j [])
+  unfolding copies
+  copies-at P h c i [] z g j l = absurd (omega arith)
+  copies-at P h c i (r ∷ rs) z g zero l = h c i r (g .0) (g .1)
+  copies-at P h c i (r ∷ rs) z g (suc j) l = rw (g .1) (copies-at P h (g .0) (i + 1) rs z (g .2) j (omega arith))
 
   -- the copy of the copy is the copy
   pub copies-twice : (c : C) (i : ℕ) (rs : List (List ℕ)) (z : C) → Goes turn c i rs z

@@ -11,3 +11,6 @@ pub mod Pasting
 pub mod Seeking
 pub mod Bits
 pub mod Promise
+pub mod Booleans
+pub mod Counting
+pub mod Listing

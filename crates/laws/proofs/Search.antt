@@ -124,3 +124,10 @@ many-to f i (suc n) = by-test (f (i + n)) (howMany f i n) (many-to f i n)
     by-test : (b : Bool) (x : ℕ) → x ≤ n → x + cond b 1 0 ≤ suc n
     by-test true x h = omega arith
     by-test false x h = omega arith
+
+-- a count goes by its test alone
+pub many-same : (f g : ℕ → Bool) (i n : ℕ) → ((k : ℕ) → i ≤ k → k < i + n → f k ≡ g k) → howMany f i n ≡ howMany g i n
+unfolding howMany
+many-same f g i zero h = refl
+many-same f g i (suc n) h =
+    rw (h (i + n) (omega arith) (omega arith), many-same f g i n (λ k a b. h k a (omega arith)))

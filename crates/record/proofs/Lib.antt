@@ -4,3 +4,6 @@ pub mod NameTable
 pub mod Powers
 pub mod TablePlaces
 pub mod Found
+pub mod NumberFields
+pub mod Readings
+pub mod WordsAndBlanks

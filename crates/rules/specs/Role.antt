@@ -109,3 +109,30 @@ roleIn InData t k = tableRole ENDDATA DATA-HEADING DATA-UNIT DATA-VALUE t k
 roleIn AfterData t k = only ENDSUBENT k
 roleIn Between t k = nextRole k
 roleIn Done t k = NOT-DUE
+
+-- inside BIB; inside COMMON or DATA
+abbrev pub inBib : Phase → Bool
+inBib Start = false
+inBib Opened = false
+inBib InSubentry = false
+inBib InBib = true
+inBib AfterBib = false
+inBib InCommon = false
+inBib AfterCommon = false
+inBib InData = false
+inBib AfterData = false
+inBib Between = false
+inBib Done = false
+
+abbrev pub inTable : Phase → Bool
+inTable Start = false
+inTable Opened = false
+inTable InSubentry = false
+inTable InBib = false
+inTable AfterBib = false
+inTable InCommon = true
+inTable AfterCommon = false
+inTable InData = true
+inTable AfterData = false
+inTable Between = false
+inTable Done = false

@@ -1,4 +1,5 @@
-use Rattle.entry.proofs.Counting.{counted-follows, numbers-few}
+use Rattle.entry.proofs.Counting.{counted-follows}
+use Rattle.rules.proofs.ReadValues.{numbers-few}
 use Rattle.entry.specs.Next.{trackAfter}
 use borrow.Author.Needs.{needs}
 use Rattle.entry.proofs.next.track_after.Statement.{statement}

@@ -1,0 +1,93 @@
+-- The judge's turn at a record: it goes on exactly where no rule is broken, and hands out nothing but refusals. Behind a
+-- value record the context goes by what the fields read to.
+-- Assumes nothing.
+use mathlib.Core.Path.{_≡_, refl, sym, ap, _∙_}
+use mathlib.Core.Bool.{Bool, true, false, cond}
+use mathlib.Core.List.{List, [], _∷_}
+use Prim.Native.Nat.{ℕ, suc, _<_}
+use native.Mathlib.Omega.{arith}
+use lib.Dec.{eqb}
+use lib.ListN.{getD}
+use Rattle.laws.specs.Turns.{Turn, go, out}
+use Rattle.laws.specs.Walk.{All}
+use Rattle.laws.specs.Copies.{Passing}
+use Rattle.number.specs.Reading.{readField}
+use Rattle.record.specs.Columns.{recordOf}
+use Rattle.record.specs.Fields.{fieldsOf}
+use Rattle.rules.specs.declared.fault.Fault.{Fault}
+use Rattle.rules.specs.declared.fault.Fault.the-variants.{Fine, At}
+use Rattle.rules.specs.State.{Context, used}
+use Rattle.rules.specs.Role.{COMMON-VALUE, DATA-VALUE, isValue}
+use Rattle.rules.specs.Fault.{leftmost, Finding, firstFault}
+use Rattle.rules.specs.Values.{optional, valuesFor}
+use Rattle.rules.specs.Order.{findings, faultOf}
+use Rattle.entry.specs.declared.verdict.Verdict.{Verdict}
+use Rattle.entry.specs.Next.{phaseAfter, trackAfter, afterInside, partAfter, bibChange, underChange, tableChange, seenAfter, contextAfter}
+use Rattle.entry.specs.Verdict.{roleOf, refused, onFault, turnAs, turnOf}
+use Rattle.record.proofs.Readings.{values-same}
+use Rattle.rules.proofs.WithoutFault.{of-values}
+
+pub go-fine : Passing turnOf
+    (λ c i r d. (faultOf (c .track) (c .seen) (roleOf c r) (fieldsOf r) r ≡ Fine) × (contextAfter c (roleOf c r) (fieldsOf r) r ≡ d))
+unfolding turnOf turnAs
+go-fine c i r d h = by-fault (faultOf (c .track) (c .seen) (roleOf c r) (fieldsOf r) r) h
+  where
+    by-fault : (x : Fault)
+        → onFault (recordOf (c .track .records)) x (contextAfter c (roleOf c r) (fieldsOf r) r) ≡ go d
+        → (x ≡ Fine) × (contextAfter c (roleOf c r) (fieldsOf r) r ≡ d)
+    by-fault Fine e = (refl, cc)
+    by-fault (At n k) e = let z : _≡_ {A = ℕ} 0 1 = cc in absurd (omega arith)
+
+pub fine-go : (c : Context) (i : ℕ) (r : List ℕ) (role : ℕ) → roleOf c r ≡ role → faultOf (c .track) (c .seen) role (fieldsOf r) r ≡ Fine
+    → turnOf c i r ≡ go (contextAfter c role (fieldsOf r) r)
+unfolding turnOf turnAs
+fine-go c i r role e h = rw (e, h)
+
+-- the number of a fault is one of the findings'
+fault-number : (fs : List Finding) → All (λ f. 0 < f .number) fs → (n k : ℕ) → firstFault fs ≡ At n k → 0 < n
+unfolding firstFault
+fault-number [] a n k e = let z : _≡_ {A = ℕ} 0 1 = cc in absurd (omega arith)
+fault-number (f ∷ fs) a n k e =
+    by-column (eqb (leftmost (f .columns)) 0) e (fault-number fs (a .1) n k)
+  where
+    by-column : (t : Bool) → cond t (firstFault fs) (At (f .number) (leftmost (f .columns))) ≡ At n k
+        → (firstFault fs ≡ At n k → 0 < n) → 0 < n
+    by-column true h rest = rest h
+    by-column false h rest = let z : f .number ≡ n = cc in let b : 0 < f .number = a .0 in omega arith
+
+one : {n : ℕ} → 0 < suc n
+one = omega arith
+
+numbered : (c : Context) (role : ℕ) (fs : List (List ℕ)) (r : List ℕ) → All (λ f. 0 < f .number) (findings (c .track) (c .seen) role fs r)
+numbered c role fs r =
+    (one, (one, (one, (one, (one, (one, (one, (one, (one, (one, (one, (one, (one, (one, tt))))))))))))))
+
+-- what a turn hands out is a refusal
+pub out-refused : (c : Context) (i : ℕ) (r : List ℕ) (v : Verdict) → turnOf c i r ≡ out v → v .refusal ≡ 0 → ⊥
+unfolding turnOf turnAs faultOf
+out-refused c i r v e z =
+    let role = roleOf c r in
+    by-fault (firstFault (findings (c .track) (c .seen) role (fieldsOf r) r)) refl e
+  where
+    by-fault : (x : Fault) → firstFault (findings (c .track) (c .seen) (roleOf c r) (fieldsOf r) r) ≡ x
+        → onFault (recordOf (c .track .records)) x (contextAfter c (roleOf c r) (fieldsOf r) r) ≡ out v → ⊥
+    by-fault Fine q h = let z : _≡_ {A = ℕ} 0 1 = cc in omega arith
+    by-fault (At n k) q h =
+        let w : refused n (recordOf (c .track .records)) k ≡ v = cc in
+        let m : n ≡ v .refusal = ap (λ (x : Verdict). x .refusal) w in
+        let b : 0 < n =
+        fault-number (findings (c .track) (c .seen) (roleOf c r) (fieldsOf r) r)
+        (numbered c (roleOf c r) (fieldsOf r) r) n k q in
+        omega arith
+
+module _ (c : Context) (r t : List ℕ)
+    (reads : (k : ℕ) → k < 6 → readField (getD (fieldsOf t) k []) ≡ readField (getD (fieldsOf r) k [])) where
+  values-for : (role : ℕ) → valuesFor (c .track) role (fieldsOf t) ≡ valuesFor (c .track) role (fieldsOf r)
+  unfolding valuesFor
+  values-for role = rw (values-same (fieldsOf t) (fieldsOf r) reads (optional role) (used (c .track)))
+
+  pub next-alike : (role : ℕ) → isValue role ≡ true → contextAfter c role (fieldsOf t) t ≡ contextAfter c role (fieldsOf r) r
+  unfolding contextAfter trackAfter afterInside seenAfter partAfter bibChange underChange tableChange
+  next-alike =
+      of-values (λ role. contextAfter c role (fieldsOf t) t ≡ contextAfter c role (fieldsOf r) r)
+      (rw (values-for COMMON-VALUE)) (rw (values-for DATA-VALUE))

@@ -1,0 +1,168 @@
+-- A record without fault: what the rules for every record, and those for a value record, then say of it. And a value
+-- record goes by what it reads to: one that reads alike, with permitted characters, is judged alike.
+-- Assumes nothing.
+use mathlib.Core.Path.{_≡_, refl, sym, ap, _∙_}
+use mathlib.Core.Bool.{Bool, true, false, cond, not, _&&_, _||_}
+use mathlib.Core.List.{List, [], _∷_, _++_}
+use Prim.Native.Nat.{ℕ, zero, suc, _+_, _*_, _<_, _≤_}
+use native.Mathlib.Omega.{arith}
+use borrow.Author.Tests.{eqb-true, not-false, ltb-false}
+use lib.Dec.{eqb, ltb}
+use lib.ListN.{length, take, drop, getD, List·getD-eq-default}
+use lib.Seq.{drop-drop, getD-drop}
+use Rattle.laws.specs.Search.{first}
+use Rattle.laws.specs.Walk.{All}
+use Rattle.laws.proofs.Search.{first-pass, first-to, first-same, either}
+use Rattle.number.specs.Reading.{readField}
+use Rattle.record.specs.Columns.{hasLineFeed}
+use Rattle.record.specs.Class.{isPermitted, notPermitted}
+use Rattle.record.specs.Fields.{inField, fieldsOf}
+use Rattle.record.specs.Numbers.{formAt, noValue, valueFault}
+use Rattle.rules.specs.declared.fault.Fault.{Fault}
+use Rattle.rules.specs.declared.fault.Fault.the-variants.{Fine, At}
+use Rattle.rules.specs.declared.state.Track.{Track}
+use Rattle.rules.specs.State.{Seen, used}
+use Rattle.rules.specs.Role.{COMMON-VALUE, DATA-VALUE, isValue}
+use Rattle.rules.specs.Fault.{on, when, columnsFrom, columnsWhere, fieldColumn, columnAt, leftmost, Finding, orElse, firstFault}
+use Rattle.rules.specs.Every.{rule2, rule3, rule4, rule5, rule6, expectedIdentification}
+use Rattle.rules.specs.Values.{optional, lineBlank, rule15}
+use Rattle.rules.specs.Order.{findings, faultOf}
+use Rattle.rules.proofs.Leftmost.{leftmost-where}
+use Rattle.record.proofs.Readings.{fault-reads, fault-same, first-fault-same}
+
+-- ---- no column at fault
+
+-- where no rule is broken, none has found a column
+fine-all : (fs : List Finding) → firstFault fs ≡ Fine → All (λ f. leftmost (f .columns) ≡ 0) fs
+unfolding firstFault
+fine-all [] e = tt
+fine-all (f ∷ fs) e = by-column (eqb (leftmost (f .columns)) 0) refl e (fine-all fs)
+  where
+    by-column : (t : Bool) → eqb (leftmost (f .columns)) 0 ≡ t
+        → cond t (firstFault fs) (At (f .number) (leftmost (f .columns))) ≡ Fine
+        → (firstFault fs ≡ Fine → All (λ f. leftmost (f .columns) ≡ 0) fs)
+        → (leftmost (f .columns) ≡ 0) × All (λ f. leftmost (f .columns) ≡ 0) fs
+    by-column true q h rest = (eqb-true (leftmost (f .columns)) 0 q, rest h)
+    by-column false q h rest = let z : _≡_ {A = ℕ} 0 1 = cc in absurd (omega arith)
+
+-- and none of the places meets the test
+none-where : (test : ℕ → Bool) (column : ℕ → ℕ) (n : ℕ) → ((k : ℕ) → 0 < column k)
+    → leftmost (columnsWhere test column n) ≡ 0 → (k : ℕ) → k < n → test k ≡ false
+none-where test column n above e k h =
+    by-test (ltb (first test 0 n) n) refl (sym (leftmost-where test column n) ∙ e)
+  where
+    by-test : (t : Bool) → ltb (first test 0 n) n ≡ t → cond t (column (first test 0 n)) 0 ≡ 0 → test k ≡ false
+    by-test true q z = let a : 0 < column (first test 0 n) = above (first test 0 n) in absurd (omega arith)
+    by-test false q z =
+        let a : n ≤ first test 0 n = ltb-false (first test 0 n) n q in
+        let b : first test 0 n ≤ 0 + n = first-to test 0 n in
+        first-pass test 0 n (omega arith) k (omega arith) (omega arith)
+
+when-none : (t : Bool) (k : ℕ) (ks : List ℕ) → leftmost (when t (suc k) ++ ks) ≡ 0 → leftmost ks ≡ 0
+when-none true k ks e = absurd (omega arith)
+when-none false k ks e = e
+
+-- the columns go by the test alone
+where-same : (f g : ℕ → Bool) (column : ℕ → ℕ) (i n : ℕ) → ((k : ℕ) → i ≤ k → k < i + n → f k ≡ g k)
+    → columnsFrom f column i n ≡ columnsFrom g column i n
+unfolding columnsFrom
+where-same f g column i zero h = refl
+where-same f g column i (suc n) h =
+    rw (h i (omega arith) (omega arith), where-same f g column (i + 1) n (λ k a b. h k (omega arith) (omega arith)))
+
+-- a byte that is not 0 is there
+there : (r : List ℕ) (n x : ℕ) → getD r n 0 ≡ suc x → n < length r
+there r n x e =
+    either n (length r) (λ l. l) (λ l. let z : getD r n 0 ≡ 0 = List·getD-eq-default r 0 l in absurd (omega arith))
+
+module _ (track : Track) (seen : Seen) (role : ℕ) (fs : List (List ℕ)) (r : List ℕ)
+    (fine : faultOf track seen role fs r ≡ Fine) where
+  pub none-found : All (λ f. leftmost (f .columns) ≡ 0) (findings track seen role fs r)
+  unfolding faultOf
+  none-found = fine-all (findings track seen role fs r) fine
+
+  -- 2: byte 81 is a line feed, so it is there
+  pub fine-long : 80 < length r
+  unfolding rule2
+  fine-long = by-test (hasLineFeed r) refl (none-found .0)
+    where
+      by-test : (t : Bool) → hasLineFeed r ≡ t → leftmost (when (not t) 81) ≡ 0 → 80 < length r
+      by-test true q e = there r 80 9 (eqb-true (getD r 80 0) 10 q)
+      by-test false q e = absurd (omega arith)
+
+  -- 3: every character is permitted
+  pub fine-permitted : (i : ℕ) → i < 80 → isPermitted (getD r i 0) ≡ true
+  unfolding rule3
+  fine-permitted i h =
+      not-false (isPermitted (getD r i 0))
+      (none-where (notPermitted r) (λ k. k + 1) 80 (λ k. omega arith) (none-found .1 .0) i h)
+
+  -- 15: on a value record every field is blank or a number
+  pub fine-reads : isValue role ≡ true → (k : ℕ) → k < 6 → noValue true (formAt (getD fs k [])) ≡ false
+  unfolding rule15
+  fine-reads e k h =
+      let found : leftmost (on (isValue role) (rule15 track role fs)) ≡ 0 =
+      none-found .1 .1 .1 .1 .1 .1 .1 .1 .1 .1 .1 .1 .1 .0 in
+      let here : leftmost (rule15 track role fs) ≡ 0 = rw e at found in
+      fault-reads (optional role) (used track) k (getD fs k [])
+      (none-where (inField (valueFault (optional role) (used track)) fs) fieldColumn 6 (λ k. omega arith)
+      (when-none (lineBlank track role fs) 0 _ here) k h)
+
+-- ---- judged alike
+
+-- what holds of both roles of a value record holds of each
+pub of-values : (P : ℕ → Type 0) → P COMMON-VALUE → P DATA-VALUE → (role : ℕ) → isValue role ≡ true → P role
+of-values P in-common in-data role e = by-test (eqb role COMMON-VALUE) refl (optional role) refl e
+  where
+    by-test : (t : Bool) → eqb role COMMON-VALUE ≡ t → (u : Bool) → eqb role DATA-VALUE ≡ u → (t || u) ≡ true → P role
+    by-test true p u q h = let z : role ≡ COMMON-VALUE = eqb-true role COMMON-VALUE p in rw z in-common
+    by-test false p true q h = let z : role ≡ DATA-VALUE = eqb-true role DATA-VALUE q in rw z in-data
+    by-test false p false q h = let z : _≡_ {A = ℕ} 0 1 = cc in absurd (omega arith)
+
+-- two records of permitted characters
+pub permitted-alike : (r t : List ℕ) → ((i : ℕ) → i < 80 → isPermitted (getD r i 0) ≡ true)
+    → ((i : ℕ) → i < 80 → isPermitted (getD t i 0) ≡ true) → rule3 t ≡ rule3 r
+unfolding rule3
+permitted-alike r t p q =
+    where-same (notPermitted t) (notPermitted r) (λ k. k + 1) 0 80
+    (λ k a b. rw (q k (omega arith), p k (omega arith)))
+
+module _ (track : Track) (seen : Seen) (r t : List ℕ) (letters : rule3 t ≡ rule3 r) (behind : drop 66 t ≡ drop 66 r)
+    (reads : (k : ℕ) → k < 6 → readField (getD (fieldsOf t) k []) ≡ readField (getD (fieldsOf r) k [])) where
+  rule2-same : rule2 t ≡ rule2 r
+  unfolding rule2
+  rule2-same =
+      let e : getD t 80 0 ≡ getD r 80 0 =
+      sym (getD-drop 66 t 14 0) ∙ ap (λ (l : List ℕ). getD l 14 0) behind ∙ getD-drop 66 r 14 0 in
+      rw e
+
+  rule5-same : (role : ℕ) → isValue role ≡ true → rule5 track role (fieldsOf t) t ≡ rule5 track role (fieldsOf r) r
+  unfolding rule5 expectedIdentification
+  rule5-same = of-values (λ role. rule5 track role (fieldsOf t) t ≡ rule5 track role (fieldsOf r) r) (rw behind) (rw behind)
+
+  rule6-same : (role : ℕ) → rule6 track role t ≡ rule6 track role r
+  unfolding rule6
+  rule6-same role =
+      let e : drop 74 t ≡ drop 74 r = sym (drop-drop 8 66 t) ∙ ap (drop 8) behind ∙ drop-drop 8 66 r in
+      rw e
+
+  line-same : (role : ℕ) → lineBlank track role (fieldsOf t) ≡ lineBlank track role (fieldsOf r)
+  line-same role = rw (first-fault-same (fieldsOf t) (fieldsOf r) reads true 0)
+
+  columns-same : (role : ℕ)
+      → columnsWhere (inField (valueFault (optional role) (used track)) (fieldsOf t)) fieldColumn 6
+      ≡ columnsWhere (inField (valueFault (optional role) (used track)) (fieldsOf r)) fieldColumn 6
+  columns-same role =
+      where-same _ _ fieldColumn 0 6
+      (λ k l h. fault-same (fieldsOf t) (fieldsOf r) reads (optional role) (used track) k (omega arith))
+
+  rule15-same : (role : ℕ) → rule15 track role (fieldsOf t) ≡ rule15 track role (fieldsOf r)
+  unfolding rule15
+  rule15-same role = rw (line-same role, columns-same role)
+
+  pub judged-alike : (role : ℕ) → isValue role ≡ true → faultOf track seen role (fieldsOf t) t ≡ faultOf track seen role (fieldsOf r) r
+  unfolding faultOf
+  judged-alike role e =
+      of-values (λ role. firstFault (findings track seen role (fieldsOf t) t) ≡ firstFault (findings track seen role (fieldsOf r) r))
+      (rw (rule2-same, letters, rule5-same COMMON-VALUE refl, rule6-same COMMON-VALUE, rule15-same COMMON-VALUE))
+      (rw (rule2-same, letters, rule5-same DATA-VALUE refl, rule6-same DATA-VALUE, rule15-same DATA-VALUE)) role e
