@@ -1,0 +1,99 @@
+-- An accepted entry, record by record: each turn goes on from the context before a record to the one behind it, and the
+-- last phase is Done.
+-- Assumes nothing.
+use Prim.Native.Nat.{ℕ, zero, suc, _+_, _*_, _-_, _/_, _<_, _≤_}
+use mathlib.Core.Path.{_≡_, refl, sym, _∙_, ap, subst}
+use mathlib.Core.Bool.{Bool, true, false, cond}
+use mathlib.Core.List.{List, [], _∷_}
+use native.Mathlib.Omega.{arith}
+use native.Mathlib.Nat.{zero-mul}
+use native.Mathlib.Numerals.{add-one}
+use lib.ListN.{length, take, drop}
+use Rattle.laws.specs.Turns.{Turn, go, out}
+use Rattle.laws.specs.Walk.{walk, Goes}
+use Rattle.laws.specs.Blocks.{blocks, blockAt}
+use Rattle.laws.proofs.Walk.{walk-goes, goes-walk}
+use Rattle.laws.proofs.Blocks.{next-block}
+use Rattle.record.specs.Columns.{recordOf}
+use Rattle.rules.specs.declared.state.Totals.{Totals}
+use Rattle.rules.specs.State.{Context, startContext}
+use Rattle.entry.specs.declared.verdict.Verdict.{Verdict}
+use Rattle.entry.specs.Verdict.{refused, accepted, turnOf, endOf, isDone, lengthGood, judgeOf}
+use Rattle.entry.proofs.GoingOn.{go-fine, out-refused}
+use Rattle.questions.specs.Inside.{Accepted, behind, contextAt}
+
+-- one block more
+one-turn : (m : ℕ) (c : Context) (i : ℕ) (t : List ℕ) (last : Context) → Goes turnOf c i (blocks 81 (suc m) t) last
+    → (turnOf c i (take 81 t) ≡ go (behind c (take 81 t)))
+    × Goes turnOf (behind c (take 81 t)) (i + 1) (blocks 81 m (drop 81 t)) last
+unfolding blocks
+one-turn m c i t last g =
+    let f = go-fine c i (take 81 t) (g .0) (g .1) in (
+      g .1 ∙ ap go (sym (f .1)),
+      subst (λ (x : Context). Goes turnOf x (i + 1) (blocks 81 m (drop 81 t)) last) (sym (f .1)) (g .2),
+    )
+
+none-left : (c : Context) (i : ℕ) (t : List ℕ) (last : Context) → Goes turnOf c i (blocks 81 0 t) last → c ≡ last
+unfolding blocks
+none-left c i t last g = g
+
+context-start : (s : List ℕ) → contextAt s 0 ≡ startContext
+unfolding contextAt
+context-start s = refl
+
+module _ (s : List ℕ) (n : ℕ) (last : Context) (goes : Goes turnOf startContext 0 (blocks 81 n s) last) where
+  abbrev rest : ℕ → List (List ℕ)
+  rest i = blocks 81 (n - i) (drop (i * 81) s)
+
+  here : (i : ℕ) → i < n → Goes turnOf (contextAt s i) i (rest i) last
+      → (turnOf (contextAt s i) i (blockAt 81 s i) ≡ go (contextAt s (suc i)))
+      × Goes turnOf (contextAt s (suc i)) (suc i) (rest (suc i)) last
+  unfolding contextAt
+  here i h g =
+      let z : n - i ≡ suc (n - (i + 1)) = omega arith in
+      let (a, b) = one-turn (n - (i + 1)) (contextAt s i) i (drop (i * 81) s) last (rw z at g) in
+      (a, rw (add-one i) at (rw (next-block 81 i s) at b))
+
+  goes-from : (i : ℕ) → i ≤ n → Goes turnOf (contextAt s i) i (rest i) last
+  goes-from zero h = let z : n - 0 ≡ n = omega arith in rw (context-start s, z, zero-mul 81) goes
+  goes-from (suc i) h = here i (omega arith) (goes-from i (omega arith)) .1
+
+  turns-at : (i : ℕ) → i < n → turnOf (contextAt s i) i (blockAt 81 s i) ≡ go (contextAt s (suc i))
+  turns-at i h = here i h (goes-from i (omega arith)) .0
+
+  ends-at : contextAt s n ≡ last
+  ends-at =
+      let z : n - n ≡ 0 = omega arith in
+      none-left (contextAt s n) n (drop (n * 81) s) last (rw z at (goes-from n (omega arith)))
+
+-- an accepted entry has n records, each turn goes on, and the last phase is Done
+pub record Walked (s : List ℕ) (n : ℕ) : Type 0 where
+  pub turns : (i : ℕ) → i < n → turnOf (contextAt s i) i (blockAt 81 s i) ≡ go (contextAt s (suc i))
+  pub done : isDone (contextAt s n .phase) ≡ true
+
+done-of : (c : Context) → endOf c .refusal ≡ 0 → isDone (c .phase) ≡ true
+unfolding endOf
+done-of c e = by-test (isDone (c .phase)) e
+  where
+    by-test : (b : Bool)
+        → cond b (accepted (c .track .totals)) (refused 16 (recordOf (c .track .records)) 0) .refusal ≡ 0 → b ≡ true
+    by-test true h = refl
+    by-test false h = absurd (omega arith)
+
+pub walked : (s : List ℕ) → Accepted s → Walked s (length s / 81)
+unfolding judgeOf
+walked s a = by-test (lengthGood (length s)) a
+  where
+    by-test : (b : Bool)
+        → cond b (walk turnOf endOf startContext 0 (blocks 81 (length s / 81) s)) (refused 1 (record { 0 = 0 }) 0)
+        .refusal ≡ 0
+        → Walked s (length s / 81)
+    by-test true h =
+        let n = length s / 81 in
+        let (z, g) = walk-goes turnOf (λ v. v .refusal ≡ 0) out-refused endOf startContext 0 (blocks 81 n s) h in
+        let w = goes-walk turnOf endOf startContext 0 (blocks 81 n s) z g in
+        record {
+          turns = turns-at s n z g;
+          done = rw (ends-at s n z g) (done-of z (ap (λ (v : Verdict). v .refusal) (sym w) ∙ h));
+        }
+    by-test false h = absurd (omega arith)

@@ -1,0 +1,12 @@
+pub mod Records
+pub mod Refusals
+pub mod Parts
+pub mod Rows
+pub mod Judged
+pub mod Contexts
+pub mod Laid
+pub mod TableLaid
+pub mod Nesting
+pub mod RowFound
+pub mod Answered
+pub mod NumberedRow

@@ -1,0 +1,89 @@
+-- A part that is handed back lies in the entry, and the place of a value has a number of 32 bits.
+-- Assumes nothing.
+use Prim.Native.Nat.{ℕ, _+_, _-_, _*_, _/_, _%_, _<_, _≤_}
+use mathlib.Core.Path.{_≡_, refl}
+use mathlib.Core.Bool.{Bool, true, false, cond}
+use mathlib.Core.List.{List}
+use native.Mathlib.Omega.{arith}
+use native.Mathlib.Nat.{mul-le-mul}
+use lib.Dec.{eqb, leb}
+use lib.ListN.{length}
+use borrow.Author.Tests.{leb-true}
+use Rattle.record.specs.Columns.{recordsFor, placeOf, InTable}
+use Rattle.record.specs.declared.columns.RecordNo.{RecordNo}
+use Rattle.record.specs.Word.{pointerOf}
+use Rattle.record.specs.declared.columns.Place.{Place}
+use Rattle.record.specs.declared.columns.LineNo.{LineNo}
+use Rattle.entry.specs.declared.verdict.Verdict.{Verdict}
+use Rattle.questions.specs.declared.row.Row.{Row}
+use Rattle.questions.specs.declared.place.Shape.{Shape}
+use Rattle.questions.specs.declared.ask.Answer.{Answer}
+use Rattle.questions.specs.declared.ask.PartAnswer.{PartAnswer}
+use Rattle.questions.specs.Place.{shapeOf, headingPlace, unitPlace, fieldOf, firstByte, byteOf}
+use Rattle.questions.specs.Passage.{passageOf}
+use Rattle.questions.specs.Ask.{sectionIn, columnRefusal, passageRefusal, answer, answerFor, noPart, partFrom}
+use Rattle.questions.specs.Ask.{partWith, Lies, headingBy, unitBy, passageBy, Inside}
+
+module _ (s : List ℕ) (v : Verdict) (number from bytes pointer : ℕ) where
+  from-lies : Lies s (partFrom s (answer 0) from bytes pointer)
+  from-lies = by-test (leb (from + bytes) (length s)) refl
+    where
+      by-test : (t : Bool) → leb (from + bytes) (length s) ≡ t
+          → Lies s
+          (cond t (record { answer = answer 0; first = from; length = bytes; pointer = pointer }) (noPart (answer 0)))
+      by-test true e = record { within = leb-true (from + bytes) (length s) e }
+      by-test false e = record { within = omega arith }
+
+  pub part-lies : Lies s (partWith s v number from bytes pointer)
+  part-lies = by-test (eqb number 0)
+    where
+      by-test : (t : Bool)
+          → Lies s (cond t (partFrom s (answer 0) from bytes pointer) (noPart (answerFor v number)))
+      by-test true = from-lies
+      by-test false = record { within = omega arith }
+
+module _ (s : List ℕ) (v : Verdict) (x : Row) where
+  abbrev asked : ℕ → ℕ → ℕ
+  asked section column =
+      columnRefusal s v x (sectionIn x section) (shapeOf s section (sectionIn x section)) column
+
+  abbrev heading : ℕ → ℕ → Place
+  heading section column = headingPlace (sectionIn x section) column
+
+  abbrev unit : ℕ → ℕ → Place
+  unit section column =
+      unitPlace (sectionIn x section) (shapeOf s section (sectionIn x section) .columns) column
+
+  pub heading-lies : (section column : ℕ) → Lies s (headingBy s v x section column)
+  unfolding headingBy
+  heading-lies section column =
+      part-lies s v (asked section column) (byteOf (heading section column)) 10
+      (pointerOf (fieldOf s (heading section column)))
+
+  pub unit-lies : (section column : ℕ) → Lies s (unitBy s v x section column)
+  unfolding unitBy
+  unit-lies section column =
+      part-lies s v (asked section column) (byteOf (unit section column)) 10
+      (pointerOf (fieldOf s (heading section column)))
+
+  pub passage-lies : (keyword : List ℕ) (pointer : ℕ) → Lies s (passageBy s v x keyword pointer)
+  unfolding passageBy
+  passage-lies keyword pointer =
+      let p = passageOf s (x .bib) keyword pointer in
+      part-lies s v (passageRefusal s v x p) (firstByte (p .first)) (p .records * 81) pointer
+
+-- the record of a value is one of 32 bits
+pub value-placed : (section : RecordNo) (shape : Shape) (line : LineNo) (column : ℕ) → section .0 ≤ 20000
+    → shape .columns ≤ 18 → shape .lines ≤ 20000 → Inside shape line column
+    → InTable section (shape .columns) line column
+unfolding placeOf
+value-placed section shape line column a b c i =
+    let k : (shape .columns + 5) / 6 ≤ 3 = omega arith in
+    let l : line .0 - 1 ≤ 20000 = omega arith in
+    let m = mul-le-mul l k in
+    record { line-from = i .line-from; column-from = i .column-from; number = omega arith }
+
+pub value-field : (section : RecordNo) (columns : ℕ) (line : LineNo) (column : ℕ)
+    → placeOf section columns line column .field ≤ 5
+unfolding placeOf
+value-field section columns line column = omega arith

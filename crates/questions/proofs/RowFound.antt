@@ -1,0 +1,512 @@
+-- The row of a subentry in an accepted entry: each record that opens a section of it is the one that the row names, and
+-- its first record is SUBENT.
+-- Assumes nothing.
+use Prim.Native.Nat.{ℕ, zero, suc, _+_, _*_, _-_, _/_, _<_, _≤_}
+use mathlib.Core.Path.{_≡_, refl, sym, _∙_, ap}
+use mathlib.Core.Bool.{Bool, true, false, cond, not, _&&_, _||_}
+use mathlib.Core.List.{List, [], _∷_}
+use native.Mathlib.Omega.{arith}
+use native.Mathlib.Nat.{zero-mul}
+use native.Mathlib.Numerals.{add-one}
+use lib.Dec.{eqb, leb}
+use lib.ListN.{length, drop, getD}
+use borrow.Author.Tests.{eqb-true, eq-eqb, ne-eqb, le-leb}
+use Rattle.laws.specs.Turns.{Turn, go, out, after}
+use Rattle.laws.specs.Walk.{walk}
+use Rattle.laws.specs.Blocks.{blocks, blockAt}
+use Rattle.laws.specs.Seeking.{Noted, noteTurn, noting}
+use Rattle.laws.proofs.Blocks.{next-block}
+use Rattle.record.specs.Columns.{recordOf}
+use Rattle.record.specs.Fields.{fieldsOf}
+use Rattle.record.specs.Identifier.{SUBENT, NOSUBENT, BIB, COMMON, DATA, ENTRY, NOBIB, ENDBIB, NOCOMMON, ENDCOMMON}
+use Rattle.record.specs.Identifier.{NODATA, ENDDATA, ENDSUBENT, ENDENTRY, OTHER, identifierOf, isEnd}
+use Rattle.record.specs.System.{subentryOf}
+use Rattle.record.specs.Word.{blankTo}
+use Rattle.record.specs.declared.columns.RecordNo.{RecordNo}
+use Rattle.rules.specs.declared.state.Phase.{Phase}
+use Rattle.rules.specs.declared.state.Phase.the-variants.{Start, Opened, InSubentry, InBib, AfterBib, InCommon}
+use Rattle.rules.specs.declared.state.Phase.the-variants.{AfterCommon, InData, AfterData, Between, Done}
+use Rattle.rules.specs.declared.state.Track.{Track}
+use Rattle.rules.specs.State.{Context, HEADINGS, UNITS}
+use Rattle.rules.specs.Role.{TEXT, NOT-DUE, isSystem, opensSubentry, isHeading, isUnit, isValue, bibRole, allRead}
+use Rattle.rules.specs.Role.{tableRole, dataRole, roleIn}
+use Rattle.rules.specs.Every.{n1}
+use Rattle.entry.specs.Next.{phaseAfter, textRead, afterSystem, afterInside, trackAfter, contextAfter}
+use Rattle.entry.specs.Verdict.{roleOf, refused, turnOf, endOf, lengthGood, judgeOf}
+use Rattle.entry.proofs.GoingOn.{go-fine}
+use Rattle.questions.specs.declared.row.Row.{Row}
+use Rattle.questions.specs.declared.row.Located.{Located}
+use Rattle.questions.specs.Row.{NONE, emptyRow, withFirst, withBib, withCommon, withData, noted, subentryIn}
+use Rattle.questions.specs.Row.{notedAs, noteOf, leaving, locating, located, startRow, locate, rowOf}
+use Rattle.questions.specs.Place.{hasRecord, fieldsAt, identifierAt}
+use Rattle.questions.specs.Inside.{Accepted, behind, contextAt, roleAt}
+use Rattle.questions.proofs.Contexts.{Walked, walked}
+use Rattle.questions.proofs.Nesting.{rank, either-as, Unnumbered, unnumbered-turn, key, Nested, nested-turn}
+
+-- ---- the row by the index
+
+-- the row, as the walk has it before the record with the index i
+unfoldable pub rowAt : List ℕ → ℕ → ℕ → Row
+rowAt s number zero = emptyRow number
+rowAt s number (suc i) = noteOf (contextAt s i) i (blockAt 81 s i) (rowAt s number i)
+
+locating-go : (m : Noted Context Row) (i : ℕ) (r : List ℕ) (d : Context) → turnOf (m .context) i r ≡ go d
+    → locating m i r ≡ go (record { context = d; note = noteOf (m .context) i r (m .note) })
+unfolding locating noting
+locating-go m i r d h = rw h
+
+module _ (s : List ℕ) (number n : ℕ) (w : Walked s n) where
+  abbrev stand : ℕ → Noted Context Row
+  stand i = record { context = contextAt s i; note = rowAt s number i }
+
+  walk-rows : (j i : ℕ) → i + j ≡ n
+      → walk locating located (stand i) i (blocks 81 j (drop (i * 81) s)) ≡ located (stand n)
+  unfolding walk blocks rowAt
+  walk-rows zero i e = let z : i ≡ n = omega arith in rw z
+  walk-rows (suc j) i e =
+      rw (locating-go (stand i) i (blockAt 81 s i) (contextAt s (suc i)) (w .turns i (omega arith)), next-block 81 i s, add-one i)
+      (walk-rows j (suc i) (omega arith))
+
+start-stands : (s : List ℕ) (number : ℕ)
+    → record { context = contextAt s 0; note = rowAt s number 0 } ≡ startRow number
+unfolding rowAt contextAt
+start-stands s number = refl
+
+pub found-row : (s : List ℕ) (number : ℕ) → Accepted s → rowOf s number ≡ rowAt s number (length s / 81)
+unfolding locate judgeOf
+found-row s number a = by-test (lengthGood (length s)) a
+  where
+    by-test : (b : Bool)
+        → cond b (walk turnOf endOf (startRow number .context) 0 (blocks 81 (length s / 81) s)) (refused 1 NONE 0)
+        .refusal ≡ 0
+        → cond b (walk locating located (startRow number) 0 (blocks 81 (length s / 81) s))
+        (record { verdict = refused 1 NONE 0; row = emptyRow number }) .row
+        ≡ rowAt s number (length s / 81)
+    by-test true h =
+        ap (λ (x : Located). x .row)
+        (rw (zero-mul 81, start-stands s number) at
+        (walk-rows s number (length s / 81) (walked s a) (length s / 81) 0 (omega arith)))
+    by-test false h = absurd (omega arith)
+
+-- ---- what a record changes in the row
+
+-- the sections that a row names
+pub data Section : Type 0 where
+  bib common table : Section
+
+abbrev pub opener : Section → ℕ
+opener bib = BIB
+opener common = COMMON
+opener table = DATA
+
+abbrev pub named : Section → Row → RecordNo
+named bib x = x .bib
+named common x = x .common
+named table x = x .«data»
+
+-- the rank of the phase before the section's own record
+abbrev pub level : Section → ℕ
+level bib = 1
+level common = 3
+level table = 5
+
+module _ (t : Track) (role : ℕ) (fs : List (List ℕ)) (x : Row) where
+  abbrev noting-of : Bool → Bool → Bool → Bool → Bool → Row
+  noting-of a o b c d =
+      let at = recordOf (t .records) in
+      cond a (cond o (withFirst x at) (cond b (withBib x at) (cond c (withCommon x at) (cond d (withData x at) x)))) x
+
+  pub number-stays : notedAs t role fs x .number ≡ x .number
+  unfolding notedAs noted
+  number-stays =
+      by-tests (eqb (subentryIn t role fs) (x .number)) (opensSubentry role) (eqb role BIB) (eqb role COMMON) (eqb role DATA)
+    where
+      by-tests : (a o b c d : Bool) → noting-of a o b c d .number ≡ x .number
+      by-tests false o b c d = refl
+      by-tests true true b c d = refl
+      by-tests true false true c d = refl
+      by-tests true false false true d = refl
+      by-tests true false false false true = refl
+      by-tests true false false false false = refl
+
+  -- another record leaves it
+  pub first-stays : (opensSubentry role ≡ true → subentryOf (n1 fs) ≡ x .number → ⊥)
+      → notedAs t role fs x .first ≡ x .first
+  unfolding notedAs noted subentryIn
+  first-stays h = by-role (opensSubentry role) refl
+    where
+      by-tests : (a b c d : Bool) → noting-of a false b c d .first ≡ x .first
+      by-tests false b c d = refl
+      by-tests true true c d = refl
+      by-tests true false true d = refl
+      by-tests true false false true = refl
+      by-tests true false false false = refl
+
+      by-number : (a : Bool) → eqb (subentryOf (n1 fs)) (x .number) ≡ a → opensSubentry role ≡ true
+          → noting-of a true (eqb role BIB) (eqb role COMMON) (eqb role DATA) .first ≡ x .first
+      by-number true e o = absurd (h o (eqb-true (subentryOf (n1 fs)) (x .number) e))
+      by-number false e o = refl
+
+      by-role : (o : Bool) → opensSubentry role ≡ o
+          → noting-of (eqb (cond o (subentryOf (n1 fs)) (t .subentry .number)) (x .number)) o (eqb role BIB) (eqb role COMMON)
+          (eqb role DATA) .first
+          ≡ x .first
+      by-role true o = by-number (eqb (subentryOf (n1 fs)) (x .number)) refl o
+      by-role false o =
+          by-tests (eqb (t .subentry .number) (x .number)) (eqb role BIB) (eqb role COMMON) (eqb role DATA)
+
+  -- SUBENT and NOSUBENT of that number are its first record
+  pub first-set : opensSubentry role ≡ true → subentryOf (n1 fs) ≡ x .number
+      → notedAs t role fs x .first ≡ recordOf (t .records)
+  unfolding notedAs noted subentryIn
+  first-set o e = rw (o, eq-eqb (subentryOf (n1 fs)) (x .number) e)
+
+  pub section-stays : (k : Section) → (role ≡ opener k → t .subentry .number ≡ x .number → ⊥)
+      → named k (notedAs t role fs x) ≡ named k x
+  unfolding notedAs noted subentryIn
+  section-stays k h =
+      by-tests k (eqb (subentryIn t role fs) (x .number)) refl (opensSubentry role) (eqb role BIB) refl (eqb role COMMON) refl
+      (eqb role DATA) refl h
+    where
+      in-it : (e : ℕ) → role ≡ e → opensSubentry e ≡ false → eqb (subentryIn t role fs) (x .number) ≡ true
+          → t .subentry .number ≡ x .number
+      in-it e p o q = eqb-true (t .subentry .number) (x .number) (rw (p, o) at q)
+
+      by-tests : (k : Section) (a : Bool) → eqb (subentryIn t role fs) (x .number) ≡ a → (o b : Bool) → eqb role BIB ≡ b
+          → (c : Bool) → eqb role COMMON ≡ c → (d : Bool) → eqb role DATA ≡ d
+          → (role ≡ opener k → t .subentry .number ≡ x .number → ⊥)
+          → named k (noting-of a o b c d) ≡ named k x
+      by-tests k false p o b q c u d v h = refl
+      by-tests bib true p true b q c u d v h = refl
+      by-tests common true p true b q c u d v h = refl
+      by-tests table true p true b q c u d v h = refl
+      by-tests bib true p false true q c u d v h =
+          let e : role ≡ BIB = eqb-true role BIB q in absurd (h e (in-it BIB e refl p))
+      by-tests common true p false true q c u d v h = refl
+      by-tests table true p false true q c u d v h = refl
+      by-tests bib true p false false q true u d v h = refl
+      by-tests common true p false false q true u d v h =
+          let e : role ≡ COMMON = eqb-true role COMMON u in absurd (h e (in-it COMMON e refl p))
+      by-tests table true p false false q true u d v h = refl
+      by-tests bib true p false false q false u true v h = refl
+      by-tests common true p false false q false u true v h = refl
+      by-tests table true p false false q false u true v h =
+          let e : role ≡ DATA = eqb-true role DATA v in absurd (h e (in-it DATA e refl p))
+      by-tests bib true p false false q false u false v h = refl
+      by-tests common true p false false q false u false v h = refl
+      by-tests table true p false false q false u false v h = refl
+
+  -- the section's own record in that subentry is named
+  pub section-set : (k : Section) → role ≡ opener k → t .subentry .number ≡ x .number
+      → named k (notedAs t role fs x) ≡ recordOf (t .records)
+  unfolding notedAs noted subentryIn
+  section-set bib e h = rw (e, eq-eqb (t .subentry .number) (x .number) h)
+  section-set common e h = rw (e, eq-eqb (t .subentry .number) (x .number) h)
+  section-set table e h = rw (e, eq-eqb (t .subentry .number) (x .number) h)
+
+-- ---- along the walk
+
+count-next : (t : Track) (role : ℕ) (fs : List (List ℕ)) (r : List ℕ)
+    → trackAfter t role fs r .records .0 ≡ t .records .0 + 1
+unfolding trackAfter afterSystem afterInside textRead
+count-next t role fs r =
+    either-as P (isSystem role) _ _
+    (λ e.
+    either-as P (eqb role ENTRY) _ _ (λ e. refl)
+    (λ e.
+    either-as P (opensSubentry role) _ _ (λ e. refl)
+    (λ e.
+    either-as P (eqb role BIB) _ _ (λ e. refl)
+    (λ e. either-as P (eqb role COMMON) _ _ (λ e. refl) (λ e. either-as P (eqb role DATA) _ _ (λ e. refl) (λ e. refl))))))
+    (λ e.
+    either-as P (eqb role TEXT) _ _ (λ e. either-as P (blankTo 10 (getD fs 0 [])) _ _ (λ e. refl) (λ e. refl))
+    (λ e.
+    either-as P (isHeading role) _ _ (λ e. refl)
+    (λ e. either-as P (isUnit role) _ _ (λ e. refl) (λ e. either-as P (isValue role) _ _ (λ e. refl) (λ e. refl)))))
+  where
+    P : Track → Type 0
+    P u = u .records .0 ≡ t .records .0 + 1
+
+records-at : (s : List ℕ) (i : ℕ) → contextAt s i .track .records .0 ≡ i
+unfolding contextAt contextAfter
+records-at s zero = refl
+records-at s (suc i) =
+    let c = contextAt s i in
+    let r = blockAt 81 s i in
+    count-next (c .track) (roleOf c r) (fieldsOf r) r ∙ ap (λ (k : ℕ). k + 1) (records-at s i) ∙ add-one i
+
+number-of : (s : List ℕ) (number i : ℕ) → rowAt s number i .number ≡ number
+unfolding rowAt
+number-of s number zero = refl
+number-of s number (suc i) =
+    let c = contextAt s i in
+    let r = blockAt 81 s i in
+    number-stays (c .track) (roleOf c r) (fieldsOf r) (rowAt s number i) ∙ number-of s number i
+
+row-next : (s : List ℕ) (number i : ℕ)
+    → rowAt s number (suc i)
+    ≡ notedAs (contextAt s i .track) (roleAt s i) (fieldsOf (blockAt 81 s i)) (rowAt s number i)
+unfolding rowAt
+row-next s number i = refl
+
+rank-behind : (k : Section) → rank (phaseAfter (opener k)) ≡ level k + 1
+unfolding phaseAfter
+rank-behind bib = refl
+rank-behind common = refl
+rank-behind table = refl
+
+no-subentry : (k : Section) → opensSubentry (opener k) ≡ false
+no-subentry bib = refl
+no-subentry common = refl
+no-subentry table = refl
+
+level-of : (k : Section) (c d : Context) (role number : ℕ) → Nested c role number d → role ≡ opener k
+    → rank (c .phase) ≡ level k
+level-of bib c d role number x e = x .bib e
+level-of common c d role number x e = x .common e
+level-of table c d role number x e = x .«data» e
+
+starts : (s : List ℕ) → Unnumbered (contextAt s 0 .track) × (rank (contextAt s 0 .phase) ≡ 0)
+unfolding contextAt
+starts s = (record { none = λ e. refl }, refl)
+
+level-bounds : (k : Section) → (1 ≤ level k) × (level k ≤ 5)
+level-bounds bib = (omega arith, omega arith)
+level-bounds common = (omega arith, omega arith)
+level-bounds table = (omega arith, omega arith)
+
+-- the record with the index i, by its number
+pub fields-at : (s : List ℕ) (i : ℕ) → suc i * 81 ≤ length s → (at : RecordNo) → at .0 ≡ suc i
+    → fieldsAt s at ≡ fieldsOf (blockAt 81 s i)
+unfolding fieldsAt
+fields-at s i h at e =
+    let z : at .0 - 1 ≡ i = omega arith in
+    rw (ne-eqb (at .0) 0 (λ q. omega arith), le-leb (at .0 * 81) (length s) (omega arith), z)
+
+-- SUBENT is due only where it stands
+subent-identifier : (p : Phase) (t : Track) (k : ℕ) → roleIn p t k ≡ SUBENT → k ≡ SUBENT
+unfolding roleIn bibRole tableRole dataRole
+subent-identifier p t k = by-phase p
+  where
+    P : ℕ → Type 0
+    P role = role ≡ SUBENT → k ≡ SUBENT
+
+    pick : (b : Bool) (x y : ℕ) → P x → P y → P (cond b x y)
+    pick true x y h g = h
+    pick false x y h g = g
+
+    by-phase : (p : Phase) → P (roleIn p t k)
+    by-phase Start = pick (eqb k ENTRY) _ _ (λ e. absurd (omega arith)) (λ e. absurd (omega arith))
+    by-phase Opened = either-as P (eqb k SUBENT) _ _ (λ q e. eqb-true k SUBENT q) (λ q e. absurd (omega arith))
+    by-phase InSubentry =
+        pick (eqb k BIB) _ _ (λ e. absurd (omega arith))
+        (pick (eqb k NOBIB) _ _ (λ e. absurd (omega arith)) (λ e. absurd (omega arith)))
+    by-phase InBib =
+        pick (eqb (t .section) (t .bib .records)) _ _
+        (pick (eqb k ENDBIB) _ _ (λ e. absurd (omega arith)) (λ e. absurd (omega arith)))
+        (pick (eqb k OTHER) _ _ (λ e. absurd (omega arith)) (λ e. absurd (omega arith)))
+    by-phase AfterBib =
+        pick (eqb k COMMON) _ _ (λ e. absurd (omega arith))
+        (pick (eqb k NOCOMMON) _ _ (λ e. absurd (omega arith)) (λ e. absurd (omega arith)))
+    by-phase InCommon =
+        pick (allRead t) _ _
+        (pick (eqb k ENDCOMMON) _ _ (λ e. absurd (omega arith)) (λ e. absurd (omega arith)))
+        (pick (isEnd k) _ _ (λ e. absurd (omega arith))
+        (pick (eqb (t .table .row) HEADINGS) _ _ (λ e. absurd (omega arith))
+        (pick (eqb (t .table .row) UNITS) _ _ (λ e. absurd (omega arith)) (λ e. absurd (omega arith)))))
+    by-phase AfterCommon =
+        pick (eqb (t .subentry .number) 1) _ _
+        (pick (eqb k ENDSUBENT) _ _ (λ e. absurd (omega arith)) (λ e. absurd (omega arith)))
+        (pick (eqb k DATA) _ _ (λ e. absurd (omega arith))
+        (pick (eqb k NODATA) _ _ (λ e. absurd (omega arith)) (λ e. absurd (omega arith))))
+    by-phase InData =
+        pick (allRead t) _ _
+        (pick (eqb k ENDDATA) _ _ (λ e. absurd (omega arith)) (λ e. absurd (omega arith)))
+        (pick (isEnd k) _ _ (λ e. absurd (omega arith))
+        (pick (eqb (t .table .row) HEADINGS) _ _ (λ e. absurd (omega arith))
+        (pick (eqb (t .table .row) UNITS) _ _ (λ e. absurd (omega arith)) (λ e. absurd (omega arith)))))
+    by-phase AfterData = pick (eqb k ENDSUBENT) _ _ (λ e. absurd (omega arith)) (λ e. absurd (omega arith))
+    by-phase Between =
+        either-as P (eqb k SUBENT) _ _ (λ q e. eqb-true k SUBENT q)
+        (λ q.
+        pick (eqb k NOSUBENT) _ _ (λ e. absurd (omega arith))
+        (pick (eqb k ENDENTRY) _ _ (λ e. absurd (omega arith)) (λ e. absurd (omega arith))))
+    by-phase Done = λ e. absurd (omega arith)
+
+only-subent : (role : ℕ) → opensSubentry role ≡ true → rank (phaseAfter role) ≤ 7 → role ≡ SUBENT
+unfolding phaseAfter
+only-subent role o h = by-tests (eqb role SUBENT) refl (eqb role NOSUBENT) refl o
+  where
+    by-tests : (a : Bool) → eqb role SUBENT ≡ a → (b : Bool) → eqb role NOSUBENT ≡ b → (a || b) ≡ true → role ≡ SUBENT
+    by-tests true p b q o = eqb-true role SUBENT p
+    by-tests false p true q o =
+        let e : role ≡ NOSUBENT = eqb-true role NOSUBENT q in
+        let z = rw e at h in
+        absurd (omega arith)
+    by-tests false p false q o = let z : _≡_ {A = ℕ} 0 1 = cc in absurd (omega arith)
+
+module _ (s : List ℕ) (n : ℕ) (w : Walked s n) (fits : n * 81 ≤ length s) where
+  unnumbered-at : (i : ℕ) → i ≤ n → Unnumbered (contextAt s i .track)
+  unnumbered-at zero h = starts s .0
+  unnumbered-at (suc i) h =
+      unnumbered-turn (contextAt s i) i (blockAt 81 s i) (contextAt s (suc i)) (w .turns i (omega arith))
+      (unnumbered-at i (omega arith))
+
+  nested-at : (i : ℕ) → i < n
+      → Nested (contextAt s i) (roleAt s i) (subentryOf (n1 (fieldsOf (blockAt 81 s i)))) (contextAt s (suc i))
+  nested-at i h =
+      nested-turn (contextAt s i) i (blockAt 81 s i) (contextAt s (suc i)) (w .turns i h) (unnumbered-at i (omega arith))
+
+  key-rises : (i j : ℕ) → i + j ≤ n → key (contextAt s i) ≤ key (contextAt s (i + j))
+  key-rises i zero h = let e : i + 0 ≡ i = omega arith in rw e (omega arith)
+  key-rises i (suc j) h =
+      let e : i + suc j ≡ suc (i + j) = omega arith in
+      let a = key-rises i j (omega arith) in
+      let b = nested-at (i + j) (omega arith) .rises in
+      rw e (omega arith)
+
+  module _ (number : ℕ) where
+    key-before : (k : Section) (i : ℕ) → i < n → roleAt s i ≡ opener k → contextAt s i .track .subentry .number ≡ number
+        → key (contextAt s i) ≡ number * 10 + level k
+    key-before k i h e m =
+        let z = level-of k (contextAt s i) (contextAt s (suc i)) (roleAt s i) _ (nested-at i h) e in
+        rw (m, z)
+
+    key-behind : (k : Section) (a : ℕ) → a < n → roleAt s a ≡ opener k → contextAt s a .track .subentry .number ≡ number
+        → key (contextAt s (suc a)) ≡ number * 10 + (level k + 1)
+    key-behind k a h e m =
+        let x = nested-at a h in
+        let same : contextAt s (suc a) .track .subentry .number ≡ number =
+        x .inside (rw e (no-subentry k)) ∙ m in
+        let z : rank (contextAt s (suc a) .phase) ≡ level k + 1 =
+        rw (x .behind, e) (rank-behind k) in
+        rw (same, z)
+
+    -- the record a opens the section k of the subentry: the row names it from there on
+    section-named : (k : Section) (a : ℕ) → a < n → roleAt s a ≡ opener k → contextAt s a .track .subentry .number ≡ number
+        → (j : ℕ) → suc a + j ≤ n → named k (rowAt s number (suc a + j)) .0 ≡ suc a
+    section-named k a h e m zero l =
+        let c = contextAt s a in
+        let r = blockAt 81 s a in
+        let z : suc a + 0 ≡ suc a = omega arith in
+        rw (z, row-next s number a)
+        (ap (λ (x : RecordNo). x .0)
+        (section-set (c .track) (roleAt s a) (fieldsOf r) (rowAt s number a) k e (m ∙ sym (number-of s number a)))
+        ∙ ap (λ (x : ℕ). x + 1) (records-at s a) ∙ add-one a)
+    section-named k a h e m (suc j) l =
+        let i = suc a + j in
+        let c = contextAt s i in
+        let z : suc a + suc j ≡ suc i = omega arith in
+        rw (z, row-next s number i)
+        (ap (λ (x : RecordNo). x .0)
+        (section-stays (c .track) (roleAt s i) (fieldsOf (blockAt 81 s i)) (rowAt s number i) k (again k e))
+        ∙ section-named k a h e m j (omega arith))
+      where
+        again : (k : Section) → roleAt s a ≡ opener k → roleAt s (suc a + j) ≡ opener k
+            → contextAt s (suc a + j) .track .subentry .number ≡ rowAt s number (suc a + j) .number → ⊥
+        again k e f g =
+            let up = key-rises (suc a) j (omega arith) in
+            let x = key-behind k a h e m in
+            let y = key-before k (suc a + j) (omega arith) f (g ∙ number-of s number (suc a + j)) in
+            omega arith
+
+    -- ---- the first record
+
+    abbrev FirstNamed : ℕ → Type 0
+    FirstNamed i =
+        contextAt s i .track .subentry .number ≡ number → 1 ≤ rank (contextAt s i .phase)
+        → rank (contextAt s i .phase) ≤ 7 → identifierAt s (rowAt s number i .first) ≡ SUBENT
+
+    first-kept : (i : ℕ) → i < n → opensSubentry (roleAt s i) ≡ false → FirstNamed i → FirstNamed (suc i)
+    first-kept i h o before m a b =
+        let c = contextAt s i in
+        let x = nested-at i h in
+        let u = x .inside o in
+        let v = x .rises in
+        let y : c .track .subentry .number ≡ number = sym u ∙ m in
+        rw (row-next s number i)
+        (rw (first-stays (c .track) (roleAt s i) (fieldsOf (blockAt 81 s i)) (rowAt s number i)
+        (λ p q. let z : _≡_ {A = ℕ} 0 1 = cc in omega arith))
+        (before y (x .begun o a) (omega arith)))
+
+    first-new : (i : ℕ) → i < n → opensSubentry (roleAt s i) ≡ true → FirstNamed (suc i)
+    first-new i h o m a b =
+        let c = contextAt s i in
+        let r = blockAt 81 s i in
+        let x = nested-at i h in
+        let e : subentryOf (n1 (fieldsOf r)) ≡ number = sym (x .opens o .0) ∙ m in
+        let at : rowAt s number (suc i) .first ≡ recordOf (c .track .records) =
+        rw (row-next s number i)
+        (first-set (c .track) (roleAt s i) (fieldsOf r) (rowAt s number i) o (e ∙ sym (number-of s number i))) in
+        let z : recordOf (c .track .records) .0 ≡ suc i = ap (λ (k : ℕ). k + 1) (records-at s i) ∙ add-one i in
+        let f : fieldsAt s (recordOf (c .track .records)) ≡ fieldsOf r =
+        fields-at s i (omega arith) (recordOf (c .track .records)) z in
+        rw (at, f)
+        (subent-identifier (c .phase) (c .track) (identifierOf (getD (fieldsOf r) 0 []))
+        (only-subent (roleAt s i) o (rw (x .behind) at b)))
+
+    -- inside a subentry, from SUBENT to ENDSUBENT, the row's first record is its SUBENT
+    first-named : (i : ℕ) → i ≤ n → FirstNamed i
+    first-named zero h = λ m a b. let z = starts s .1 in absurd (omega arith)
+    first-named (suc i) h =
+        by-role i (omega arith) (opensSubentry (roleAt s i)) refl (first-named i (omega arith))
+      where
+        by-role : (i : ℕ) → i < n → (o : Bool) → opensSubentry (roleAt s i) ≡ o → FirstNamed i → FirstNamed (suc i)
+        by-role i h true o before = first-new i h o
+        by-role i h false o before = first-kept i h o before
+
+    -- and stays so
+    first-stands : (a : ℕ) → number * 10 < key (contextAt s a) → (j : ℕ) → a + j ≤ n
+        → rowAt s number (a + j) .first ≡ rowAt s number a .first
+    first-stands a p zero l = let z : a + 0 ≡ a = omega arith in rw z
+    first-stands a p (suc j) l =
+        let i = a + j in
+        let c = contextAt s i in
+        let z : a + suc j ≡ suc i = omega arith in
+        rw (z, row-next s number i)
+        (first-stays (c .track) (roleAt s i) (fieldsOf (blockAt 81 s i)) (rowAt s number i)
+        (λ o e.
+        let up = key-rises a j (omega arith) in
+        let below = nested-at i (omega arith) .opens o .1 in
+        let m : subentryOf (n1 (fieldsOf (blockAt 81 s i))) ≡ number = e ∙ number-of s number i in
+        omega arith)
+        ∙ first-stands a p j (omega arith))
+
+-- ---- in an accepted entry
+
+-- a record that opens the section k of a subentry
+pub record Opening (s : List ℕ) (number : ℕ) (k : Section) (a : ℕ) : Type 0 where
+  pub there : a < length s / 81
+  pub role : roleAt s a ≡ opener k
+  pub subentry : contextAt s a .track .subentry .number ≡ number
+
+module _ (s : List ℕ) (accepted : Accepted s) (number : ℕ) (k : Section) (a : ℕ) (o : Opening s number k a) where
+  abbrev n : ℕ
+  n = length s / 81
+
+  -- the row names it
+  pub row-names : named k (rowOf s number) .0 ≡ suc a
+  row-names =
+      let e : suc a + (n - suc a) ≡ n = omega (arith, o .there) in
+      rw (found-row s number accepted)
+      (rw e at
+      (section-named s n (walked s accepted) (omega arith) number k a (o .there) (o .role) (o .subentry) (n - suc a)
+      (omega (arith, o .there))))
+
+  -- and its first record is SUBENT
+  pub row-subent : identifierAt s (rowOf s number .first) ≡ SUBENT
+  row-subent =
+      let w = walked s accepted in
+      let x = nested-at s n w (omega arith) a (o .there) in
+      let z = level-of k (contextAt s a) (contextAt s (suc a)) (roleAt s a) _ x (o .role) in
+      let l = level-bounds k in
+      let e : a + (n - a) ≡ n = omega (arith, o .there) in
+      let m = o .subentry in
+      let f : rowAt s number n .first ≡ rowAt s number a .first =
+      rw e at (first-stands s n w (omega arith) number a (omega arith) (n - a) (omega (arith, o .there))) in
+      rw (found-row s number accepted, f)
+      (first-named s n w (omega arith) number a (omega (arith, o .there)) m (omega arith) (omega arith))
+
+  -- the fields of that record
+  pub row-fields : fieldsAt s (named k (rowOf s number)) ≡ fieldsOf (blockAt 81 s a)
+  row-fields = fields-at s a (omega (arith, o .there)) (named k (rowOf s number)) row-names

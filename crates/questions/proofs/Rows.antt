@@ -1,0 +1,52 @@
+-- A row that names records of an entry still does after one record more.
+-- Assumes nothing.
+use Prim.Native.Nat.{ℕ, _<_, _≤_}
+use mathlib.Core.Path.{_≡_, refl}
+use mathlib.Core.Bool.{Bool, true, false, cond}
+use mathlib.Core.List.{List}
+use native.Mathlib.Omega.{arith}
+use lib.Dec.{eqb}
+use Rattle.record.specs.Columns.{recordOf}
+use Rattle.record.specs.Identifier.{BIB, COMMON, DATA}
+use Rattle.record.specs.declared.columns.RecordNo.{RecordNo}
+use Rattle.rules.specs.declared.state.Track.{Track}
+use Rattle.rules.specs.State.{MOST-RECORDS}
+use Rattle.rules.specs.Role.{opensSubentry}
+use Rattle.questions.specs.declared.row.Row.{Row}
+use Rattle.questions.specs.Row.{NONE, emptyRow, withFirst, withBib, withCommon, withData, noted, subentryIn}
+use Rattle.questions.specs.Row.{notedAs, Met}
+use Rattle.questions.specs.Place.{COMMON-SECTION, DATA-SECTION}
+use Rattle.questions.specs.Ask.{sectionIn}
+
+pub met-empty : (number : ℕ) → Met (emptyRow number)
+met-empty number = record { first = omega arith; bib = omega arith; common = omega arith; «data» = omega arith }
+
+module _ (x : Row) (m : Met x) where
+  met-noted : (role : ℕ) (at : RecordNo) → at .0 ≤ MOST-RECORDS → Met (noted x role at)
+  unfolding noted
+  met-noted role at h = by-test (opensSubentry role) (eqb role BIB) (eqb role COMMON) (eqb role DATA)
+    where
+      by-test : (a b c d : Bool)
+          → Met (cond a (withFirst x at) (cond b (withBib x at) (cond c (withCommon x at) (cond d (withData x at) x))))
+      by-test true b c d = record { first = h; bib = m .bib; common = m .common; «data» = m .«data» }
+      by-test false true c d = record { first = m .first; bib = h; common = m .common; «data» = m .«data» }
+      by-test false false true d = record { first = m .first; bib = m .bib; common = h; «data» = m .«data» }
+      by-test false false false true = record { first = m .first; bib = m .bib; common = m .common; «data» = h }
+      by-test false false false false = m
+
+  pub met-next : (t : Track) (role : ℕ) (fs : List (List ℕ)) → t .records .0 < MOST-RECORDS
+      → Met (notedAs t role fs x)
+  unfolding notedAs
+  met-next t role fs h = by-test (eqb (subentryIn t role fs) (x .number))
+    where
+      by-test : (b : Bool) → Met (cond b (noted x role (recordOf (t .records))) x)
+      by-test true = met-noted role (recordOf (t .records)) (omega arith)
+      by-test false = m
+
+  pub met-section : (section : ℕ) → sectionIn x section .0 ≤ MOST-RECORDS
+  met-section section = by-test (eqb section COMMON-SECTION) (eqb section DATA-SECTION)
+    where
+      by-test : (a b : Bool) → (cond a (x .common) (cond b (x .«data») NONE)) .0 ≤ MOST-RECORDS
+      by-test true b = m .common
+      by-test false true = m .«data»
+      by-test false false = omega arith

@@ -1,0 +1,26 @@
+use mathlib.Core.Path.{_∙_}
+use Rattle.questions.proofs.Judged.{judged}
+use Rattle.questions.specs.Ask.{headingOf}
+use borrow.Author.Needs.{needs}
+use Rattle.questions.proofs.ask.heading.Statement.{statement}
+use Rattle.questions.proofs.ask.heading.Tie as tie
+use Rattle.questions.proofs.ask.heading.Reads as reads
+use Rattle.questions.proofs.ask.heading.Lts as lts
+use Rattle.questions.proofs.ask.heading_by.Reads as heading-by-reads
+use Rattle.questions.proofs.row.locate.Reads as locate-reads
+
+-- src/ask.rt:334:9
+locate-requires : tie.Need-locate-requires
+locate-requires c κs = search needs
+
+-- src/ask.rt:337:5
+heading-by-requires : tie.Need-heading-by-requires
+heading-by-requires c κs = search needs
+
+-- src/ask.rt:331:1
+returns : tie.Need-returns
+unfolding headingOf
+returns c = c .heading-by .ensures ∙ rw (c .before .before .before .locate .ensures .0, judged (c .before .before .before .before .before .args .entry .now) (c .before .before .before .before .before .args .number))
+
+pub heading-spec : {M : Type 1} → statement M
+heading-spec = tie.close (tie.spec locate-requires heading-by-requires returns)

@@ -1,0 +1,26 @@
+use Rattle.questions.proofs.Parts.{heading-lies}
+use Rattle.questions.specs.Ask.{bytesIn, headingOf}
+use mathlib.Core.Path.{_∙_, ap}
+use borrow.Author.Needs.{needs}
+use Rattle.questions.proofs.ask.heading_part.Statement.{statement}
+use Rattle.questions.proofs.ask.heading_part.Tie as tie
+use Rattle.questions.proofs.ask.heading_part.Reads as reads
+use Rattle.questions.proofs.ask.heading_part.Lts as lts
+use Rattle.questions.proofs.ask.heading.Reads as heading-reads
+use Rattle.questions.proofs.ask.part_of.Reads as part-of-reads
+
+-- src/ask.rt:364:9
+heading-requires : tie.Need-heading-requires
+heading-requires c κs = search needs
+
+-- src/ask.rt:365:5
+part-of-requires : tie.Need-part-of-requires
+unfolding headingOf
+part-of-requires c κs = rw (c .heading .ensures) (heading-lies _ _ _ _ _)
+
+-- src/ask.rt:361:1
+returns : tie.Need-returns
+returns c = c .part-of .ensures ∙ ap (bytesIn (c .before .before .before .args .entry .now)) (c .before .heading .ensures)
+
+pub heading-part-spec : {M : Type 1} → statement M
+heading-part-spec = tie.close (tie.spec heading-requires part-of-requires returns)

@@ -1,0 +1,33 @@
+use borrow.Author.Needs.{needs}
+use Rattle.questions.proofs.ask.is_subent.Statement.{statement}
+use Rattle.questions.proofs.ask.is_subent.Tie as tie
+use Rattle.questions.proofs.ask.is_subent.Reads as reads
+use Rattle.questions.proofs.ask.is_subent.Lts as lts
+use Rattle.questions.proofs.place.fields_at.Reads as fields-at-reads
+use Rattle.record.proofs.identifier.identifier_of.Reads as identifier-of-reads
+use Rattle.record.proofs.identifier.names.Reads as names-reads
+
+-- src/ask.rt:124:17
+names-requires : tie.Need-names-requires
+names-requires c κs = search needs
+
+-- src/ask.rt:126:14
+fields-at-requires : tie.Need-fields-at-requires
+fields-at-requires c κs = search needs
+
+-- src/ask.rt:127:13
+array-copy-out-f : tie.Need-array-copy-out-f
+array-copy-out-f c = search needs
+
+-- src/ask.rt:128:5
+identifier-of-requires : tie.Need-identifier-of-requires
+identifier-of-requires c κs = search needs
+
+-- src/ask.rt:121:1
+returns : tie.Need-returns
+returns c = rw (← c .before .before .before .fields-at .ensures, ← c .identifier-of .ensures)
+
+pub is-subent-spec : {M : Type 1} → statement M
+is-subent-spec =
+    tie.close
+    (tie.spec names-requires fields-at-requires array-copy-out-f identifier-of-requires returns)

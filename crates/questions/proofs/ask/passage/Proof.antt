@@ -1,0 +1,26 @@
+use mathlib.Core.Path.{_∙_}
+use Rattle.questions.proofs.Judged.{judged}
+use Rattle.questions.specs.Ask.{passageAnswer}
+use borrow.Author.Needs.{needs}
+use Rattle.questions.proofs.ask.passage.Statement.{statement}
+use Rattle.questions.proofs.ask.passage.Tie as tie
+use Rattle.questions.proofs.ask.passage.Reads as reads
+use Rattle.questions.proofs.ask.passage.Lts as lts
+use Rattle.questions.proofs.ask.passage_by.Reads as passage-by-reads
+use Rattle.questions.proofs.row.locate.Reads as locate-reads
+
+-- src/ask.rt:354:9
+locate-requires : tie.Need-locate-requires
+locate-requires c κs = search needs
+
+-- src/ask.rt:357:5
+passage-by-requires : tie.Need-passage-by-requires
+passage-by-requires c κs = search needs
+
+-- src/ask.rt:351:1
+returns : tie.Need-returns
+unfolding passageAnswer
+returns c = c .passage-by .ensures ∙ rw (c .before .before .before .locate .ensures .0, judged (c .before .before .before .before .before .args .entry .now) (c .before .before .before .before .before .args .number))
+
+pub passage-spec : {M : Type 1} → statement M
+passage-spec = tie.close (tie.spec locate-requires passage-by-requires returns)

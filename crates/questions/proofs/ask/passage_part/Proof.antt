@@ -1,0 +1,26 @@
+use Rattle.questions.proofs.Parts.{passage-lies}
+use Rattle.questions.specs.Ask.{bytesIn, passageAnswer}
+use mathlib.Core.Path.{_∙_, ap}
+use borrow.Author.Needs.{needs}
+use Rattle.questions.proofs.ask.passage_part.Statement.{statement}
+use Rattle.questions.proofs.ask.passage_part.Tie as tie
+use Rattle.questions.proofs.ask.passage_part.Reads as reads
+use Rattle.questions.proofs.ask.passage_part.Lts as lts
+use Rattle.questions.proofs.ask.part_of.Reads as part-of-reads
+use Rattle.questions.proofs.ask.passage.Reads as passage-reads
+
+-- src/ask.rt:378:9
+passage-requires : tie.Need-passage-requires
+passage-requires c κs = search needs
+
+-- src/ask.rt:379:5
+part-of-requires : tie.Need-part-of-requires
+unfolding passageAnswer
+part-of-requires c κs = rw (c .passage .ensures) (passage-lies _ _ _ _ _)
+
+-- src/ask.rt:375:1
+returns : tie.Need-returns
+returns c = c .part-of .ensures ∙ ap (bytesIn (c .before .before .before .args .entry .now)) (c .before .passage .ensures)
+
+pub passage-part-spec : {M : Type 1} → statement M
+passage-part-spec = tie.close (tie.spec passage-requires part-of-requires returns)

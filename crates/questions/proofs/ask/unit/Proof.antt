@@ -1,0 +1,26 @@
+use mathlib.Core.Path.{_∙_}
+use Rattle.questions.proofs.Judged.{judged}
+use Rattle.questions.specs.Ask.{unitOf}
+use borrow.Author.Needs.{needs}
+use Rattle.questions.proofs.ask.unit.Statement.{statement}
+use Rattle.questions.proofs.ask.unit.Tie as tie
+use Rattle.questions.proofs.ask.unit.Reads as reads
+use Rattle.questions.proofs.ask.unit.Lts as lts
+use Rattle.questions.proofs.ask.unit_by.Reads as unit-by-reads
+use Rattle.questions.proofs.row.locate.Reads as locate-reads
+
+-- src/ask.rt:344:9
+locate-requires : tie.Need-locate-requires
+locate-requires c κs = search needs
+
+-- src/ask.rt:347:5
+unit-by-requires : tie.Need-unit-by-requires
+unit-by-requires c κs = search needs
+
+-- src/ask.rt:341:1
+returns : tie.Need-returns
+unfolding unitOf
+returns c = c .unit-by .ensures ∙ rw (c .before .before .before .locate .ensures .0, judged (c .before .before .before .before .before .args .entry .now) (c .before .before .before .before .before .args .number))
+
+pub unit-spec : {M : Type 1} → statement M
+unit-spec = tie.close (tie.spec locate-requires unit-by-requires returns)

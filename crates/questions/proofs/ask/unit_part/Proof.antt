@@ -1,0 +1,26 @@
+use Rattle.questions.proofs.Parts.{unit-lies}
+use Rattle.questions.specs.Ask.{bytesIn, unitOf}
+use mathlib.Core.Path.{_∙_, ap}
+use borrow.Author.Needs.{needs}
+use Rattle.questions.proofs.ask.unit_part.Statement.{statement}
+use Rattle.questions.proofs.ask.unit_part.Tie as tie
+use Rattle.questions.proofs.ask.unit_part.Reads as reads
+use Rattle.questions.proofs.ask.unit_part.Lts as lts
+use Rattle.questions.proofs.ask.part_of.Reads as part-of-reads
+use Rattle.questions.proofs.ask.unit.Reads as unit-reads
+
+-- src/ask.rt:371:9
+unit-requires : tie.Need-unit-requires
+unit-requires c κs = search needs
+
+-- src/ask.rt:372:5
+part-of-requires : tie.Need-part-of-requires
+unfolding unitOf
+part-of-requires c κs = rw (c .unit .ensures) (unit-lies _ _ _ _ _)
+
+-- src/ask.rt:368:1
+returns : tie.Need-returns
+returns c = c .part-of .ensures ∙ ap (bytesIn (c .before .before .before .args .entry .now)) (c .before .unit .ensures)
+
+pub unit-part-spec : {M : Type 1} → statement M
+unit-part-spec = tie.close (tie.spec unit-requires part-of-requires returns)

@@ -1,0 +1,26 @@
+use mathlib.Core.Path.{_∙_}
+use Rattle.questions.proofs.Judged.{judged}
+use Rattle.questions.specs.Ask.{valueOf}
+use borrow.Author.Needs.{needs}
+use Rattle.questions.proofs.ask.value.Statement.{statement}
+use Rattle.questions.proofs.ask.value.Tie as tie
+use Rattle.questions.proofs.ask.value.Reads as reads
+use Rattle.questions.proofs.ask.value.Lts as lts
+use Rattle.questions.proofs.ask.value_by.Reads as value-by-reads
+use Rattle.questions.proofs.row.locate.Reads as locate-reads
+
+-- src/ask.rt:324:9
+locate-requires : tie.Need-locate-requires
+locate-requires c κs = search needs
+
+-- src/ask.rt:327:5
+value-by-requires : tie.Need-value-by-requires
+value-by-requires c κs = search needs
+
+-- src/ask.rt:321:1
+returns : tie.Need-returns
+unfolding valueOf
+returns c = c .value-by .ensures ∙ rw (c .before .before .before .locate .ensures .0, judged (c .before .before .before .before .before .args .entry .now) (c .before .before .before .before .before .args .number))
+
+pub value-spec : {M : Type 1} → statement M
+value-spec = tie.close (tie.spec locate-requires value-by-requires returns)

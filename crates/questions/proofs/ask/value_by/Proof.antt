@@ -1,0 +1,77 @@
+use Rattle.number.specs.Reading.{column}
+use Rattle.questions.proofs.Parts.{value-field, value-placed}
+use Rattle.questions.proofs.Refusals.{value-inside}
+use Rattle.questions.proofs.Rows.{met-section}
+use Rattle.questions.specs.Ask.{valueBy}
+use borrow.Author.Tests.{ne-eqb}
+use mathlib.Core.Path.{_∙_, sym}
+use borrow.Author.Needs.{needs}
+use Rattle.questions.proofs.ask.value_by.Statement.{statement}
+use Rattle.questions.proofs.ask.value_by.Tie as tie
+use Rattle.questions.proofs.ask.value_by.Reads as reads
+use Rattle.questions.proofs.ask.value_by.Lts as lts
+use Rattle.number.proofs.read.read_field.Reads as read-field-reads
+use Rattle.questions.proofs.ask.answer_for.Reads as answer-for-reads
+use Rattle.questions.proofs.ask.answer_of.Reads as answer-of-reads
+use Rattle.questions.proofs.ask.section_in.Reads as section-in-reads
+use Rattle.questions.proofs.ask.value_refusal.Reads as value-refusal-reads
+use Rattle.questions.proofs.place.field_of.Reads as field-of-reads
+use Rattle.questions.proofs.place.shape_of.Reads as shape-of-reads
+use Rattle.record.proofs.columns.place_of.Reads as place-of-reads
+
+-- src/ask.rt:243:9
+section-in-requires : tie.Need-section-in-requires
+section-in-requires c κs = search needs
+
+-- src/ask.rt:244:9
+shape-of-requires : tie.Need-shape-of-requires
+shape-of-requires c κs = search needs
+
+-- src/ask.rt:245:9
+value-refusal-requires : tie.Need-value-refusal-requires
+value-refusal-requires c κs = search needs
+
+-- src/ask.rt:247:13
+answer-for-requires : tie.Need-answer-for-requires
+answer-for-requires c κs = search needs
+
+-- src/ask.rt:248:9
+returns : tie.Need-returns
+unfolding valueBy
+returns c = rw (← c .before .before .before .before .section-in .ensures, ← c .before .before .before .shape-of .ensures .0, ← c .before .before .value-refusal .ensures, ne-eqb _ _ (c .before .if1 .taken), ← c .answer-for .ensures)
+
+-- src/ask.rt:254:9
+place-of-requires : tie.Need-place-of-requires
+place-of-requires c κs = value-placed (c .before .before .before .section-in .result) (c .before .before .shape-of .result) (c .before .before .before .before .before .args .line) (c .before .before .before .before .before .args .column) (rw (c .before .before .before .section-in .ensures) (met-section (c .before .before .before .before .before .args .row) (c .before .before .before .before .before .pre) (c .before .before .before .before .before .args .section))) (c .before .before .shape-of .ensures .1 .0) (c .before .before .shape-of .ensures .1 .1) (value-inside (c .before .before .before .before .before .args .entry .now) (c .before .before .before .before .before .args .v) (c .before .before .before .before .before .args .row) (c .before .before .before .section-in .result) (c .before .before .shape-of .result) (c .before .before .before .before .before .args .line) (c .before .before .before .before .before .args .column) (sym (c .before .value-refusal .ensures) ∙ c .if1 .left))
+
+-- src/ask.rt:255:9
+field-of-requires : tie.Need-field-of-requires
+field-of-requires c κs = rw (c .place-of .ensures) (value-field (c .before .before .before .before .section-in .result) (c .before .before .before .shape-of .result .columns) (c .before .before .before .before .before .before .args .line) (c .before .before .before .before .before .before .args .column))
+
+-- src/ask.rt:256:9
+read-field-requires : tie.Need-read-field-requires
+read-field-requires c κs = search needs
+
+-- src/ask.rt:257:9
+answer-of-requires : tie.Need-answer-of-requires
+answer-of-requires c κs = search needs
+
+-- src/ask.rt:232:1
+returns-2 : tie.Need-returns-2
+unfolding valueBy
+returns-2 c = rw (← c .before .before .before .before .before .before .before .section-in .ensures, ← c .before .before .before .before .before .before .shape-of .ensures .0, ← c .before .before .before .before .before .value-refusal .ensures, c .before .before .before .before .if1 .left, ← c .before .before .before .place-of .ensures, ← c .before .before .field-of .ensures, ← c .before .read-field .ensures, ← c .answer-of .ensures)
+
+pub value-by-spec : {M : Type 1} → statement M
+value-by-spec =
+    tie.close
+    (tie.spec
+    section-in-requires
+    shape-of-requires
+    value-refusal-requires
+    answer-for-requires
+    returns
+    place-of-requires
+    field-of-requires
+    read-field-requires
+    answer-of-requires
+    returns-2)

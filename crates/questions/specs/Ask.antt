@@ -1,0 +1,192 @@
+-- The questions (document 01, "Refusal numbers and their order"):
+--
+--   "Questions, in this order: 31 entry refused (its refusal, record and column beside it, zeros with any other
+--   answer); 32 no such subentry, or NOSUBENT; 33 no such section (1 COMMON, 2 DATA, else 33; NOBIB for passages); 34
+--   no such line; 35 no such column; 36 no passage with that keyword place (ten bytes) and pointer byte. Value gives
+--   blank or number. Heading and unit are handed back as a part of the caller's entry, ten columns, the heading's
+--   pointer beside either; a passage likewise, whole records. A refused part is empty, its pointer blank; a refused
+--   value is blank beside its number. COMMON has line 1 only; headings and units skip 34."
+use Prim.Native.Nat.{ℕ, _+_, _-_, _*_, _≤_}
+use mathlib.Core.Bool.{Bool, cond, not}
+use mathlib.Core.List.{List, [], _∷_, _++_}
+use lib.Dec.{eqb, leb}
+use lib.ListN.{length, take, drop}
+use Rattle.record.specs.Columns.{placeOf}
+use Rattle.record.specs.Text.{within}
+use Rattle.record.specs.Word.{pointerOf}
+use Rattle.record.specs.Identifier.{SUBENT}
+use Rattle.record.specs.declared.columns.RecordNo.{RecordNo}
+use Rattle.record.specs.declared.columns.LineNo.{LineNo}
+use Rattle.record.specs.declared.columns.Place.{Place}
+use Rattle.number.specs.Reading.{readField}
+use Rattle.number.specs.declared.value.Reading.{Reading}
+use Rattle.number.specs.declared.value.Reading.the-variants.{Blank}
+use Rattle.entry.specs.declared.verdict.Verdict.{Verdict}
+use Rattle.entry.specs.Verdict.{judgeOf}
+use Rattle.questions.specs.declared.row.Row.{Row}
+use Rattle.questions.specs.declared.place.Shape.{Shape}
+use Rattle.questions.specs.declared.passage.Passage.{Passage}
+use Rattle.questions.specs.declared.ask.Answer.{Answer}
+use Rattle.questions.specs.declared.ask.ValueAnswer.{ValueAnswer}
+use Rattle.questions.specs.declared.ask.PartAnswer.{PartAnswer}
+use Rattle.questions.specs.Row.{NONE, rowOf}
+use Rattle.questions.specs.Place.{identifierAt, COMMON-SECTION, DATA-SECTION, shapeOf, headingPlace, unitPlace}
+use Rattle.questions.specs.Place.{fieldOf, firstByte, byteOf}
+use Rattle.questions.specs.Passage.{passageOf}
+
+-- An answer comes from the verdict on the entry and the row of the subentry (`..By`), and both from the entry alone.
+
+-- ---- refusals, in their order
+
+-- a number, and whether it is given
+pub record Refusal : Type 0 where
+  pub number : ℕ
+  pub given : Bool
+
+abbrev pub refusal : ℕ → Bool → Refusal
+refusal number given = record { number = number; given = given }
+
+-- the number of the first that is given, 0 where none is
+abbrev pub firstOf : List Refusal → ℕ
+firstOf [] = 0
+firstOf (x ∷ xs) = cond (x .given) (x .number) (firstOf xs)
+
+-- "31 entry refused"
+abbrev pub isRefused : Verdict → Bool
+isRefused v = not (eqb (v .refusal) 0)
+
+-- "32 no such subentry, or NOSUBENT": its first record is no SUBENT
+abbrev pub isSubent : List ℕ → Row → Bool
+isSubent s x = eqb (identifierAt s (x .first)) SUBENT
+
+-- "33 no such section (1 COMMON, 2 DATA, else 33; NOBIB for passages)"
+abbrev pub sectionIn : Row → ℕ → RecordNo
+sectionIn x section =
+    cond (eqb section COMMON-SECTION) (x .common)
+    (cond (eqb section DATA-SECTION) (x .«data») NONE)
+
+abbrev pub noSection : RecordNo → Bool
+noSection at = eqb (at .0) 0
+
+-- these three come first, in this order
+abbrev pub sectionRefusals : List ℕ → Verdict → Row → RecordNo → List Refusal
+sectionRefusals s v x at =
+    refusal 31 (isRefused v) ∷ refusal 32 (not (isSubent s x)) ∷ refusal 33 (noSection at) ∷ []
+
+-- "34 no such line", "35 no such column"
+abbrev pub noLine : Shape → LineNo → Bool
+noLine shape line = not (within 1 (shape .lines) (line .0))
+
+abbrev pub noColumn : Shape → ℕ → Bool
+noColumn shape column = not (within 1 (shape .columns) column)
+
+-- "36 no passage with that keyword place (ten bytes) and pointer byte"
+abbrev pub noPassage : Passage → Bool
+noPassage p = eqb (p .records) 0
+
+-- ---- what stands beside a number
+
+abbrev pub answer : ℕ → Answer
+answer number = record { number = number; refusal = 0; «record» = NONE; column = 0 }
+
+-- "31 entry refused (its refusal, record and column beside it, zeros with any other answer)"
+abbrev pub answerFor : Verdict → ℕ → Answer
+answerFor v number =
+    cond (eqb number 31)
+    (record { number = 31; refusal = v .refusal; «record» = v .«record»; column = v .column })
+    (answer number)
+
+-- a line and a column that a table has
+pub record Inside (shape : Shape) (line : LineNo) (column : ℕ) : Type 0 where
+  pub line-from : 1 ≤ line .0
+  pub line-to : line .0 ≤ shape .lines
+  pub column-from : 1 ≤ column
+  pub column-to : column ≤ shape .columns
+
+-- ---- a value
+
+unfoldable pub valueRefusal : List ℕ → Verdict → Row → RecordNo → Shape → LineNo → ℕ → ℕ
+valueRefusal s v x section shape line column =
+    firstOf
+    (sectionRefusals s v x section
+    ++ (refusal 34 (noLine shape line) ∷ refusal 35 (noColumn shape column) ∷ []))
+
+-- "a refused value is blank beside its number"
+abbrev pub valueWith : Verdict → ℕ → Reading → ValueAnswer
+valueWith v number value =
+    record { answer = answerFor v number; value = cond (eqb number 0) value Blank }
+
+-- "Value gives blank or number": that an answered one is never malformed is the law `value-answered`
+unfoldable pub valueBy : List ℕ → Verdict → Row → ℕ → LineNo → ℕ → ValueAnswer
+valueBy s v x section line column =
+    let at = sectionIn x section in
+    let shape = shapeOf s section at in
+    valueWith v (valueRefusal s v x at shape line column)
+    (readField (fieldOf s (placeOf at (shape .columns) line column)))
+
+unfoldable pub valueOf : List ℕ → ℕ → ℕ → LineNo → ℕ → ValueAnswer
+valueOf s n section line column = valueBy s (judgeOf s) (rowOf s n) section line column
+
+-- ---- parts of the entry
+
+abbrev pub noPart : Answer → PartAnswer
+noPart a = record { answer = a; first = 0; length = 0; pointer = 32 }
+
+-- so many bytes from a byte on, where the entry has them; that it has those of every heading and unit inside its shape
+-- are the laws `heading-answered` and `unit-answered`
+abbrev pub partFrom : List ℕ → Answer → ℕ → ℕ → ℕ → PartAnswer
+partFrom s a from bytes pointer =
+    cond (leb (from + bytes) (length s)) (record { answer = a; first = from; length = bytes; pointer = pointer })
+    (noPart a)
+
+-- "A refused part is empty, its pointer blank"
+abbrev pub partWith : List ℕ → Verdict → ℕ → ℕ → ℕ → ℕ → PartAnswer
+partWith s v number from bytes pointer =
+    cond (eqb number 0) (partFrom s (answer 0) from bytes pointer) (noPart (answerFor v number))
+
+-- it lies in the entry
+pub record Lies (s : List ℕ) (p : PartAnswer) : Type 0 where
+  pub within : p .first + p .length ≤ length s
+
+-- the part itself, as it is handed back
+abbrev pub bytesIn : List ℕ → PartAnswer → List ℕ
+bytesIn s p = take (p .length) (drop (p .first) s)
+
+-- "headings and units skip 34"
+unfoldable pub columnRefusal : List ℕ → Verdict → Row → RecordNo → Shape → ℕ → ℕ
+columnRefusal s v x section shape column =
+    firstOf (sectionRefusals s v x section ++ (refusal 35 (noColumn shape column) ∷ []))
+
+-- "Heading and unit are handed back as a part of the caller's entry, ten columns, the heading's pointer beside either"
+unfoldable pub headingBy : List ℕ → Verdict → Row → ℕ → ℕ → PartAnswer
+headingBy s v x section column =
+    let at = sectionIn x section in
+    let heading = headingPlace at column in
+    partWith s v (columnRefusal s v x at (shapeOf s section at) column)
+    (byteOf heading) 10 (pointerOf (fieldOf s heading))
+
+unfoldable pub headingOf : List ℕ → ℕ → ℕ → ℕ → PartAnswer
+headingOf s n section column = headingBy s (judgeOf s) (rowOf s n) section column
+
+unfoldable pub unitBy : List ℕ → Verdict → Row → ℕ → ℕ → PartAnswer
+unitBy s v x section column =
+    let at = sectionIn x section in
+    let shape = shapeOf s section at in
+    partWith s v (columnRefusal s v x at shape column)
+    (byteOf (unitPlace at (shape .columns) column)) 10 (pointerOf (fieldOf s (headingPlace at column)))
+
+unfoldable pub unitOf : List ℕ → ℕ → ℕ → ℕ → PartAnswer
+unitOf s n section column = unitBy s (judgeOf s) (rowOf s n) section column
+
+unfoldable pub passageRefusal : List ℕ → Verdict → Row → Passage → ℕ
+passageRefusal s v x p =
+    firstOf (sectionRefusals s v x (x .bib) ++ (refusal 36 (noPassage p) ∷ []))
+
+-- "a passage likewise, whole records"; the pointer beside it is the one asked for
+unfoldable pub passageBy : List ℕ → Verdict → Row → List ℕ → ℕ → PartAnswer
+passageBy s v x keyword pointer =
+    let p = passageOf s (x .bib) keyword pointer in
+    partWith s v (passageRefusal s v x p) (firstByte (p .first)) (p .records * 81) pointer
+
+unfoldable pub passageAnswer : List ℕ → ℕ → List ℕ → ℕ → PartAnswer
+passageAnswer s n keyword pointer = passageBy s (judgeOf s) (rowOf s n) keyword pointer

@@ -1,0 +1,96 @@
+-- What an entry holds by its own counts: the questions inside its shape.
+--
+-- The judge's context before each record says what the record is: its role, its subentry, and in a table its row. From
+-- this alone, and from the counts that a section's own record announces, it is said which columns and lines the entry
+-- has; how they are found plays no part here.
+use Prim.Native.Nat.{ℕ, zero, suc, _/_, _<_, _≤_}
+use mathlib.Core.Path.{_≡_}
+use mathlib.Core.Bool.{Bool, true, false, cond}
+use mathlib.Core.List.{List}
+use lib.Dec.{eqb}
+use lib.ListN.{length}
+use Rattle.laws.specs.Blocks.{blockAt}
+use Rattle.number.specs.declared.value.Reading.{Reading}
+use Rattle.number.specs.declared.value.Reading.the-variants.{Blank, Number, Refused}
+use Rattle.record.specs.Fields.{fieldsOf}
+use Rattle.record.specs.Identifier.{COMMON, DATA}
+use Rattle.record.specs.declared.columns.LineNo.{LineNo}
+use Rattle.rules.specs.State.{Context, startContext}
+use Rattle.rules.specs.System.{countN1, countN2}
+use Rattle.rules.specs.Role.{NOT-DUE}
+use Rattle.entry.specs.Next.{contextAfter}
+use Rattle.entry.specs.Verdict.{roleOf, judgeOf}
+use Rattle.questions.specs.Place.{COMMON-SECTION, DATA-SECTION}
+use Rattle.questions.specs.Ask.{valueOf, headingOf, unitOf}
+
+abbrev pub Accepted : List ℕ → Type 0
+Accepted s = judgeOf s .refusal ≡ 0
+
+-- ---- the records of an entry, by their index
+
+-- the context behind a record without fault
+abbrev pub behind : Context → List ℕ → Context
+behind c r = contextAfter c (roleOf c r) (fieldsOf r) r
+
+-- the context before the record with the index i, and the role of that record
+unfoldable pub contextAt : List ℕ → ℕ → Context
+contextAt s zero = startContext
+contextAt s (suc i) = behind (contextAt s i) (blockAt 81 s i)
+
+abbrev pub roleAt : List ℕ → ℕ → ℕ
+roleAt s i = roleOf (contextAt s i) (blockAt 81 s i)
+
+-- ---- tables
+
+-- the identifier that opens a section
+abbrev pub openedBy : ℕ → ℕ
+openedBy section = cond (eqb section COMMON-SECTION) COMMON (cond (eqb section DATA-SECTION) DATA NOT-DUE)
+
+-- the record with the index i opens that section of the subentry n
+pub record Opens (s : List ℕ) (n section i : ℕ) : Type 0 where
+  pub there : i < length s / 81
+  pub role : roleAt s i ≡ openedBy section
+  pub subentry : contextAt s i .track .subentry .number ≡ n
+
+-- "columns, 1-18": the columns that a section's own record announces
+pub record InsideColumn (s : List ℕ) (n section column : ℕ) : Type 0 where
+  pub index : ℕ
+  pub opens : Opens s n section index
+  pub from : 1 ≤ column
+  pub to : column ≤ countN1 (fieldsOf (blockAt 81 s index))
+
+-- "lines, 1-20,000"; "COMMON has line 1 only"
+abbrev pub linesIn : ℕ → List ℕ → ℕ
+linesIn section r = cond (eqb section COMMON-SECTION) 1 (countN2 (fieldsOf r))
+
+pub record InsideValue (s : List ℕ) (n section : ℕ) (line : LineNo) (column : ℕ) : Type 0 where
+  pub index : ℕ
+  pub opens : Opens s n section index
+  pub column-from : 1 ≤ column
+  pub column-to : column ≤ countN1 (fieldsOf (blockAt 81 s index))
+  pub line-from : 1 ≤ line .0
+  pub line-to : line .0 ≤ linesIn section (blockAt 81 s index)
+
+-- ---- what is claimed of them
+
+abbrev pub isSaid : Reading → Bool
+isSaid Blank = true
+isSaid (Number v) = true
+isSaid (Refused n) = false
+
+-- demand 3: for an accepted entry every question inside its own shape is answered, and a value is blank or a number
+abbrev pub ValueAnswered : Type 0
+ValueAnswered =
+    (s : List ℕ) (n section : ℕ) (line : LineNo) (column : ℕ) → Accepted s → InsideValue s n section line column
+    → (valueOf s n section line column .answer .number ≡ 0) × (isSaid (valueOf s n section line column .value) ≡ true)
+
+-- a heading and a unit are ten columns of the entry
+abbrev pub HeadingAnswered : Type 0
+HeadingAnswered =
+    (s : List ℕ) (n section column : ℕ) → Accepted s → InsideColumn s n section column
+    → (headingOf s n section column .answer .number ≡ 0) × (headingOf s n section column .length ≡ 10)
+
+abbrev pub UnitAnswered : Type 0
+UnitAnswered =
+    (s : List ℕ) (n section column : ℕ) → Accepted s → InsideColumn s n section column
+    → (unitOf s n section column .answer .number ≡ 0) × (unitOf s n section column .length ≡ 10)

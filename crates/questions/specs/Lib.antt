@@ -1,0 +1,6 @@
+pub mod Row
+pub mod Numbers
+pub mod Place
+pub mod Passage
+pub mod Ask
+pub mod Inside
