@@ -1,0 +1,10 @@
+pub mod CanonicalFields
+pub mod FaithfulRecords
+pub mod Demand
+pub mod Unchanged
+pub mod Pasted
+pub mod WholeRecords
+pub mod StoredNumbers
+pub mod NumberedCopy
+pub mod Made
+pub mod CopyLoop

@@ -1,0 +1,58 @@
+-- The canonical copy of an entry (document 01):
+--
+--   "The canonical copy replaces each non-blank value field of COMMON and DATA by its canonical field and keeps every other
+--   byte."
+use Prim.Native.Nat.{ℕ, _/_}
+use mathlib.Core.Bool.{Bool, true, false, _&&_}
+use mathlib.Core.List.{List, []}
+use lib.Dec.{ltb}
+use lib.ListN.{length, getD}
+use Rattle.laws.specs.Blocks.{blocks, joined, blockAt}
+use Rattle.laws.specs.Copies.{copies, marks}
+use Rattle.laws.specs.Replacing.{replaced, mask}
+use Rattle.canonical.specs.Replacing.{canonical}
+use Rattle.record.specs.Fields.{fieldAt}
+use Rattle.rules.specs.declared.state.Track.{Track}
+use Rattle.rules.specs.State.{Context, startContext, used}
+use Rattle.rules.specs.Role.{isValue}
+use Rattle.entry.specs.Verdict.{roleOf, turnOf}
+
+-- ---- number fields
+
+-- the field k (counted from 0) of a record with this role is a value field of COMMON or DATA, filled or blank
+abbrev pub valueField : Track → ℕ → ℕ → Bool
+valueField t role k = isValue role && ltb k (used t)
+
+-- in its context it is a number field: every value field is one
+unfoldable pub numberIn : Context → ℕ → ℕ → Bool
+numberIn c role k = valueField (c .track) role k
+
+-- which of a record's six fields are number fields
+unfoldable pub maskOf : Context → List ℕ → List Bool
+maskOf c r = mask (numberIn c (roleOf c r)) 0 6
+
+-- the records of an entry
+abbrev pub recordsOf : List ℕ → List (List ℕ)
+recordsOf s = blocks 81 (length s / 81) s
+
+-- the field k of the record with the index i is a number field of the entry
+unfoldable pub numberField : List ℕ → ℕ → ℕ → Bool
+numberField s i k = getD (getD (marks turnOf maskOf startContext 0 (recordsOf s)) i []) k false
+
+-- that field's columns
+abbrev pub fieldIn : List ℕ → ℕ → ℕ → List ℕ
+fieldIn s i k = fieldAt (blockAt 81 s i) k
+
+-- ---- the copy
+
+-- a field as the copy has it, where it is a number field and where it is not; a blank one is its own canonical field
+abbrev pub copyField : Bool → List ℕ → List ℕ
+copyField true f = canonical f
+copyField false f = f
+
+unfoldable pub copyRecord : Context → List ℕ → List ℕ
+copyRecord c r = replaced copyField (maskOf c r) r
+
+-- each record as it is copied in its context
+unfoldable pub copyOf : List ℕ → List ℕ
+copyOf s = joined (copies turnOf copyRecord startContext 0 (recordsOf s))

@@ -1,0 +1,4 @@
+pub mod Copy
+pub mod Answer
+pub mod Demand
+pub mod Storing
