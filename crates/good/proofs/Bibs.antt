@@ -1,0 +1,328 @@
+-- A BIB section or NOBIB: the judge goes over its records exactly when they are a good one. Assumes nothing.
+use Prim.Native.Nat.{ℕ, suc, _+_, _≤_}
+use mathlib.Core.Path.{_≡_, refl, sym, _∙_, ap}
+use mathlib.Core.Bool.{true}
+use mathlib.Core.List.{List, [], _∷_, _++_, append-assoc}
+use native.Mathlib.Omega.{arith}
+use native.Mathlib.Nat.{zero-add}
+use lib.ListN.{length, length-append}
+use borrow.Author.Tests.{eqb-true, eq-eqb, leb-true, le-leb}
+use Rattle.laws.specs.Blocks.{joined}
+use Rattle.record.specs.Fields.{fieldsOf}
+use Rattle.record.specs.Identifier.{BIB, NOBIB, ENDBIB}
+use Rattle.rules.specs.declared.state.Phase.the-variants.{InSubentry, InBib, AfterBib}
+use Rattle.rules.specs.State.{Context}
+use Rattle.rules.specs.Role.{TEXT, only, roleIn, bibRole, either as oneOf}
+use Rattle.rules.specs.Every.{expectedIdentification, expectedSequence}
+use Rattle.rules.specs.System.{limitN1, limitN2, meets, trueCount, countN1, countN2}
+use Rattle.entry.specs.Next.{contextAfter, phaseAfter, trackAfter, afterSystem, seenAfter, partAfter, bibChange}
+use Rattle.entry.specs.Next.{underChange}
+use Rattle.entry.specs.Verdict.{roleOf, isDone}
+use Rattle.good.specs.Parts.{Record, Bib, Section, present, absent, textsOf, bibRecords}
+use Rattle.good.specs.Marks.{Marked, Following, nameOf, n1, n2, Says}
+use Rattle.good.specs.Bib.{GoodBibPart, textsOfPart}
+use Rattle.good.specs.Totals.{keywordsIn}
+use Rattle.good.proofs.Steps.{Takes, next, Passes, next-pass, takes-marked}
+use Rattle.good.proofs.Runs.{role-at, only-role, either-left, either-right, pass-only, pass-either, rest-of}
+use Rattle.good.proofs.Runs.{Step, Run, afterRun}
+use Rattle.good.proofs.Moves.{Moved, moved-on, recount, quiet}
+use Rattle.good.proofs.Texts.{Other, InText, AfterText, after-texts, pass-texts, texts-pass, texts-left, Holding}
+use Rattle.good.proofs.Texts.{run-texts, bearing}
+use Rattle.good.proofs.Keywords.{fine-keywords, fine-following, keywords-fine, bearing-keywords, keywords-least}
+use Rattle.good.proofs.Systems.{says-as, counted1, counted2, identificationIn, Here, here-of, free-takes}
+use Rattle.good.proofs.Systems.{free-NOBIB, takes-announces, announces-takes, open-BIB, takes-end, end-takes}
+use Rattle.good.proofs.Systems.{end-BIB, following-append, following-left, following-right, following-as}
+
+-- ---- the context behind it
+
+unfoldable pub afterBib : Context → Section Bib → Context
+afterBib c (present b) = next (afterRun TEXT (next c BIB (b .opening)) (textsOf (b .keywords))) ENDBIB (b .ending)
+afterBib c (absent r) = next c NOBIB r
+
+pub record BehindBib (c d : Context) (part : Section Bib) : Type 0 where
+  pub phase : d .phase ≡ AfterBib
+  pub moved : Moved c d (length (bibRecords part)) (keywordsIn part) 0 0
+  pub bib : d .seen .bib ≡ joined (textsOfPart part)
+  pub common : d .seen .common ≡ c .seen .common
+
+record Opened (c d : Context) (a b : ℕ) : Type 0 where
+  phase : d .phase ≡ InBib
+  moved : Moved c d 1 0 0 0
+  section : d .track .section ≡ 0
+  met : d .track .bib .met ≡ 0
+  announced : d .track .bib .keywords ≡ a
+  long : d .track .bib .records ≡ b
+  bib : d .seen .bib ≡ []
+  under : d .seen .under ≡ []
+  common : d .seen .common ≡ c .seen .common
+
+after-BIB : (c : Context) (r : Record) → Opened c (next c BIB r) (countN1 (fieldsOf r)) (countN2 (fieldsOf r))
+unfolding contextAfter phaseAfter trackAfter afterSystem seenAfter partAfter bibChange underChange
+after-BIB c r =
+    record {
+      phase = refl;
+      moved = quiet refl refl refl refl refl;
+      section = refl;
+      met = refl;
+      announced = refl;
+      long = refl;
+      bib = refl;
+      under = refl;
+      common = refl;
+    }
+
+record Closed (c d : Context) : Type 0 where
+  phase : d .phase ≡ AfterBib
+  moved : Moved c d 1 0 0 0
+  bib : d .seen .bib ≡ c .seen .bib
+  common : d .seen .common ≡ c .seen .common
+
+after-ENDBIB : (c : Context) (r : Record) → Closed c (next c ENDBIB r)
+unfolding contextAfter phaseAfter trackAfter afterSystem seenAfter partAfter bibChange
+after-ENDBIB c r =
+    record {
+      phase = refl;
+      moved = quiet refl refl refl refl refl;
+      bib = refl;
+      common = refl;
+    }
+
+after-NOBIB : (c : Context) (r : Record) → Closed c (next c NOBIB r)
+unfolding contextAfter phaseAfter trackAfter afterSystem seenAfter partAfter bibChange
+after-NOBIB c r =
+    record {
+      phase = refl;
+      moved = quiet refl refl refl refl refl;
+      bib = refl;
+      common = refl;
+    }
+
+pub behind-bib : (c : Context) (part : Section Bib) → c .seen .bib ≡ [] → GoodBibPart part
+    → BehindBib c (afterBib c part) part
+unfolding afterBib joined
+behind-bib c (absent r) e g =
+    let a = after-NOBIB c r in
+    record { phase = a .phase; moved = a .moved; bib = a .bib ∙ e; common = a .common }
+behind-bib c (present b) e g =
+    let texts = textsOf (b .keywords) in
+    let o = after-BIB c (b .opening) in
+    let c1 = next c BIB (b .opening) in
+    let t = after-texts c1 texts in
+    let c2 = afterRun TEXT c1 texts in
+    let d = after-ENDBIB c2 (b .ending) in
+    let k = bearing-keywords (b .keywords) (g .each) in
+    record {
+      phase = d .phase;
+      moved = recount (length (bibRecords (present b))) (length (b .keywords)) 0 0
+          (moved-on (moved-on (o .moved) (t .moved)) (d .moved))
+          (many texts (b .ending)) (omega arith) refl refl;
+      bib = d .bib ∙ t .bib ∙ ap (λ (w : List ℕ). w ++ joined texts) (o .bib);
+      common = d .common ∙ t .common ∙ o .common;
+    }
+  where
+    many : (texts : List Record) (r : Record) → 1 + length texts + 1 ≡ suc (length (texts ++ (r ∷ [])))
+    many texts r = rw length-append (omega arith)
+
+-- ---- the rules of BIB and ENDBIB
+
+least-keywords : (a b : ℕ) → meets (limitN1 BIB) a ≡ true → 1 ≤ a
+unfolding limitN1
+least-keywords a b e = leb-true 1 a e
+
+bib-limits : (a b : ℕ) → 1 ≤ a → a ≤ b → (meets (limitN1 BIB) a ≡ true) × (meets (limitN2 BIB a) b ≡ true)
+unfolding limitN1 limitN2
+bib-limits a b h l = (le-leb 1 a h, le-leb a b l)
+
+end-marked : (c : Context) (r : Record) → Takes c ENDBIB r → Here c r
+unfolding expectedIdentification expectedSequence
+end-marked c r t = takes-marked c ENDBIB r t
+
+end-bib-takes : (c : Context) (r : Record) → Here c r → Says (n1 r) (c .track .section)
+    → c .track .bib .met ≡ c .track .bib .keywords → Takes c ENDBIB r
+unfolding expectedIdentification expectedSequence trueCount
+end-bib-takes c r m s k = end-takes c ENDBIB r end-BIB m s (eq-eqb (c .track .bib .met) (c .track .bib .keywords) k)
+
+end-role : (c : Context) (r : Record) → InText c 0 → roleOf c r ≡ only ENDBIB (nameOf r)
+unfolding roleIn bibRole
+end-role c r l =
+    let h = l .left in
+    role-at c InBib r (l .phase)
+    ∙ rw (eq-eqb (c .track .section) (c .track .bib .records) (omega arith))
+
+bib-role : (c : Context) (r : Record) → c .phase ≡ InSubentry → roleOf c r ≡ oneOf BIB NOBIB (nameOf r)
+unfolding roleIn
+bib-role c r e = role-at c InSubentry r e
+
+holding : (c d : Context) (a b : ℕ) → Opened c d a b
+    → Holding d (identificationIn c) (c .track .subentry .records + 3) [] []
+unfolding joined
+holding c d a b o =
+    record {
+      identified = rw (o .moved .accession, o .moved .number);
+      sequenced = let x = o .moved .records in omega arith;
+      section = o .section;
+      bib = o .bib;
+      under-is = o .under;
+      long = tt;
+      long-under = tt;
+    }
+
+-- ---- from the walk to the section
+
+pub record PassedBib (c : Context) (rs : List Record) (z : Context) : Type 0 where
+  pub part : Section Bib
+  pub rest : List Record
+  pub split : rs ≡ bibRecords part ++ rest
+  pub good : GoodBibPart part
+  pub follows : Following (identificationIn c) (c .track .subentry .records + 2) (bibRecords part)
+  pub passes : Passes (afterBib c part) rest z
+
+no-bib : (c : Context) (r : Record) (rs : List Record) (z : Context) → Step c NOBIB r rs z → PassedBib c (r ∷ rs) z
+unfolding afterBib Following
+no-bib c r rs z s =
+    record {
+      part = absent r;
+      rest = rs;
+      split = refl;
+      good = s .named;
+      follows = (here-of c NOBIB r (free-NOBIB .inside) (s .takes), tt);
+      passes = s .passes;
+    }
+
+-- behind the text records
+ended-bib : (c : Context) (r : Record) (xs ys : List Record) (z : Context) → isDone (z .phase) ≡ true
+    → nameOf r ≡ BIB → Takes c BIB r
+    → length xs ≡ countN2 (fieldsOf r) → Run Other TEXT (next c BIB r) xs → InText (afterRun TEXT (next c BIB r) xs) 0
+    → Passes (afterRun TEXT (next c BIB r) xs) ys z → PassedBib c (r ∷ (xs ++ ys)) z
+unfolding afterBib Following trueCount
+ended-bib c r xs ys z done named t l run left p =
+    let a = takes-announces c BIB r open-BIB t in
+    let c1 = next c BIB r in
+    let o = after-BIB c r in
+    let fine = run-texts c1 (identificationIn c) (c .track .subentry .records + 3) [] [] xs
+    (holding c c1 (countN1 (fieldsOf r)) (countN2 (fieldsOf r)) o) .0 run in
+    let ks = fine-keywords (identificationIn c) (c .track .subentry .records + 3) xs fine in
+    let follows = fine-following (identificationIn c) (c .track .subentry .records + 3) [] [] xs fine in
+    let at = after-texts c1 xs in
+    let c2 = afterRun TEXT c1 xs in
+    rest-of c2 ys z (ap isDone (left .phase)) done p
+    (λ e ts split q.
+    let s = pass-only c2 ENDBIB e ts z (end-role c2 e left) q in
+    let (between, met) = takes-end c2 ENDBIB e end-BIB (s .takes) in
+    let k : countN1 (fieldsOf r) ≡ length (ks .keywords) =
+    sym (o .announced) ∙ sym (at .announced) ∙ sym (eqb-true (c2 .track .bib .met) (c2 .track .bib .keywords) met)
+    ∙ at .met ∙ ap (λ (m : ℕ). m + bearing xs) (o .met) ∙ zero-add (bearing xs)
+    ∙ ap bearing (ks .split) ∙ bearing-keywords (ks .keywords) (ks .each) in
+    let n : length xs ≡ length (textsOf (ks .keywords)) = ap length (ks .split) in
+    let sec : c2 .track .section ≡ length (textsOf (ks .keywords)) =
+    at .section ∙ ap (λ (m : ℕ). m + length xs) (o .section) ∙ zero-add (length xs) ∙ n in
+    let least = least-keywords (countN1 (fieldsOf r)) 0 (a .limit1) in
+    record {
+      part = present (record { opening = r; keywords = ks .keywords; ending = e });
+      rest = ts;
+      split = ap (λ (w : List Record). r ∷ w)
+          (ap (λ (w : List Record). w ++ ys) (ks .split)
+          ∙ ap (λ (w : List Record). textsOf (ks .keywords) ++ w) split
+          ∙ sym (append-assoc (textsOf (ks .keywords)) (e ∷ []) ts));
+      good = record {
+        opens = named;
+        keywords = says-as (n1 r) (countN1 (fieldsOf r)) (length (ks .keywords)) (a .first) k;
+        least = rw k at least;
+        records = says-as (n2 r) (countN2 (fieldsOf r)) (length (textsOf (ks .keywords))) (a .second) (sym l ∙ n);
+        each = ks .each;
+        once = ks .once;
+        ends = s .named;
+        between = says-as (n1 e) (c2 .track .section) (length (textsOf (ks .keywords))) between sec;
+      };
+      follows = (
+        here-of c BIB r (open-BIB .inside) t,
+        rw (ks .split) at
+            (following-append (identificationIn c) (c .track .subentry .records + 2 + 1) xs (e ∷ [])
+            (following-as (identificationIn c) (identificationIn c) (c .track .subentry .records + 3)
+            (c .track .subentry .records + 2 + 1) xs refl (omega arith) follows)
+            (ending c c1 c2 e o at (s .takes), tt)),
+      );
+      passes = rw (ks .split) at (s .passes);
+    })
+  where
+    ending : (c c1 c2 : Context) (e : Record) → Opened c c1 (countN1 (fieldsOf r)) (countN2 (fieldsOf r))
+        → AfterText c1 c2 (length xs) (bearing xs) (joined xs) → Takes c2 ENDBIB e
+        → Marked (identificationIn c) (c .track .subentry .records + 2 + 1 + length xs) e
+    ending c c1 c2 e o at t =
+        let m = end-marked c2 e t in
+        let x = o .moved .records in
+        let y = at .moved .records in
+        let i : identificationIn c2 ≡ identificationIn c =
+        rw (at .moved .accession, at .moved .number, o .moved .accession, o .moved .number) in
+        let n : c2 .track .subentry .records + 2 ≡ c .track .subentry .records + 2 + 1 + length xs = omega arith in
+        rw (i, n) at m
+
+pub pass-bib : (c : Context) (rs : List Record) (z : Context) → c .phase ≡ InSubentry → isDone (z .phase) ≡ true
+    → Passes c rs z → PassedBib c rs z
+pass-bib c rs z e done p =
+    rest-of c rs z (ap isDone e) done p
+    (λ r ts split q.
+    rw split
+    (pass-either c BIB NOBIB r ts z (λ x. omega arith) (bib-role c r e) q
+    (λ s.
+    let o = after-BIB c r in
+    let x = o .section in
+    let y = o .long in
+    pass-texts (countN2 (fieldsOf r)) (next c BIB r) ts z
+    (record { phase = o .phase; left = omega arith }) done (s .passes)
+    (λ xs ys split l run left p. rw split (ended-bib c r xs ys z done (s .named) (s .takes) l run left p)))
+    (λ s. no-bib c r ts z s)))
+
+-- ---- from the section to the walk
+
+pub bib-pass : (c : Context) (part : Section Bib) (rest : List Record) (z : Context) → c .phase ≡ InSubentry
+    → GoodBibPart part → Following (identificationIn c) (c .track .subentry .records + 2) (bibRecords part)
+    → Passes (afterBib c part) rest z → Passes c (bibRecords part ++ rest) z
+unfolding afterBib Following
+bib-pass c (absent r) rest z e g f p =
+    next-pass c NOBIB r rest z (bib-role c r e ∙ either-right BIB NOBIB (nameOf r) (λ x. omega arith) g)
+    (free-takes c NOBIB r free-NOBIB (f .0)) p
+bib-pass c (present b) rest z e g f p =
+    let texts = textsOf (b .keywords) in
+    let r = b .opening in
+    let c1 = next c BIB r in
+    let c2 = afterRun TEXT c1 texts in
+    let o = after-BIB c r in
+    let at = after-texts c1 texts in
+    let n : countN2 (fieldsOf r) ≡ length texts = counted2 r (length texts) (g .records) in
+    let k : countN1 (fieldsOf r) ≡ length (b .keywords) = counted1 r (length (b .keywords)) (g .keywords) in
+    let (l1, l2) = bib-limits (length (b .keywords)) (length texts) (g .least) (keywords-least (b .keywords)) in
+    let fine = keywords-fine (identificationIn c) (c .track .subentry .records + 3) [] [] [] (b .keywords)
+    (record { same = λ f w. refl }) (g .each) (g .once)
+    (following-as (identificationIn c) (identificationIn c) (c .track .subentry .records + 2 + 1)
+    (c .track .subentry .records + 3) texts refl (omega arith)
+    (following-left (identificationIn c) (c .track .subentry .records + 2 + 1) texts (b .ending ∷ []) (f .1))) in
+    let run = run-texts c1 (identificationIn c) (c .track .subentry .records + 3) [] [] texts
+    (holding c c1 (countN1 (fieldsOf r)) (countN2 (fieldsOf r)) o) .1 fine in
+    let x = o .section in
+    let y = o .long in
+    let inside : InText c1 (length texts) = record { phase = o .phase; left = omega arith } in
+    let left = texts-left (length texts) c1 texts inside refl run in
+    let last = following-right (identificationIn c) (c .track .subentry .records + 2 + 1) texts (b .ending ∷ [])
+    (f .1) in
+    let i : identificationIn c2 ≡ identificationIn c =
+    rw (at .moved .accession, at .moved .number, o .moved .accession, o .moved .number) in
+    let xr = o .moved .records in
+    let yr = at .moved .records in
+    let q : c2 .track .subentry .records + 2 ≡ c .track .subentry .records + 2 + 1 + length texts = omega arith in
+    let ys = at .section in
+    let sec : length texts ≡ c2 .track .section = omega arith in
+    let met : c2 .track .bib .met ≡ c2 .track .bib .keywords =
+    at .met ∙ ap (λ (m : ℕ). m + bearing texts) (o .met) ∙ zero-add (bearing texts)
+    ∙ bearing-keywords (b .keywords) (g .each) ∙ sym k ∙ sym (o .announced) ∙ sym (at .announced) in
+    let t2 = end-bib-takes c2 (b .ending) (rw (i, q) (last .0))
+    (says-as (n1 (b .ending)) (length texts) (c2 .track .section) (g .between) sec) met in
+    next-pass c BIB r ((texts ++ (b .ending ∷ [])) ++ rest) z
+    (bib-role c r e ∙ either-left BIB NOBIB (nameOf r) (g .opens))
+    (announces-takes c BIB r (length (b .keywords)) (length texts) open-BIB (f .0)
+    (record { first = g .keywords; second = g .records; limit1 = l1; limit2 = l2 }))
+    (rw (append-assoc texts (b .ending ∷ []) rest)
+    (texts-pass (length texts) c1 texts (b .ending ∷ rest) z inside refl run
+    (next-pass c2 ENDBIB (b .ending) rest z (end-role c2 (b .ending) left ∙ only-role ENDBIB (nameOf (b .ending))
+    (g .ends))
+    t2 p)))

@@ -1,0 +1,393 @@
+-- A row of headings. Assumes nothing.
+use Prim.Native.Nat.{ℕ, suc, _+_, _-_, _*_, _<_, _≤_}
+use mathlib.Core.Path.{_≡_, refl, sym, _∙_, ap}
+use mathlib.Core.Bool.{Bool, true, false, not, _&&_}
+use mathlib.Core.Logic.{_↔_}
+use mathlib.Core.List.{List, [], _∷_, _++_}
+use native.Mathlib.Omega.{arith}
+use lib.Dec.{eqb}
+use lib.ListN.{length, length-append}
+use borrow.Author.Tests.{lt-ltb, le-ltb, not-false}
+use Rattle.laws.proofs.Booleans.{differ}
+use Rattle.laws.proofs.Listing.{all-append, joined-one}
+use Rattle.laws.specs.Walk.{All}
+use Rattle.laws.specs.Blocks.{joined}
+use Rattle.laws.specs.Members.{anyOf}
+use Rattle.laws.proofs.Search.{either}
+use Rattle.record.specs.Columns.{recordsFor}
+use Rattle.record.specs.Fields.{fieldAt, fieldsOf, inField}
+use Rattle.record.specs.Text.{isBlank}
+use Rattle.record.specs.Word.{isWord, blankTo, equalTo, pointerOf, pointerFault, headingFault}
+use Rattle.rules.specs.State.{Context, used}
+use Rattle.rules.specs.Fault.{leftmost, fieldColumn, pointerColumn}
+use Rattle.rules.specs.Headings.{rule11Heading, rule12Heading, headingRepeated, rule13, pointersFor, pointerLost}
+use Rattle.rules.specs.Headings.{lostAt, rule14}
+use Rattle.good.specs.Parts.{Record}
+use Rattle.good.specs.Marks.{Following}
+use Rattle.good.specs.Tables.{cell, Heading, BlankCell, GoodHeadings}
+use Rattle.good.specs.Subentries.{Occurs}
+use Rattle.good.proofs.Steps.{Takes, next, MarkedFor, where-none, none-where, takes-own, own-takes}
+use Rattle.good.proofs.Runs.{Run, afterRun}
+use Rattle.good.proofs.Systems.{identificationIn}
+use Rattle.good.proofs.Lists.{Long}
+use Rattle.good.proofs.Rows.{headings, roleFor, row-step, RowAt, NoEnd}
+use Rattle.good.proofs.Rowwise.{RowFine, run-row, BehindRow, behind-row, countRow}
+use Rattle.good.proofs.Cells.{field-at, few, few-used, few-least, few-below, few-past, below-few, cell-here}
+use Rattle.good.proofs.Cells.{cell-there, Cells, fine-used, fine-unused, cells-here, used-there, unused-there}
+use Rattle.good.proofs.Units.{noCount}
+use Rattle.good.proofs.Earlier.{New, search-new, new-search}
+
+-- ---- the rules 11 to 14
+
+record ByRules (d : Bool) (c : Context) (r : Record) : Type 0 where
+  eleven : leftmost (rule11Heading (c .track) (fieldsOf r)) ≡ 0
+  twelve : leftmost (rule12Heading (c .track) (fieldsOf r)) ≡ 0
+  thirteen : leftmost (rule13 (c .seen) (c .track) (fieldsOf r) r) ≡ 0
+  fourteen : d ≡ true → leftmost (rule14 (c .seen) (c .track) (fieldsOf r)) ≡ 0
+
+heading-rules : (d : Bool) (c : Context) (r : Record) → Takes c (roleFor headings d) r → ByRules d c r
+heading-rules false c r t =
+    let own = takes-own c (roleFor headings false) r t in
+    record {
+      eleven = own .1 .1 .1 .1 .0;
+      twelve = own .1 .1 .1 .1 .1 .0;
+      thirteen = own .1 .1 .1 .1 .1 .1 .0;
+      fourteen = λ e. differ (sym e);
+    }
+heading-rules true c r t =
+    let own = takes-own c (roleFor headings true) r t in
+    record {
+      eleven = own .1 .1 .1 .1 .0;
+      twelve = own .1 .1 .1 .1 .1 .0;
+      thirteen = own .1 .1 .1 .1 .1 .1 .0;
+      fourteen = λ e. own .1 .1 .1 .1 .1 .1 .1 .0;
+    }
+
+rules-heading : (d : Bool) (c : Context) (r : Record) → MarkedFor c (roleFor headings d) r → ByRules d c r
+    → Takes c (roleFor headings d) r
+rules-heading false c r m b =
+    own-takes c (roleFor headings false) r m refl
+    (refl, (refl, (refl, (refl, (b .eleven, (b .twelve, (b .thirteen, (refl, (refl, tt)))))))))
+rules-heading true c r m b =
+    own-takes c (roleFor headings true) r m refl
+    (refl, (refl, (refl, (refl, (b .eleven, (b .twelve, (b .thirteen, (b .fourteen refl, (refl, tt)))))))))
+
+-- ---- a record of headings
+
+-- `first` and `common` are the heading records of the COMMON of 001 and of this subentry; `pointers` may be named
+pub record HeadingsFine (d : Bool) (first common : List Record) (pointers : List ℕ) (rest : ℕ) (before : List Record)
+    (r : Record) : Type 0 where
+  pub cells : Cells Heading BlankCell rest r
+  pub new : (j : ℕ) → j < 6 → j < rest → New first common before r j (fieldAt r j)
+  pub found : d ≡ true → (j : ℕ) → j < 6 → j < rest → Occurs pointers (fieldAt r j)
+
+pub record HeadingsKnown (first common : List Record) (pointers : List ℕ) (c : Context)
+    (before : List Record) : Type 0 where
+  pub first-part : c .seen .common001 ≡ joined first
+  pub common-part : c .seen .common ≡ joined common
+  pub table-part : c .seen .table ≡ joined before
+  pub long-first : All Long first
+  pub long-common : All Long common
+  pub long-before : All Long before
+  pub named : pointersFor (c .seen .bib) (c .seen .bib001) (c .seen .common) (c .seen .common001) ≡ pointers
+
+not-lost : (pointers : List ℕ) (f : List ℕ) → pointerLost pointers f ≡ false → Occurs pointers f
+not-lost pointers f h e = not-false (anyOf (eqb (pointerOf f)) pointers) (rw e at h)
+
+lost-not : (pointers : List ℕ) (f : List ℕ) → Occurs pointers f → pointerLost pointers f ≡ false
+lost-not pointers f h = by-test (isBlank (pointerOf f)) refl
+  where
+    by-test : (b : Bool) → isBlank (pointerOf f) ≡ b → (not b && not (anyOf (eqb (pointerOf f)) pointers)) ≡ false
+    by-test true e = refl
+    by-test false e = rw (h e)
+
+module _ (d : Bool) (first common : List Record) (pointers : List ℕ) where
+  abbrev RowOf : ℕ → List Record → ℕ → Record → Type 0
+  RowOf rest before m r = HeadingsFine d first common pointers rest before r
+
+  abbrev Known : Context → List Record → ℕ → Type 0
+  Known c before m = HeadingsKnown first common pointers c before
+
+  headings-to : (c : Context) (rest : ℕ) (before : List Record) (m : ℕ) (r : Record)
+      → c .track .table .rest ≡ rest → Known c before m → Takes c (roleFor headings d) r → RowOf rest before m r
+  unfolding rule11Heading rule12Heading rule13 rule14 pointerFault headingFault
+  headings-to c rest before m r e k t =
+      let b = heading-rules d c r t in
+      let u = few-used (c .track) rest e in
+      let h11 = where-none (inField (pointerFault (used (c .track))) (fieldsOf r)) pointerColumn 6 (λ k. omega arith)
+      (b .eleven) in
+      let h12 = where-none (inField (headingFault (used (c .track))) (fieldsOf r)) fieldColumn 6 (λ k. omega arith)
+      (b .twelve) in
+      let h13 =
+      where-none (headingRepeated (c .seen .common001) (c .seen .common) (c .seen .table) r (fieldsOf r)) fieldColumn
+      (used (c .track)) (λ k. omega arith) (b .thirteen) in
+      record {
+        cells = record {
+          used = λ j l a.
+              record {
+                word = not-false (isWord 10 (fieldAt r j))
+                    (rw (u, lt-ltb j (few rest) (few-below rest j l a), field-at r j l) at (h12 j l));
+                pointer = rw (u, lt-ltb j (few rest) (few-below rest j l a), field-at r j l) at (h11 j l);
+              };
+          unused = λ j l a.
+              not-false (blankTo 11 (fieldAt r j))
+              (rw (u, le-ltb j (few rest) (few-past rest j l a), field-at r j l) at (h12 j l));
+        };
+        new = λ j l a.
+            search-new first common before r j (fieldAt r j) (k .long-first) (k .long-common) (k .long-before)
+            (omega arith)
+            (rw (k .first-part, k .common-part, k .table-part, field-at r j l) at
+            (h13 j (rw u (few-below rest j l a))));
+        found = λ q j l a.
+            not-lost pointers (fieldAt r j)
+            (rw (k .named, field-at r j l) at
+            (where-none
+            (lostAt (pointersFor (c .seen .bib) (c .seen .bib001) (c .seen .common) (c .seen .common001)) (fieldsOf r))
+            fieldColumn (used (c .track)) (λ k. omega arith) (b .fourteen q) j (rw u (few-below rest j l a))));
+      }
+
+  headings-from : (c : Context) (rest : ℕ) (before : List Record) (m : ℕ) (r : Record)
+      → c .track .table .rest ≡ rest → Known c before m → MarkedFor c (roleFor headings d) r → RowOf rest before m r
+      → Takes c (roleFor headings d) r
+  unfolding rule11Heading rule12Heading rule13 rule14 pointerFault headingFault
+  headings-from c rest before m r e k mk f =
+      let u = few-used (c .track) rest e in
+      let s = few-least rest in
+      rules-heading d c r mk
+      (record {
+        eleven = ap leftmost
+            (none-where (inField (pointerFault (used (c .track))) (fieldsOf r)) pointerColumn 6
+            (λ j l.
+            rw (u, field-at r j l)
+            (either j rest
+            (λ a. rw (lt-ltb j (few rest) (few-below rest j l a)) (f .cells .used j l a .pointer))
+            (λ a. rw (le-ltb j (few rest) (few-past rest j l a))))));
+        twelve = ap leftmost
+            (none-where (inField (headingFault (used (c .track))) (fieldsOf r)) fieldColumn 6
+            (λ j l.
+            rw (u, field-at r j l)
+            (either j rest
+            (λ a. rw (lt-ltb j (few rest) (few-below rest j l a), f .cells .used j l a .word))
+            (λ a. rw (le-ltb j (few rest) (few-past rest j l a), f .cells .unused j l a)))));
+        thirteen = ap leftmost
+            (none-where (headingRepeated (c .seen .common001) (c .seen .common) (c .seen .table) r
+            (fieldsOf r)) fieldColumn
+            (used (c .track))
+            (λ j l.
+            let q : j < few rest = rw u at l in
+            rw (k .first-part, k .common-part, k .table-part, field-at r j (omega arith))
+            (new-search first common before r j (fieldAt r j) (k .long-first) (k .long-common) (k .long-before)
+            (omega arith) (f .new j (omega arith) (below-few rest j q)))));
+        fourteen = λ t. ap leftmost
+            (none-where
+            (lostAt (pointersFor (c .seen .bib) (c .seen .bib001) (c .seen .common) (c .seen .common001)) (fieldsOf r))
+            fieldColumn (used (c .track))
+            (λ j l.
+            let q : j < few rest = rw u at l in
+            rw (k .named, field-at r j (omega arith))
+            (lost-not pointers (fieldAt r j) (f .found t j (omega arith) (below-few rest j q)))));
+      })
+
+  headings-onward : (c : Context) (rest : ℕ) (before : List Record) (m : ℕ) (r : Record)
+      → c .track .table .rest ≡ rest → Known c before m → 6 < rest → Takes c (roleFor headings d) r
+      → Known (next c (roleFor headings d) r) (before ++ (r ∷ [])) (m + 0)
+  headings-onward c rest before m r e k l t =
+      let s = row-step headings d c r in
+      record {
+        first-part = s .moved .common001 ∙ k .first-part;
+        common-part = s .common ∙ k .common-part;
+        table-part = s .part ∙ ap (λ (w : List ℕ). w ++ r) (k .table-part) ∙ sym (joined-one before r);
+        long-first = k .long-first;
+        long-common = k .long-common;
+        long-before = all-append Long before (r ∷ []) (k .long-before) (t .0, tt);
+        named = rw (s .bib, s .moved .bib001, s .common, s .moved .common001) (k .named);
+      }
+
+  pub run-headings : (n last line rest : ℕ) (c : Context) (identification : List ℕ) (s : ℕ)
+      (before : List Record) (m : ℕ) (rs : List Record) → RowAt c d headings n last line rest → 1 ≤ rest
+      → identificationIn c ≡ identification → c .track .subentry .records + 2 ≡ s → Known c before m
+      → length rs ≡ recordsFor rest
+      → Run NoEnd (roleFor headings d) c rs
+      ↔ (All NoEnd rs × Following identification s rs × RowFine RowOf noCount rest before m rs)
+  run-headings = run-row d headings noCount RowOf Known headings-to headings-from headings-onward
+
+pub behind-headings : (d : Bool) (n last line rest : ℕ) (c : Context) (rs : List Record)
+    → RowAt c d headings n last line rest → 1 ≤ rest → length rs ≡ recordsFor rest → Run NoEnd (roleFor headings d) c rs
+    → BehindRow c (afterRun (roleFor headings d) c rs) d headings rs (countRow noCount rest rs)
+behind-headings d = behind-row d headings noCount (λ c r t. refl)
+
+-- ---- by column
+
+cell-left : (xs ys : List Record) (x : ℕ) → x < length xs * 6 → cell (xs ++ ys) x ≡ cell xs x
+cell-left [] ys x l = absurd (omega arith)
+cell-left (r ∷ xs) ys x l =
+    either x 6
+    (λ a. cell-here r (xs ++ ys) x a ∙ sym (cell-here r xs x a))
+    (λ a. cell-there r (xs ++ ys) x a ∙ cell-left xs ys (x - 6) (omega arith) ∙ sym (cell-there r xs x a))
+
+cell-right : (xs ys : List Record) (x : ℕ) → length xs * 6 ≤ x → cell (xs ++ ys) x ≡ cell ys (x - length xs * 6)
+cell-right [] ys x l = let e : x ≡ x - 0 * 6 = omega arith in ap (cell ys) e
+cell-right (r ∷ xs) ys x l =
+    let e : x - 6 - length xs * 6 ≡ x - suc (length xs) * 6 = omega arith in
+    cell-there r (xs ++ ys) x (omega arith) ∙ cell-right xs ys (x - 6) (omega arith) ∙ ap (cell ys) e
+
+-- the heading in the column c is new in its row, behind the rows before
+pub record NewIn (first common before rs : List Record) (c : ℕ) : Type 0 where
+  pub in-first : (x : ℕ) → x < length first * 6 → equalTo 11 (cell rs c) (cell first x) ≡ false
+  pub in-common : (x : ℕ) → x < length common * 6 → equalTo 11 (cell rs c) (cell common x) ≡ false
+  pub in-before : (x : ℕ) → x < length before * 6 → equalTo 11 (cell rs c) (cell before x) ≡ false
+  pub left : (x : ℕ) → x < c → equalTo 11 (cell rs c) (cell rs x) ≡ false
+
+new-here : (first common before : List Record) (r : Record) (rs : List Record) (c : ℕ) → c < 6
+    → New first common before r c (fieldAt r c) → NewIn first common before (r ∷ rs) c
+new-here first common before r rs c l n =
+    record {
+      in-first = λ x a. rw (cell-here r rs c l) (n .in-first x a);
+      in-common = λ x a. rw (cell-here r rs c l) (n .in-common x a);
+      in-before = λ x a. rw (cell-here r rs c l) (n .in-before x a);
+      left = λ x a. rw (cell-here r rs c l, cell-here r rs x (omega arith)) (n .left x a);
+    }
+
+here-new : (first common before : List Record) (r : Record) (rs : List Record) (c : ℕ) → c < 6
+    → NewIn first common before (r ∷ rs) c → New first common before r c (fieldAt r c)
+here-new first common before r rs c l n =
+    record {
+      in-first = λ x a. rw (cell-here r rs c l) at (n .in-first x a);
+      in-common = λ x a. rw (cell-here r rs c l) at (n .in-common x a);
+      in-before = λ x a. rw (cell-here r rs c l) at (n .in-before x a);
+      left = λ x a. rw (cell-here r rs c l, cell-here r rs x (omega arith)) at (n .left x a);
+    }
+
+same : (a b x y : List ℕ) → a ≡ b → x ≡ y → equalTo 11 b y ≡ false → equalTo 11 a x ≡ false
+same a b x y p q e = rw (p, q) e
+
+new-there : (first common before : List Record) (r : Record) (rs : List Record) (c : ℕ) → 6 ≤ c
+    → NewIn first common (before ++ (r ∷ [])) rs (c - 6) → NewIn first common before (r ∷ rs) c
+new-there first common before r rs c l n =
+    let e = cell-there r rs c l in
+    let m = length-append before (r ∷ []) in
+    record {
+      in-first = λ x a. rw e (n .in-first x a);
+      in-common = λ x a. rw e (n .in-common x a);
+      in-before = λ x a.
+          same (cell (r ∷ rs) c) (cell rs (c - 6)) (cell before x) (cell (before ++ (r ∷ [])) x) e
+          (sym (cell-left before (r ∷ []) x a)) (n .in-before x (rw m (omega arith)));
+      left = λ x a.
+          either x 6
+          (λ b.
+          let w : length before * 6 + x - length before * 6 ≡ x = omega arith in
+          same (cell (r ∷ rs) c) (cell rs (c - 6)) (cell (r ∷ rs) x)
+          (cell (before ++ (r ∷ [])) (length before * 6 + x)) e
+          (cell-here r rs x b ∙ sym (cell-here r [] x b) ∙ ap (cell (r ∷ [])) (sym w)
+          ∙ sym (cell-right before (r ∷ []) (length before * 6 + x) (omega arith)))
+          (n .in-before (length before * 6 + x) (rw m (omega arith))))
+          (λ b.
+          same (cell (r ∷ rs) c) (cell rs (c - 6)) (cell (r ∷ rs) x) (cell rs (x - 6)) e (cell-there r rs x b)
+          (n .left (x - 6) (omega arith)));
+    }
+
+there-new : (first common before : List Record) (r : Record) (rs : List Record) (c : ℕ)
+    → NewIn first common before (r ∷ rs) (c + 6) → NewIn first common (before ++ (r ∷ [])) rs c
+there-new first common before r rs c n =
+    let z : c + 6 - 6 ≡ c = omega arith in
+    let e : cell rs c ≡ cell (r ∷ rs) (c + 6) = sym (cell-there r rs (c + 6) (omega arith) ∙ ap (cell rs) z) in
+    record {
+      in-first = λ x a. rw e (n .in-first x a);
+      in-common = λ x a. rw e (n .in-common x a);
+      in-before = λ x a.
+          let b : x < (length before + 1) * 6 = rw length-append at a in
+          either x (length before * 6)
+          (λ q.
+          same (cell rs c) (cell (r ∷ rs) (c + 6)) (cell (before ++ (r ∷ [])) x) (cell before x) e
+          (cell-left before (r ∷ []) x q) (n .in-before x q))
+          (λ q.
+          same (cell rs c) (cell (r ∷ rs) (c + 6)) (cell (before ++ (r ∷ [])) x)
+          (cell (r ∷ rs) (x - length before * 6)) e
+          (cell-right before (r ∷ []) x q ∙ cell-here r [] (x - length before * 6) (omega arith)
+          ∙ sym (cell-here r rs (x - length before * 6) (omega arith)))
+          (n .left (x - length before * 6) (omega arith)));
+      left = λ x a.
+          let y : x + 6 - 6 ≡ x = omega arith in
+          same (cell rs c) (cell (r ∷ rs) (c + 6)) (cell rs x) (cell (r ∷ rs) (x + 6)) e
+          (sym (cell-there r rs (x + 6) (omega arith) ∙ ap (cell rs) y)) (n .left (x + 6) (omega arith));
+    }
+
+module _ (d : Bool) (first common : List Record) (pointers : List ℕ) where
+  fine-new : (rest : ℕ) (before : List Record) (m : ℕ) (rs : List Record)
+      → RowFine (RowOf d first common pointers) noCount rest before m rs
+      → (c : ℕ) → c < length rs * 6 → c < rest → NewIn first common before rs c
+  unfolding RowFine
+  fine-new rest before m [] h c l u = absurd (omega arith)
+  fine-new rest before m (r ∷ rs) h c l u =
+      either c 6
+      (λ a. new-here first common before r rs c a (h .0 .new c a u))
+      (λ a. new-there first common before r rs c a
+      (fine-new (rest - 6) (before ++ (r ∷ [])) (m + 0) rs (h .1) (c - 6) (omega arith) (omega arith)))
+
+  fine-found : (rest : ℕ) (before : List Record) (m : ℕ) (rs : List Record)
+      → RowFine (RowOf d first common pointers) noCount rest before m rs → d ≡ true
+      → (c : ℕ) → c < length rs * 6 → c < rest → Occurs pointers (cell rs c)
+  unfolding RowFine
+  fine-found rest before m [] h t c l u = absurd (omega arith)
+  fine-found rest before m (r ∷ rs) h t c l u =
+      either c 6
+      (λ a. rw (cell-here r rs c a) (h .0 .found t c a u))
+      (λ a. rw (cell-there r rs c a)
+      (fine-found (rest - 6) (before ++ (r ∷ [])) (m + 0) rs (h .1) t (c - 6) (omega arith) (omega arith)))
+
+  cells-headings : (rest : ℕ) (before : List Record) (m : ℕ) (rs : List Record)
+      → ((c : ℕ) → c < length rs * 6 → c < rest → Heading (cell rs c))
+      → ((c : ℕ) → rest ≤ c → c < length rs * 6 → BlankCell (cell rs c))
+      → ((c : ℕ) → c < length rs * 6 → c < rest → NewIn first common before rs c)
+      → (d ≡ true → (c : ℕ) → c < length rs * 6 → c < rest → Occurs pointers (cell rs c))
+      → RowFine (RowOf d first common pointers) noCount rest before m rs
+  unfolding RowFine
+  cells-headings rest before m [] u v w o = tt
+  cells-headings rest before m (r ∷ rs) u v w o = (
+    record {
+      cells = cells-here Heading BlankCell rest r rs u v;
+      new = λ j l a. here-new first common before r rs j l (w j (omega arith) a);
+      found = λ t j l a. rw (cell-here r rs j l) at (o t j (omega arith) a);
+    },
+    cells-headings (rest - 6) (before ++ (r ∷ [])) (m + 0) rs (used-there Heading rest r rs u)
+        (unused-there BlankCell rest r rs v)
+        (λ c l a. there-new first common before r rs c (w (c + 6) (omega arith) (omega arith)))
+        (λ t. used-there (Occurs pointers) rest r rs (o t)),
+  )
+
+  pub headings-good : (n last line : ℕ) (c : Context) (rs : List Record) → RowAt c d headings n last line n → 1 ≤ n
+      → HeadingsKnown first common pointers c [] → length rs ≡ recordsFor n
+      → Run NoEnd (roleFor headings d) c rs
+      ↔ (Following (identificationIn c) (c .track .subentry .records + 2) rs × GoodHeadings n rs
+      × ((x : ℕ) → x < n → NewIn first common [] rs x) × (d ≡ true → (x : ℕ) → x < n → Occurs pointers (cell rs x)))
+  headings-good n last line c rs a p k l =
+      let w =
+      run-headings d first common pointers n last line n c (identificationIn c)
+      (c .track .subentry .records + 2) [] 0 rs a p
+      refl refl k l in (
+        λ run.
+            let h = w .0 run in (
+              h .1,
+              record {
+                records = l;
+                used = λ x y.
+                    fine-used Heading BlankCell (RowOf d first common pointers) noCount
+                    (λ rest before m r f. f .cells) n [] 0 rs (h .2)
+                    x (omega arith) y;
+                unused = λ x y z.
+                    fine-unused Heading BlankCell (RowOf d first common pointers) noCount
+                    (λ rest before m r f. f .cells) n [] 0 rs
+                    (h .2) x y z;
+                no-end = h .0;
+              },
+              λ x y. fine-new n [] 0 rs (h .2) x (omega arith) y,
+              λ t x y. fine-found n [] 0 rs (h .2) t x (omega arith) y,
+            ),
+        λ g.
+            w .1 (
+              g .1 .no-end,
+              g .0,
+              cells-headings n [] 0 rs (λ x y z. g .1 .used x z) (g .1 .unused) (λ x y z. g .2 x z)
+                  (λ t x y z. g .3 t x z),
+            ),
+      )

@@ -1,0 +1,277 @@
+-- ENTRY, SUBENT and NOSUBENT, ENDSUBENT and ENDENTRY: their rules, and the contexts behind them. Assumes nothing.
+use Prim.Native.Nat.{ℕ, _+_, _<_, _≤_}
+use mathlib.Core.Path.{_≡_, refl, sym, _∙_, ap}
+use mathlib.Core.Bool.{Bool, true, false, cond, not, _&&_}
+use mathlib.Core.List.{List, []}
+use native.Mathlib.Omega.{arith}
+use lib.Dec.{eqb, ltb, leb}
+use borrow.Author.Tests.{not-false, eqb-true, eq-eqb, ne-eqb, ltb-true, lt-ltb, leb-true, le-leb}
+use Rattle.laws.proofs.Booleans.{and-left, and-right}
+use Rattle.laws.specs.Search.{first}
+use Rattle.record.specs.Columns.{columnsAt}
+use Rattle.record.specs.Fields.{fieldsOf}
+use Rattle.record.specs.Word.{equalTo}
+use Rattle.record.specs.Identifier.{ENTRY, SUBENT, NOSUBENT, ENDSUBENT, ENDENTRY, isEnd}
+use Rattle.record.specs.System.{isSubentN1, isDate}
+use Rattle.record.specs.Expected.{accessionOf, identificationFor}
+use Rattle.rules.specs.declared.state.Phase.{Phase}
+use Rattle.rules.specs.declared.state.Phase.the-variants.{Opened, InSubentry, Between, Done}
+use Rattle.rules.specs.State.{Context, LAST-SUBENTRY, startContext}
+use Rattle.rules.specs.Every.{expectedIdentification, expectedSequence}
+use Rattle.rules.specs.System.{formN1, formN2, inForm, rule8, numberDue, rule9, trueCount}
+use Rattle.entry.specs.Next.{contextAfter, phaseAfter, trackAfter, afterSystem, seenAfter, partAfter, bibChange}
+use Rattle.good.specs.Parts.{Record}
+use Rattle.good.specs.Marks.{Marked, nameOf, n1, n2, Says}
+use Rattle.good.specs.Subentries.{Opens, ownNumber}
+use Rattle.good.specs.Good.{GoodOpening, GoodEnding}
+use Rattle.good.proofs.Steps.{Takes, next, when-none, none-when, takes-marked}
+use Rattle.good.proofs.Systems.{SystemRole, system-role, takes-rules, rules-takes, says-as, takes-end, end-takes}
+use Rattle.good.proofs.Systems.{end-SUBENT, end-ENTRY}
+
+-- ---- SUBENT, and NOSUBENT where the Boolean is true
+
+abbrev pub nameFor : Bool → ℕ
+nameFor false = SUBENT
+nameFor true = NOSUBENT
+
+opening-role : (b : Bool) → SystemRole (nameFor b)
+opening-role false = system-role SUBENT refl refl refl refl refl refl refl
+opening-role true = system-role NOSUBENT refl refl refl refl refl refl refl
+
+abbrev Due : Context → Record → Bool
+Due c r = equalTo 5 (columnsAt 3 5 (n1 r)) (c .track .accession) && numberDue (c .track) (ownNumber r)
+
+opening-rules : (b : Bool) (c : Context) (r : Record) → Takes c (nameFor b) r
+    → (isSubentN1 (n1 r) ≡ true) × (isDate (n2 r) ≡ true) × (Due c r ≡ true)
+unfolding formN1 formN2 inForm fieldsOf rule9 ownNumber
+opening-rules false c r t =
+    let x = takes-rules c SUBENT r (opening-role false) t in
+    (x .form1, x .form2, not-false (Due c r) (when-none (not (Due c r)) 12 (omega arith) (x .rule-9)))
+opening-rules true c r t =
+    let x = takes-rules c NOSUBENT r (opening-role true) t in
+    (x .form1, x .form2, not-false (Due c r) (when-none (not (Due c r)) 12 (omega arith) (x .rule-9)))
+
+pub opening-marked : (b : Bool) (c : Context) (r : Record) → Takes c (nameFor b) r
+    → Marked (columnsAt 3 8 (n1 r)) 1 r
+unfolding expectedIdentification expectedSequence fieldsOf
+opening-marked false c r t = takes-marked c SUBENT r t
+opening-marked true c r t = takes-marked c NOSUBENT r t
+
+rules-opening : (b : Bool) (c : Context) (r : Record) → Marked (columnsAt 3 8 (n1 r)) 1 r → isSubentN1 (n1 r) ≡ true
+    → isDate (n2 r) ≡ true → Due c r ≡ true → Takes c (nameFor b) r
+unfolding formN1 formN2 inForm fieldsOf rule8 rule9 ownNumber expectedIdentification expectedSequence isEnd equalTo
+    first
+rules-opening false c r m p q d =
+    rules-takes c SUBENT r (opening-role false) m
+    (record { form1 = p; form2 = q; rule-8 = refl; rule-9 = none-when (not (Due c r)) 12 (ap not d) })
+rules-opening true c r m p q d =
+    rules-takes c NOSUBENT r (opening-role true) m
+    (record { form1 = p; form2 = q; rule-8 = refl; rule-9 = none-when (not (Due c r)) 12 (ap not d) })
+
+pub takes-opens : (b : Bool) (c : Context) (r : Record) (accession : List ℕ) → c .track .accession ≡ accession
+    → nameOf r ≡ nameFor b → Takes c (nameFor b) r
+    → Opens (nameFor b) accession r × (numberDue (c .track) (ownNumber r) ≡ true)
+takes-opens b c r accession e named t =
+    let x = opening-rules b c r t in
+    let a = and-left (equalTo 5 (columnsAt 3 5 (n1 r)) (c .track .accession)) (numberDue (c .track) (ownNumber r))
+    (x .2) in
+    let n = and-right (equalTo 5 (columnsAt 3 5 (n1 r)) (c .track .accession)) (numberDue (c .track) (ownNumber r))
+    (x .2) in (
+      record {
+        named = named;
+        numbered = x .0;
+        dated = x .1;
+        same = ap (equalTo 5 (columnsAt 3 5 (n1 r))) (sym e) ∙ a;
+        marked = opening-marked b c r t;
+      },
+      n,
+    )
+
+pub opens-takes : (b : Bool) (c : Context) (r : Record) (accession : List ℕ) → c .track .accession ≡ accession
+    → Opens (nameFor b) accession r → numberDue (c .track) (ownNumber r) ≡ true → Takes c (nameFor b) r
+opens-takes b c r accession e o n =
+    rules-opening b c r (o .marked) (o .numbered) (o .dated)
+    (and-both (ap (equalTo 5 (columnsAt 3 5 (n1 r))) e ∙ o .same) n)
+  where
+    and-both : {a b : Bool} → a ≡ true → b ≡ true → (a && b) ≡ true
+    and-both p q = rw (p, q)
+
+-- the first number is 1; a later one is above the one before, and at most 998
+pub first-number : (c : Context) (n : ℕ) → c .track .totals .subentries ≡ 0 → numberDue (c .track) n ≡ true → n ≡ 1
+first-number c n z e = eqb-true n 1 (rw z at e)
+
+pub number-first : (c : Context) (n : ℕ) → c .track .totals .subentries ≡ 0 → n ≡ 1 → numberDue (c .track) n ≡ true
+number-first c n z e = rw z (eq-eqb n 1 e)
+
+pub later-number : (c : Context) (n : ℕ) → 1 ≤ c .track .totals .subentries → numberDue (c .track) n ≡ true
+    → (c .track .subentry .number < n) × (n ≤ LAST-SUBENTRY)
+later-number c n l e =
+    let h : (ltb (c .track .subentry .number) n && leb n LAST-SUBENTRY) ≡ true =
+    rw (ne-eqb (c .track .totals .subentries) 0 (λ z. omega arith)) at e in (
+      ltb-true (c .track .subentry .number) n (and-left (ltb (c .track .subentry .number) n) (leb n LAST-SUBENTRY) h),
+      leb-true n LAST-SUBENTRY (and-right (ltb (c .track .subentry .number) n) (leb n LAST-SUBENTRY) h),
+    )
+
+pub number-later : (c : Context) (n : ℕ) → 1 ≤ c .track .totals .subentries → c .track .subentry .number < n
+    → n ≤ LAST-SUBENTRY → numberDue (c .track) n ≡ true
+number-later c n l p q =
+    rw (ne-eqb (c .track .totals .subentries) 0 (λ z. omega arith))
+    (rw (lt-ltb (c .track .subentry .number) n p, le-leb n LAST-SUBENTRY q))
+
+abbrev phaseOpened : Bool → Phase
+phaseOpened false = InSubentry
+phaseOpened true = Between
+
+pub record SubentryOpened (c e : Context) (b : Bool) (r : Record) : Type 0 where
+  pub phase : e .phase ≡ phaseOpened b
+  pub accession : e .track .accession ≡ c .track .accession
+  pub number : e .track .subentry .number ≡ ownNumber r
+  pub records : e .track .subentry .records ≡ 0
+  pub subentries : e .track .totals .subentries ≡ c .track .totals .subentries + 1
+  pub keywords : e .track .totals .keywords ≡ c .track .totals .keywords
+  pub lines : e .track .totals .lines ≡ c .track .totals .lines
+  pub numbers : e .track .totals .numbers ≡ c .track .totals .numbers
+  pub bib : e .seen .bib ≡ []
+  pub common : e .seen .common ≡ []
+  pub bib001 : e .seen .bib001 ≡ c .seen .bib001
+  pub common001 : e .seen .common001 ≡ c .seen .common001
+
+pub after-opening : (b : Bool) (c : Context) (r : Record) → SubentryOpened c (next c (nameFor b) r) b r
+unfolding contextAfter phaseAfter trackAfter afterSystem seenAfter partAfter bibChange ownNumber fieldsOf
+after-opening false c r =
+    record {
+      phase = refl;
+      accession = refl;
+      number = refl;
+      records = refl;
+      subentries = refl;
+      keywords = refl;
+      lines = refl;
+      numbers = refl;
+      bib = refl;
+      common = refl;
+      bib001 = refl;
+      common001 = refl;
+    }
+after-opening true c r =
+    record {
+      phase = refl;
+      accession = refl;
+      number = refl;
+      records = refl;
+      subentries = refl;
+      keywords = refl;
+      lines = refl;
+      numbers = refl;
+      bib = refl;
+      common = refl;
+      bib001 = refl;
+      common001 = refl;
+    }
+
+-- ---- ENDSUBENT
+
+abbrev pub AtEnd : Context → Record → Type 0
+AtEnd c r = Marked (identificationFor (c .track .accession) (c .track .subentry .number)) 99999 r
+
+pub takes-endsubent : (c : Context) (r : Record) → Takes c ENDSUBENT r
+    → AtEnd c r × Says (n1 r) (c .track .subentry .records)
+unfolding expectedIdentification expectedSequence trueCount
+takes-endsubent c r t = (takes-marked c ENDSUBENT r t, takes-end c ENDSUBENT r end-SUBENT t .0)
+
+pub endsubent-takes : (c : Context) (r : Record) → AtEnd c r → Says (n1 r) (c .track .subentry .records)
+    → Takes c ENDSUBENT r
+unfolding expectedIdentification expectedSequence trueCount
+endsubent-takes c r m s = end-takes c ENDSUBENT r end-SUBENT m s refl
+
+pub record SubentryClosed (c e : Context) : Type 0 where
+  pub phase : e .phase ≡ Between
+  pub accession : e .track .accession ≡ c .track .accession
+  pub number : e .track .subentry .number ≡ c .track .subentry .number
+  pub subentries : e .track .totals .subentries ≡ c .track .totals .subentries
+  pub keywords : e .track .totals .keywords ≡ c .track .totals .keywords
+  pub lines : e .track .totals .lines ≡ c .track .totals .lines
+  pub numbers : e .track .totals .numbers ≡ c .track .totals .numbers
+  pub bib001 : e .seen .bib001 ≡ cond (eqb (c .track .subentry .number) 1) (c .seen .bib) (c .seen .bib001)
+  pub common001 : e .seen .common001 ≡ cond (eqb (c .track .subentry .number) 1) (c .seen .common) (c .seen .common001)
+
+pub after-endsubent : (c : Context) (r : Record) → SubentryClosed c (next c ENDSUBENT r)
+unfolding contextAfter phaseAfter trackAfter afterSystem seenAfter
+after-endsubent c r =
+    record {
+      phase = refl;
+      accession = refl;
+      number = refl;
+      subentries = refl;
+      keywords = refl;
+      lines = refl;
+      numbers = refl;
+      bib001 = refl;
+      common001 = refl;
+    }
+
+-- ---- ENTRY and ENDENTRY
+
+entry-role : SystemRole ENTRY
+entry-role = system-role ENTRY refl refl refl refl refl refl refl
+
+pub takes-entry : (c : Context) (r : Record) → nameOf r ≡ ENTRY → Takes c ENTRY r → GoodOpening r
+unfolding formN1 formN2 inForm fieldsOf expectedIdentification expectedSequence
+takes-entry c r named t =
+    let x = takes-rules c ENTRY r entry-role t in
+    record { named = named; numbered = x .form1; dated = x .form2; marked = takes-marked c ENTRY r t }
+
+pub entry-takes : (c : Context) (r : Record) → GoodOpening r → Takes c ENTRY r
+unfolding formN1 formN2 inForm fieldsOf rule8 expectedIdentification expectedSequence isEnd equalTo first
+entry-takes c r g =
+    rules-takes c ENTRY r entry-role (g .marked)
+    (record { form1 = g .numbered; form2 = g .dated; rule-8 = refl; rule-9 = refl })
+
+pub record EntryOpened (e : Context) (r : Record) : Type 0 where
+  pub phase : e .phase ≡ Opened
+  pub accession : e .track .accession ≡ accessionOf r
+  pub subentries : e .track .totals .subentries ≡ 0
+  pub keywords : e .track .totals .keywords ≡ 0
+  pub lines : e .track .totals .lines ≡ 0
+  pub numbers : e .track .totals .numbers ≡ 0
+  pub bib001 : e .seen .bib001 ≡ []
+  pub common001 : e .seen .common001 ≡ []
+
+pub after-entry : (r : Record) → EntryOpened (next startContext ENTRY r) r
+unfolding contextAfter phaseAfter trackAfter afterSystem seenAfter
+after-entry r =
+    record {
+      phase = refl;
+      accession = refl;
+      subentries = refl;
+      keywords = refl;
+      lines = refl;
+      numbers = refl;
+      bib001 = refl;
+      common001 = refl;
+    }
+
+pub takes-endentry : (c : Context) (r : Record) (accession : List ℕ) (n : ℕ) → c .track .accession ≡ accession
+    → c .track .totals .subentries ≡ n → nameOf r ≡ ENDENTRY → Takes c ENDENTRY r → GoodEnding accession n r
+unfolding expectedIdentification expectedSequence trueCount
+takes-endentry c r accession n e q named t =
+    record {
+      named = named;
+      counted = says-as (n1 r) (c .track .totals .subentries) n (takes-end c ENDENTRY r end-ENTRY t .0) q;
+      marked = rw e at (takes-marked c ENDENTRY r t);
+    }
+
+pub endentry-takes : (c : Context) (r : Record) (accession : List ℕ) (n : ℕ) → c .track .accession ≡ accession
+    → c .track .totals .subentries ≡ n → GoodEnding accession n r → Takes c ENDENTRY r
+unfolding expectedIdentification expectedSequence trueCount
+endentry-takes c r accession n e q g =
+    end-takes c ENDENTRY r end-ENTRY (rw e (g .marked))
+    (says-as (n1 r) n (c .track .totals .subentries) (g .counted) (sym q)) refl
+
+pub record EntryClosed (c e : Context) : Type 0 where
+  pub phase : e .phase ≡ Done
+  pub totals : e .track .totals ≡ c .track .totals
+
+pub after-endentry : (c : Context) (r : Record) → EntryClosed c (next c ENDENTRY r)
+unfolding contextAfter phaseAfter trackAfter afterSystem
+after-endentry c r = record { phase = refl; totals = refl }

@@ -1,0 +1,434 @@
+-- System records: their N1 and N2 by the judge's rules 7, 8 and 9, and what they change of the context. Assumes
+-- nothing.
+use Prim.Native.Nat.{ℕ, suc, _+_}
+use mathlib.Core.Path.{_≡_, refl, sym, _∙_, ap}
+use mathlib.Core.Bool.{true, false, not}
+use mathlib.Core.List.{List, [], _∷_, _++_}
+use native.Mathlib.Omega.{arith}
+use lib.Dec.{eqb}
+use lib.ListN.{length}
+use borrow.Author.Tests.{eqb-true, eq-eqb, not-false}
+use Rattle.laws.proofs.Booleans.{and-left, and-right, differ}
+use Rattle.laws.specs.Search.{first}
+use Rattle.record.specs.Fields.{fieldsOf}
+use Rattle.record.specs.Word.{equalTo}
+use Rattle.record.specs.Identifier.{BIB, NOBIB, ENDBIB, COMMON, NOCOMMON, ENDCOMMON, DATA, NODATA, ENDDATA, ENDSUBENT}
+use Rattle.record.specs.Identifier.{ENDENTRY, isEnd}
+use Rattle.record.specs.System.{countOf, isCount, numberOf}
+use Rattle.record.specs.Expected.{identificationFor}
+use Rattle.record.specs.declared.system.Count.{Count}
+use Rattle.record.specs.declared.system.Count.the-variants.{Number, Bad}
+use Rattle.rules.specs.declared.state.Track.{Track}
+use Rattle.rules.specs.State.{Context}
+use Rattle.rules.specs.Role.{TEXT, DATA-HEADING, NOT-DUE, isSystem, opensSubentry, opensSection, isHeading, isUnit}
+use Rattle.rules.specs.Role.{isValue}
+use Rattle.rules.specs.Fault.{on, leftmost}
+use Rattle.rules.specs.Every.{expectedIdentification, expectedSequence, n1 as field1, n2 as field2}
+use Rattle.rules.specs.System.{FREE, COUNT, formN1, formN2, inForm, rule7, countN1, countN2, limitN1, limitN2, meets}
+use Rattle.rules.specs.System.{announcedFault, trueCount, keywordsTrue, countTrue, rule8, rule9}
+use Rattle.good.specs.Parts.{Record}
+use Rattle.good.specs.Marks.{Marked, Following, n1, n2, Says}
+use Rattle.good.proofs.Steps.{Takes, MarkedFor, when-none, whens-none, takes-marked, takes-own, own-takes}
+
+-- ---- the rules, one by one
+
+pub rule7-none : (role : ℕ) (fs : List (List ℕ)) → leftmost (rule7 role fs) ≡ 0
+    → (inForm (formN1 role) (field1 fs) ≡ true) × (inForm (formN2 role) (field2 fs) ≡ true)
+unfolding rule7
+rule7-none role fs e =
+    let (a, b) =
+    whens-none (not (inForm (formN1 role) (field1 fs))) (not (inForm (formN2 role) (field2 fs))) 12 23
+    (omega arith) (omega arith) e in
+    (not-false (inForm (formN1 role) (field1 fs)) a, not-false (inForm (formN2 role) (field2 fs)) b)
+
+pub none-rule7 : (role : ℕ) (fs : List (List ℕ)) → inForm (formN1 role) (field1 fs) ≡ true
+    → inForm (formN2 role) (field2 fs) ≡ true → leftmost (rule7 role fs) ≡ 0
+unfolding rule7
+none-rule7 role fs a b = rw (a, b)
+
+announced-none : (t : Track) (role : ℕ) (fs : List (List ℕ)) → opensSection role ≡ true → leftmost (rule8 t role fs) ≡ 0
+    → (meets (limitN1 role) (countN1 fs) ≡ true) × (meets (limitN2 role (countN1 fs)) (countN2 fs) ≡ true)
+unfolding rule8 announcedFault
+announced-none t role fs o e =
+    let (a, b) =
+    whens-none (not (meets (limitN1 role) (countN1 fs))) (not (meets (limitN2 role (countN1 fs)) (countN2 fs))) 12 23
+    (omega arith) (omega arith) (rw o at e) in
+    (not-false (meets (limitN1 role) (countN1 fs)) a, not-false (meets (limitN2 role (countN1 fs)) (countN2 fs)) b)
+
+none-announced : (t : Track) (role : ℕ) (fs : List (List ℕ)) → opensSection role ≡ true
+    → meets (limitN1 role) (countN1 fs) ≡ true → meets (limitN2 role (countN1 fs)) (countN2 fs) ≡ true
+    → leftmost (rule8 t role fs) ≡ 0
+unfolding rule8 announcedFault
+none-announced t role fs o a b = rw o (rw (a, b))
+
+end-none : (t : Track) (role : ℕ) (fs : List (List ℕ)) → opensSection role ≡ false → isEnd role ≡ true
+    → leftmost (rule8 t role fs) ≡ 0 → countTrue t role (countN1 fs) ≡ true
+unfolding rule8
+end-none t role fs o d e =
+    not-false (countTrue t role (countN1 fs)) (when-none (not (countTrue t role (countN1 fs))) 12 (omega arith)
+    (rw (o, d) at e))
+
+none-end : (t : Track) (role : ℕ) (fs : List (List ℕ)) → opensSection role ≡ false → isEnd role ≡ true
+    → countTrue t role (countN1 fs) ≡ true → leftmost (rule8 t role fs) ≡ 0
+unfolding rule8
+none-end t role fs o d e = rw (o, d) (rw e)
+
+-- ---- counts
+
+pub counted-says : (f : List ℕ) → isCount (countOf f) ≡ true → Says f (numberOf (countOf f))
+counted-says f e = by-count (countOf f) refl e
+  where
+    by-count : (x : Count) → countOf f ≡ x → isCount x ≡ true → x ≡ Number (numberOf x)
+    by-count (Number n) q h = refl
+    by-count Bad q h = differ (sym h)
+
+pub says-as : (f : List ℕ) (m n : ℕ) → Says f m → m ≡ n → Says f n
+says-as f m n s e = s ∙ ap Number e
+
+pub says-number : (f : List ℕ) (n : ℕ) → Says f n → numberOf (countOf f) ≡ n
+says-number f n s = ap numberOf s
+
+pub says-count : (f : List ℕ) (n : ℕ) → Says f n → isCount (countOf f) ≡ true
+says-count f n s = ap isCount s
+
+pub counted1 : (r : Record) (n : ℕ) → Says (n1 r) n → countN1 (fieldsOf r) ≡ n
+unfolding fieldsOf
+counted1 r n s = says-number (n1 r) n s
+
+pub counted2 : (r : Record) (n : ℕ) → Says (n2 r) n → countN2 (fieldsOf r) ≡ n
+unfolding fieldsOf
+counted2 r n s = says-number (n2 r) n s
+
+-- ---- system records
+
+-- a role on which only the rules 7, 8 and 9 are made
+pub record SystemRole (role : ℕ) : Type 0 where
+  pub system : isSystem role ≡ true
+  pub text : eqb role TEXT ≡ false
+  pub heading : isHeading role ≡ false
+  pub unit : isUnit role ≡ false
+  pub data-heading : eqb role DATA-HEADING ≡ false
+  pub value : isValue role ≡ false
+  pub due : eqb role NOT-DUE ≡ false
+
+pub record ByRules (t : Track) (role : ℕ) (fs : List (List ℕ)) : Type 0 where
+  pub form1 : inForm (formN1 role) (field1 fs) ≡ true
+  pub form2 : inForm (formN2 role) (field2 fs) ≡ true
+  pub rule-8 : leftmost (rule8 t role fs) ≡ 0
+  pub rule-9 : leftmost (on (opensSubentry role) (rule9 t fs)) ≡ 0
+
+pub takes-rules : (c : Context) (role : ℕ) (r : Record) → SystemRole role → Takes c role r
+    → ByRules (c .track) role (fieldsOf r)
+takes-rules c role r s t =
+    let own = takes-own c role r t in
+    let (a, b) = rule7-none role (fieldsOf r) (rw (s .system) at (own .0)) in
+    record { form1 = a; form2 = b; rule-8 = rw (s .system) at (own .1 .0); rule-9 = own .1 .1 .0 }
+
+pub rules-takes : (c : Context) (role : ℕ) (r : Record) → SystemRole role → MarkedFor c role r
+    → ByRules (c .track) role (fieldsOf r) → Takes c role r
+rules-takes c role r s m b =
+    own-takes c role r m (s .due) (
+      rw (s .system) (none-rule7 role (fieldsOf r) (b .form1) (b .form2)),
+      (
+        rw (s .system) (b .rule-8),
+        (
+          b .rule-9,
+          (
+            rw (s .text),
+            (
+              rw (s .text, s .heading),
+              (rw (s .heading, s .unit), (rw (s .heading), (rw (s .data-heading), (rw (s .value), tt)))),
+            ),
+          ),
+        ),
+      ),
+    )
+
+-- ---- a record inside a subentry
+
+-- marked with the subentry's number and the next sequence
+abbrev pub identificationIn : Context → List ℕ
+identificationIn c = identificationFor (c .track .accession) (c .track .subentry .number)
+
+abbrev pub Here : Context → Record → Type 0
+Here c r = Marked (identificationIn c) (c .track .subentry .records + 2) r
+
+pub record Inside (role : ℕ) : Type 0 where
+  pub role-of : SystemRole role
+  pub not-opening : opensSubentry role ≡ false
+  pub marked : (c : Context) (r : Record) → (MarkedFor c role r → Here c r) × (Here c r → MarkedFor c role r)
+
+-- NOBIB, NOCOMMON, NODATA
+pub record FreeRole (role : ℕ) : Type 0 where
+  pub inside : Inside role
+  pub form1 : formN1 role ≡ FREE
+  pub form2 : formN2 role ≡ FREE
+  pub not-section : opensSection role ≡ false
+  pub not-end : isEnd role ≡ false
+
+pub free-takes : (c : Context) (role : ℕ) (r : Record) → FreeRole role → Here c r → Takes c role r
+unfolding rule8 inForm
+free-takes c role r f m =
+    rules-takes c role r (f .inside .role-of) (f .inside .marked c r .1 m)
+    (record {
+      form1 = rw (f .form1);
+      form2 = rw (f .form2);
+      rule-8 = rw (f .not-section, f .not-end);
+      rule-9 = rw (f .inside .not-opening);
+    })
+
+pub here-of : (c : Context) (role : ℕ) (r : Record) → Inside role → Takes c role r → Here c r
+here-of c role r i t = i .marked c r .0 (takes-marked c role r t)
+
+-- BIB, COMMON, DATA
+pub record OpenRole (role : ℕ) : Type 0 where
+  pub inside : Inside role
+  pub form1 : formN1 role ≡ COUNT
+  pub form2 : formN2 role ≡ COUNT
+  pub section : opensSection role ≡ true
+
+pub record Announces (role : ℕ) (r : Record) (a b : ℕ) : Type 0 where
+  pub first : Says (n1 r) a
+  pub second : Says (n2 r) b
+  pub limit1 : meets (limitN1 role) a ≡ true
+  pub limit2 : meets (limitN2 role a) b ≡ true
+
+pub takes-announces : (c : Context) (role : ℕ) (r : Record) → OpenRole role → Takes c role r
+    → Announces role r (countN1 (fieldsOf r)) (countN2 (fieldsOf r))
+unfolding inForm fieldsOf
+takes-announces c role r o t =
+    let b = takes-rules c role r (o .inside .role-of) t in
+    let (x, y) = announced-none (c .track) role (fieldsOf r) (o .section) (b .rule-8) in
+    record {
+      first = counted-says (n1 r) (rw (o .form1) at (b .form1));
+      second = counted-says (n2 r) (rw (o .form2) at (b .form2));
+      limit1 = x;
+      limit2 = y;
+    }
+
+pub announces-takes : (c : Context) (role : ℕ) (r : Record) (a b : ℕ) → OpenRole role → Here c r → Announces role r a b
+    → Takes c role r
+unfolding inForm fieldsOf
+announces-takes c role r a b o m h =
+    rules-takes c role r (o .inside .role-of) (o .inside .marked c r .1 m)
+    (record {
+      form1 = rw (o .form1) (says-count (n1 r) a (h .first));
+      form2 = rw (o .form2) (says-count (n2 r) b (h .second));
+      rule-8 = none-announced (c .track) role (fieldsOf r) (o .section)
+          (rw (says-number (n1 r) a (h .first)) (h .limit1))
+          (rw (says-number (n1 r) a (h .first), says-number (n2 r) b (h .second)) (h .limit2));
+      rule-9 = rw (o .inside .not-opening);
+    })
+
+-- the END records
+pub record EndRole (role : ℕ) : Type 0 where
+  pub role-of : SystemRole role
+  pub not-opening : opensSubentry role ≡ false
+  pub form1 : formN1 role ≡ COUNT
+  pub form2 : formN2 role ≡ FREE
+  pub not-section : opensSection role ≡ false
+  pub end : isEnd role ≡ true
+
+pub takes-end : (c : Context) (role : ℕ) (r : Record) → EndRole role → Takes c role r
+    → Says (n1 r) (trueCount (c .track) role) × (keywordsTrue (c .track) role ≡ true)
+unfolding inForm fieldsOf
+takes-end c role r e t =
+    let b = takes-rules c role r (e .role-of) t in
+    let x = end-none (c .track) role (fieldsOf r) (e .not-section) (e .end) (b .rule-8) in
+    let true-count = and-left (eqb (countN1 (fieldsOf r)) (trueCount (c .track) role))
+    (keywordsTrue (c .track) role) x in (
+      says-as (n1 r) (countN1 (fieldsOf r)) (trueCount (c .track) role)
+          (counted-says (n1 r) (rw (e .form1) at (b .form1)))
+          (eqb-true (countN1 (fieldsOf r)) (trueCount (c .track) role) true-count),
+      and-right (eqb (countN1 (fieldsOf r)) (trueCount (c .track) role)) (keywordsTrue (c .track) role) x,
+    )
+
+pub end-takes : (c : Context) (role : ℕ) (r : Record) → EndRole role → MarkedFor c role r
+    → Says (n1 r) (trueCount (c .track) role) → keywordsTrue (c .track) role ≡ true → Takes c role r
+unfolding inForm fieldsOf
+end-takes c role r e m s k =
+    rules-takes c role r (e .role-of) m
+    (record {
+      form1 = rw (e .form1) (says-count (n1 r) (trueCount (c .track) role) s);
+      form2 = rw (e .form2);
+      rule-8 = none-end (c .track) role (fieldsOf r) (e .not-section) (e .end)
+          (rw (
+            eq-eqb (countN1 (fieldsOf r)) (trueCount (c .track) role)
+                (says-number (n1 r) (trueCount (c .track) role) s),
+            k,
+          ));
+      rule-9 = rw (e .not-opening);
+    })
+
+-- ---- the fourteen
+
+pub system-role : (role : ℕ) → isSystem role ≡ true → eqb role TEXT ≡ false → isHeading role ≡ false
+    → isUnit role ≡ false
+    → eqb role DATA-HEADING ≡ false → isValue role ≡ false → eqb role NOT-DUE ≡ false → SystemRole role
+system-role role a b c d e f g =
+    record { system = a; text = b; heading = c; unit = d; data-heading = e; value = f; due = g }
+
+inside-NOBIB : Inside NOBIB
+unfolding expectedIdentification expectedSequence
+inside-NOBIB =
+    record {
+      role-of = system-role NOBIB refl refl refl refl refl refl refl;
+      not-opening = refl;
+      marked = λ c r. (λ m. m, λ m. m);
+    }
+
+inside-NOCOMMON : Inside NOCOMMON
+unfolding expectedIdentification expectedSequence
+inside-NOCOMMON =
+    record {
+      role-of = system-role NOCOMMON refl refl refl refl refl refl refl;
+      not-opening = refl;
+      marked = λ c r. (λ m. m, λ m. m);
+    }
+
+inside-NODATA : Inside NODATA
+unfolding expectedIdentification expectedSequence
+inside-NODATA =
+    record {
+      role-of = system-role NODATA refl refl refl refl refl refl refl;
+      not-opening = refl;
+      marked = λ c r. (λ m. m, λ m. m);
+    }
+
+pub free-NOBIB : FreeRole NOBIB
+unfolding formN1 formN2 isEnd equalTo first
+free-NOBIB = record { inside = inside-NOBIB; form1 = refl; form2 = refl; not-section = refl; not-end = refl }
+
+pub free-NOCOMMON : FreeRole NOCOMMON
+unfolding formN1 formN2 isEnd equalTo first
+free-NOCOMMON = record { inside = inside-NOCOMMON; form1 = refl; form2 = refl; not-section = refl; not-end = refl }
+
+pub free-NODATA : FreeRole NODATA
+unfolding formN1 formN2 isEnd equalTo first
+free-NODATA = record { inside = inside-NODATA; form1 = refl; form2 = refl; not-section = refl; not-end = refl }
+
+inside-BIB : Inside BIB
+unfolding expectedIdentification expectedSequence
+inside-BIB =
+    record {
+      role-of = system-role BIB refl refl refl refl refl refl refl;
+      not-opening = refl;
+      marked = λ c r. (λ m. m, λ m. m);
+    }
+
+inside-COMMON : Inside COMMON
+unfolding expectedIdentification expectedSequence
+inside-COMMON =
+    record {
+      role-of = system-role COMMON refl refl refl refl refl refl refl;
+      not-opening = refl;
+      marked = λ c r. (λ m. m, λ m. m);
+    }
+
+inside-DATA : Inside DATA
+unfolding expectedIdentification expectedSequence
+inside-DATA =
+    record {
+      role-of = system-role DATA refl refl refl refl refl refl refl;
+      not-opening = refl;
+      marked = λ c r. (λ m. m, λ m. m);
+    }
+
+pub open-BIB : OpenRole BIB
+unfolding formN1 formN2
+open-BIB = record { inside = inside-BIB; form1 = refl; form2 = refl; section = refl }
+
+pub open-COMMON : OpenRole COMMON
+unfolding formN1 formN2
+open-COMMON = record { inside = inside-COMMON; form1 = refl; form2 = refl; section = refl }
+
+pub open-DATA : OpenRole DATA
+unfolding formN1 formN2
+open-DATA = record { inside = inside-DATA; form1 = refl; form2 = refl; section = refl }
+
+pub end-BIB : EndRole ENDBIB
+unfolding formN1 formN2 isEnd equalTo first
+end-BIB =
+    record {
+      role-of = system-role ENDBIB refl refl refl refl refl refl refl;
+      not-opening = refl;
+      form1 = refl;
+      form2 = refl;
+      not-section = refl;
+      end = refl;
+    }
+
+pub end-COMMON : EndRole ENDCOMMON
+unfolding formN1 formN2 isEnd equalTo first
+end-COMMON =
+    record {
+      role-of = system-role ENDCOMMON refl refl refl refl refl refl refl;
+      not-opening = refl;
+      form1 = refl;
+      form2 = refl;
+      not-section = refl;
+      end = refl;
+    }
+
+pub end-DATA : EndRole ENDDATA
+unfolding formN1 formN2 isEnd equalTo first
+end-DATA =
+    record {
+      role-of = system-role ENDDATA refl refl refl refl refl refl refl;
+      not-opening = refl;
+      form1 = refl;
+      form2 = refl;
+      not-section = refl;
+      end = refl;
+    }
+
+pub end-SUBENT : EndRole ENDSUBENT
+unfolding formN1 formN2 isEnd equalTo first
+end-SUBENT =
+    record {
+      role-of = system-role ENDSUBENT refl refl refl refl refl refl refl;
+      not-opening = refl;
+      form1 = refl;
+      form2 = refl;
+      not-section = refl;
+      end = refl;
+    }
+
+pub end-ENTRY : EndRole ENDENTRY
+unfolding formN1 formN2 isEnd equalTo first
+end-ENTRY =
+    record {
+      role-of = system-role ENDENTRY refl refl refl refl refl refl refl;
+      not-opening = refl;
+      form1 = refl;
+      form2 = refl;
+      not-section = refl;
+      end = refl;
+    }
+
+-- ---- records that follow one another
+
+pub following-append : (identification : List ℕ) (n : ℕ) (xs ys : List Record) → Following identification n xs
+    → Following identification (n + length xs) ys → Following identification n (xs ++ ys)
+unfolding Following
+following-append identification n [] ys a b = let e : n + 0 ≡ n = omega arith in rw e at b
+following-append identification n (x ∷ xs) ys a b =
+    let e : n + suc (length xs) ≡ n + 1 + length xs = omega arith in
+    (a .0, following-append identification (n + 1) xs ys (a .1) (rw e at b))
+
+pub following-left : (identification : List ℕ) (n : ℕ) (xs ys : List Record) → Following identification n (xs ++ ys)
+    → Following identification n xs
+unfolding Following
+following-left identification n [] ys a = tt
+following-left identification n (x ∷ xs) ys a = (a .0, following-left identification (n + 1) xs ys (a .1))
+
+pub following-right : (identification : List ℕ) (n : ℕ) (xs ys : List Record) → Following identification n (xs ++ ys)
+    → Following identification (n + length xs) ys
+unfolding Following
+following-right identification n [] ys a = let e : n + 0 ≡ n = omega arith in rw e a
+following-right identification n (x ∷ xs) ys a =
+    let e : n + 1 + length xs ≡ n + suc (length xs) = omega arith in
+    rw e at (following-right identification (n + 1) xs ys (a .1))
+
+pub following-as : (a b : List ℕ) (m n : ℕ) (rs : List Record) → a ≡ b → m ≡ n → Following a m rs → Following b n rs
+following-as a b m n rs p q h = rw (p, q) at h

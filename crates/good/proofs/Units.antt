@@ -1,0 +1,125 @@
+-- A row of units. Assumes nothing.
+use Prim.Native.Nat.{ℕ, _+_, _-_, _*_, _<_, _≤_}
+use mathlib.Core.Path.{_≡_, refl, ap}
+use mathlib.Core.Bool.{Bool, true, false}
+use mathlib.Core.Logic.{_↔_}
+use mathlib.Core.List.{List, [], _∷_, _++_}
+use native.Mathlib.Omega.{arith}
+use lib.ListN.{length}
+use borrow.Author.Tests.{lt-ltb, le-ltb, not-false}
+use Rattle.laws.specs.Walk.{All}
+use Rattle.laws.proofs.Search.{either}
+use Rattle.record.specs.Columns.{recordsFor}
+use Rattle.record.specs.Fields.{fieldAt, fieldsOf, inField}
+use Rattle.record.specs.Word.{isUnit, unitFault, blankTo}
+use Rattle.rules.specs.State.{Context, used}
+use Rattle.rules.specs.Fault.{leftmost, fieldColumn}
+use Rattle.rules.specs.Headings.{rule12Unit}
+use Rattle.good.specs.Parts.{Record}
+use Rattle.good.specs.Marks.{Following}
+use Rattle.good.specs.Tables.{cell, UnitCell, BlankCell, GoodUnits}
+use Rattle.good.proofs.Steps.{Takes, MarkedFor, where-none, none-where, takes-own, own-takes}
+use Rattle.good.proofs.Runs.{Run, afterRun}
+use Rattle.good.proofs.Systems.{identificationIn}
+use Rattle.good.proofs.Rows.{units, roleFor, RowAt, NoEnd}
+use Rattle.good.proofs.Rowwise.{RowFine, run-row, BehindRow, behind-row, countRow}
+use Rattle.good.proofs.Cells.{field-at, few, few-used, few-below, few-past, Cells, fine-used, fine-unused}
+use Rattle.good.proofs.Cells.{cells-here, used-there, unused-there}
+
+unit-rule : (d : Bool) (c : Context) (r : Record) → Takes c (roleFor units d) r
+    → leftmost (rule12Unit (c .track) (fieldsOf r)) ≡ 0
+unit-rule false c r t = takes-own c (roleFor units false) r t .1 .1 .1 .1 .1 .0
+unit-rule true c r t = takes-own c (roleFor units true) r t .1 .1 .1 .1 .1 .0
+
+rule-unit : (d : Bool) (c : Context) (r : Record) → MarkedFor c (roleFor units d) r
+    → leftmost (rule12Unit (c .track) (fieldsOf r)) ≡ 0 → Takes c (roleFor units d) r
+rule-unit false c r m e =
+    own-takes c (roleFor units false) r m refl (refl, (refl, (refl, (refl, (refl, (e, (refl, (refl, (refl, tt)))))))))
+rule-unit true c r m e =
+    own-takes c (roleFor units true) r m refl (refl, (refl, (refl, (refl, (refl, (e, (refl, (refl, (refl, tt)))))))))
+
+abbrev UnitsFine : ℕ → List Record → ℕ → Record → Type 0
+UnitsFine rest before m r = Cells UnitCell BlankCell rest r
+
+abbrev pub noCount : ℕ → Record → ℕ
+noCount rest r = 0
+
+abbrev NothingKnown : Context → List Record → ℕ → Type 0
+NothingKnown c before m = Unit {0}
+
+units-to : (d : Bool) (c : Context) (rest : ℕ) (before : List Record) (m : ℕ) (r : Record)
+    → c .track .table .rest ≡ rest → Unit {0} → Takes c (roleFor units d) r → UnitsFine rest before m r
+unfolding rule12Unit unitFault
+units-to d c rest before m r e k t =
+    let h = where-none (inField (unitFault (used (c .track))) (fieldsOf r)) fieldColumn 6 (λ k. omega arith)
+    (unit-rule d c r t) in
+    record {
+      used = λ j l a.
+          not-false (isUnit (fieldAt r j))
+          (rw (few-used (c .track) rest e, lt-ltb j (few rest) (few-below rest j l a), field-at r j l) at (h j l));
+      unused = λ j l a.
+          not-false (blankTo 11 (fieldAt r j))
+          (rw (few-used (c .track) rest e, le-ltb j (few rest) (few-past rest j l a), field-at r j l) at (h j l));
+    }
+
+units-from : (d : Bool) (c : Context) (rest : ℕ) (before : List Record) (m : ℕ) (r : Record)
+    → c .track .table .rest ≡ rest → Unit {0} → MarkedFor c (roleFor units d) r → UnitsFine rest before m r
+    → Takes c (roleFor units d) r
+unfolding rule12Unit unitFault
+units-from d c rest before m r e k mk f =
+    rule-unit d c r mk
+    (ap leftmost (none-where (inField (unitFault (used (c .track))) (fieldsOf r)) fieldColumn 6
+    (λ j l.
+    rw (few-used (c .track) rest e, field-at r j l)
+    (either j rest
+    (λ a. rw (lt-ltb j (few rest) (few-below rest j l a), f .used j l a))
+    (λ a. rw (le-ltb j (few rest) (few-past rest j l a), f .unused j l a))))))
+
+-- the judge's run over a row of units
+run-units : (d : Bool) (n last line rest : ℕ) (c : Context) (identification : List ℕ) (s : ℕ)
+    (before : List Record) (m : ℕ) (rs : List Record) → RowAt c d units n last line rest → 1 ≤ rest
+    → identificationIn c ≡ identification → c .track .subentry .records + 2 ≡ s → Unit {0} → length rs ≡ recordsFor rest
+    → Run NoEnd (roleFor units d) c rs
+    ↔ (All NoEnd rs × Following identification s rs × RowFine UnitsFine noCount rest before m rs)
+run-units d =
+    run-row d units noCount UnitsFine NothingKnown (units-to d) (units-from d) (λ c rest before m r e k l t. tt)
+
+cells-units : (rest : ℕ) (before : List Record) (m : ℕ) (rs : List Record)
+    → ((c : ℕ) → c < length rs * 6 → c < rest → UnitCell (cell rs c))
+    → ((c : ℕ) → rest ≤ c → c < length rs * 6 → BlankCell (cell rs c))
+    → RowFine UnitsFine noCount rest before m rs
+unfolding RowFine
+cells-units rest before m [] u v = tt
+cells-units rest before m (r ∷ rs) u v = (
+  cells-here UnitCell BlankCell rest r rs u v,
+  cells-units (rest - 6) (before ++ (r ∷ [])) (m + 0) rs (used-there UnitCell rest r rs u)
+      (unused-there BlankCell rest r rs v),
+)
+
+pub units-good : (d : Bool) (n last line : ℕ) (c : Context) (rs : List Record) → RowAt c d units n last line n → 1 ≤ n
+    → length rs ≡ recordsFor n
+    → Run NoEnd (roleFor units d) c rs
+    ↔ (Following (identificationIn c) (c .track .subentry .records + 2) rs × GoodUnits n rs)
+units-good d n last line c rs a p l =
+    let w = run-units d n last line n c (identificationIn c)
+    (c .track .subentry .records + 2) [] 0 rs a p refl refl tt l in (
+      λ run.
+          let h = w .0 run in (
+            h .1,
+            record {
+              records = l;
+              used = λ x y. fine-used UnitCell BlankCell UnitsFine noCount (λ rest before m r f. f) n [] 0 rs (h .2) x
+                  (omega arith) y;
+              unused = λ x y z. fine-unused UnitCell BlankCell UnitsFine noCount (λ rest before m r f. f) n [] 0 rs
+                  (h .2) x y z;
+              no-end = h .0;
+            },
+          ),
+      λ g.
+          w .1 (g .1 .no-end, g .0, cells-units n [] 0 rs (λ x y z. g .1 .used x z) (g .1 .unused)),
+    )
+
+pub behind-units : (d : Bool) (n last line rest : ℕ) (c : Context) (rs : List Record) → RowAt c d units n last line rest
+    → 1 ≤ rest → length rs ≡ recordsFor rest → Run NoEnd (roleFor units d) c rs
+    → BehindRow c (afterRun (roleFor units d) c rs) d units rs (countRow noCount rest rs)
+behind-units d = behind-row d units noCount (λ c r t. refl)

@@ -1,0 +1,64 @@
+-- A BIB section (document 01, "BIB, headings, pointers" and the table of N1 and N2).
+use Prim.Native.Nat.{ℕ, _≤_}
+use mathlib.Core.Path.{_≡_}
+use mathlib.Core.Bool.{Bool, true, false, not, _&&_}
+use mathlib.Core.List.{List, [], _∷_, map}
+use lib.Dec.{eqb}
+use lib.ListN.{length}
+use Rattle.laws.specs.Walk.{All}
+use Rattle.record.specs.Fields.{fieldAt}
+use Rattle.record.specs.Text.{isBlank}
+use Rattle.record.specs.Word.{equalTo, blankTo, isWord, pointerOf, badPointer}
+use Rattle.record.specs.Identifier.{BIB, NOBIB, ENDBIB, OTHER}
+use Rattle.good.specs.Parts.{Record, Keyword, Bib, Section, present, absent, textsOf}
+use Rattle.good.specs.Marks.{nameOf, n1, n2, Says, Once}
+
+-- "BIB: columns 1-10 a keyword (word) or blank, 11 a pointer or blank, 12-66 text."
+abbrev pub placeOf : Record → List ℕ
+placeOf r = fieldAt r 0
+
+-- any system identifier inside BIB is not due; "11 a pointer or blank"
+pub record Text (r : Record) : Type 0 where
+  pub no-system : nameOf r ≡ OTHER
+  pub pointer : badPointer (placeOf r) ≡ false
+
+-- "Blank means no pointer."
+abbrev pub samePointer : ℕ → ℕ → Bool
+samePointer p q = not (isBlank p) && eqb p q
+
+abbrev pub pointersIn : List Record → List ℕ
+pointersIn rs = map (λ r. pointerOf (placeOf r)) rs
+
+-- one keyword and what stands under it: "a keyword (word)"; then columns 1-10 are blank; "no pointer twice under one
+-- keyword"
+pub record GoodKeyword (k : Keyword) : Type 0 where
+  pub word : isWord 10 (placeOf (k .first)) ≡ true
+  pub blank : All (λ r. blankTo 10 (placeOf r) ≡ true) (k .more)
+  pub texts : All Text (k .first ∷ k .more)
+  pub pointers : Once samePointer [] (pointersIn (k .first ∷ k .more))
+
+abbrev pub keywordPlaces : List Keyword → List (List ℕ)
+keywordPlaces ks = map (λ k. placeOf (k .first)) ks
+
+-- "No keyword occurs twice in a section". "The first record has a keyword" by the parts: a section consists of keywords
+-- with their records. "BIB | keywords, at least 1 | records, at least N1", and each keyword has a record; "ENDBIB .. |
+-- records between"
+pub record GoodBib (b : Bib) : Type 0 where
+  pub opens : nameOf (b .opening) ≡ BIB
+  pub keywords : Says (n1 (b .opening)) (length (b .keywords))
+  pub least : 1 ≤ length (b .keywords)
+  pub records : Says (n2 (b .opening)) (length (textsOf (b .keywords)))
+  pub each : All GoodKeyword (b .keywords)
+  pub once : Once (equalTo 10) [] (keywordPlaces (b .keywords))
+  pub ends : nameOf (b .ending) ≡ ENDBIB
+  pub between : Says (n1 (b .ending)) (length (textsOf (b .keywords)))
+
+-- "BIB section or NOBIB"
+abbrev pub GoodBibPart : Section Bib → Type 0
+GoodBibPart (present b) = GoodBib b
+GoodBibPart (absent r) = nameOf r ≡ NOBIB
+
+-- its text records, none with NOBIB
+abbrev pub textsOfPart : Section Bib → List Record
+textsOfPart (present b) = textsOf (b .keywords)
+textsOfPart (absent r) = []

@@ -1,0 +1,48 @@
+-- A good entry, and the bytes of a good entry (document 01).
+use Prim.Native.Nat.{ℕ, _+_, _≤_}
+use mathlib.Core.Path.{_≡_}
+use mathlib.Core.Bool.{true}
+use mathlib.Core.List.{List}
+use lib.ListN.{length}
+use Rattle.laws.specs.Walk.{All}
+use Rattle.laws.specs.Blocks.{joined}
+use Rattle.record.specs.Identifier.{ENTRY, ENDENTRY}
+use Rattle.record.specs.System.{isEntryN1, isDate}
+use Rattle.record.specs.Expected.{accessionOf, identificationFor, entryAccession}
+use Rattle.rules.specs.State.{MOST-RECORDS}
+use Rattle.good.specs.Parts.{Record, Entry, recordsOf}
+use Rattle.good.specs.Marks.{Marked, nameOf, n1, n2, Says}
+use Rattle.good.specs.Subentries.{GoodFirst, GoodSubentry, Rising}
+
+-- ---- a good entry
+
+-- "ENTRY | 6 blanks, accession (capital or digit, then 4 digits) | date"; "subentry 000 on ENTRY"; "Sequence 00001"
+pub record GoodOpening (r : Record) : Type 0 where
+  pub named : nameOf r ≡ ENTRY
+  pub numbered : isEntryN1 (n1 r) ≡ true
+  pub dated : isDate (n2 r) ≡ true
+  pub marked : Marked (identificationFor (entryAccession (n1 r)) 0) 1 r
+
+-- "ENDENTRY | subentries, NOSUBENT included"; "999 on ENDENTRY"; "99999 on .. ENDENTRY"
+pub record GoodEnding (accession : List ℕ) (subentries : ℕ) (r : Record) : Type 0 where
+  pub named : nameOf r ≡ ENDENTRY
+  pub counted : Says (n1 r) subentries
+  pub marked : Marked (identificationFor accession 999) 99999 r
+
+-- SUBENTs and NOSUBENTs
+abbrev pub subentriesOf : Entry → ℕ
+subentriesOf e = 1 + length (e .later)
+
+pub record Good (e : Entry) : Type 0 where
+  pub opening : GoodOpening (e .opening)
+  pub first : GoodFirst (accessionOf (e .opening)) (e .first)
+  pub later : All (GoodSubentry (accessionOf (e .opening)) (e .first)) (e .later)
+  pub rising : Rising 1 (e .later)
+  pub ending : GoodEnding (accessionOf (e .opening)) (subentriesOf e) (e .ending)
+
+-- "An entry is 1 to 20,000 records.": the bytes of its records, one behind the other
+pub record GoodBytes (s : List ℕ) : Type 0 where
+  pub entry : Entry
+  pub good : Good entry
+  pub same : s ≡ joined (recordsOf entry)
+  pub most : length (recordsOf entry) ≤ MOST-RECORDS

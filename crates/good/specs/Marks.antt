@@ -1,0 +1,57 @@
+-- What holds of every record, and the system records' identifiers and counts (document 01, "Record, line and field" and
+-- "Nesting and counts").
+use Prim.Native.Nat.{ℕ, _+_, _<_}
+use mathlib.Core.Path.{_≡_}
+use mathlib.Core.Bool.{Bool, true, false}
+use mathlib.Core.List.{List, [], _∷_, _++_}
+use lib.ListN.{length, getD}
+use Rattle.laws.specs.Members.{anyOf}
+use Rattle.record.specs.Columns.{hasLineFeed}
+use Rattle.record.specs.Class.{isPermitted}
+use Rattle.record.specs.Fields.{fieldAt}
+use Rattle.record.specs.Word.{equalTo}
+use Rattle.record.specs.Identifier.{identifierOf}
+use Rattle.record.specs.System.{countOf}
+use Rattle.record.specs.Expected.{identificationOf, sequenceOf, inDigits}
+use Rattle.record.specs.declared.system.Count.the-variants.{Number}
+use Rattle.good.specs.Parts.{Record}
+
+-- ---- every record
+
+-- "A record is 80 columns and one line feed (81 bytes)."; "Permitted characters ..", in columns 1 to 80;
+-- "67-71 accession, 72-74 subentry, 75-79 sequence"
+pub record Marked (identification : List ℕ) (sequence : ℕ) (r : Record) : Type 0 where
+  pub whole : length r ≡ 81
+  pub line-feed : hasLineFeed r ≡ true
+  pub permitted : (i : ℕ) → i < 80 → isPermitted (getD r i 0) ≡ true
+  pub identified : equalTo 8 (identificationOf r) identification ≡ true
+  pub sequenced : equalTo 5 (sequenceOf r) (inDigits 5 sequence) ≡ true
+
+-- "one more on each following record": records in order, the first with this sequence
+unfoldable pub Following : List ℕ → ℕ → List Record → Type 0
+Following identification n [] = Unit
+Following identification n (r ∷ rs) = Marked identification n r × Following identification (n + 1) rs
+
+-- ---- system records
+
+-- "one fills columns 1-11, blanks behind"
+abbrev pub nameOf : Record → ℕ
+nameOf r = identifierOf (fieldAt r 0)
+
+-- "N1 is columns 12-22, N2 23-33."
+abbrev pub n1 : Record → List ℕ
+n1 r = fieldAt r 1
+
+abbrev pub n2 : Record → List ℕ
+n2 r = fieldAt r 2
+
+-- "A count is blanks, then digits up to the last column.": the field says this number
+abbrev pub Says : List ℕ → ℕ → Type 0
+Says f n = countOf f ≡ Number n
+
+-- ---- lists in which nothing occurs twice
+
+-- no member is the same as one before it, nor as one of `before`
+unfoldable pub Once : {A : Type 0} → (A → A → Bool) → List A → List A → Type 0
+Once same before [] = Unit
+Once same before (x ∷ xs) = (anyOf (same x) before ≡ false) × Once same (before ++ (x ∷ [])) xs

@@ -1,0 +1,103 @@
+-- Subentries (document 01, "Nesting and counts" and "BIB, headings, pointers").
+use Prim.Native.Nat.{ℕ, _<_, _≤_}
+use mathlib.Core.Path.{_≡_}
+use mathlib.Core.Bool.{true, false}
+use mathlib.Core.List.{List, [], _∷_, _++_, map}
+use lib.Dec.{eqb}
+use lib.ListN.{length}
+use Rattle.laws.specs.Members.{anyOf}
+use Rattle.laws.specs.Walk.{All}
+use Rattle.record.specs.Columns.{columnsAt}
+use Rattle.record.specs.Text.{isBlank}
+use Rattle.record.specs.Word.{equalTo, pointerOf}
+use Rattle.record.specs.Identifier.{SUBENT, NOSUBENT, ENDSUBENT}
+use Rattle.record.specs.System.{isSubentN1, isDate, subentryOf}
+use Rattle.record.specs.Expected.{identificationFor, subentIdentification}
+use Rattle.rules.specs.State.{LAST-SUBENTRY}
+use Rattle.good.specs.Parts.{Record, First, Later, Subentry, nosubent, subent, bodyOfFirst, bodyOf}
+use Rattle.good.specs.Marks.{Marked, Following, nameOf, n1, n2, Says, Once}
+use Rattle.good.specs.Bib.{GoodBibPart, pointersIn, textsOfPart}
+use Rattle.good.specs.Tables.{GoodCommonPart, GoodDataPart, headingsOfPart}
+
+-- ---- SUBENT, NOSUBENT and ENDSUBENT
+
+-- "SUBENT, NOSUBENT | 3 blanks, accession, 3 digits | date"; "the entry's accession throughout"; "Sequence 00001 on ..
+-- SUBENT and NOSUBENT"; "On .. SUBENT and NOSUBENT, number 5 compares bytes with the record's own N1"
+pub record Opens (name : ℕ) (accession : List ℕ) (r : Record) : Type 0 where
+  pub named : nameOf r ≡ name
+  pub numbered : isSubentN1 (n1 r) ≡ true
+  pub dated : isDate (n2 r) ≡ true
+  pub same : equalTo 5 (columnsAt 3 5 (n1 r)) accession ≡ true
+  pub marked : Marked (subentIdentification (n1 r)) 1 r
+
+-- the number of a subentry
+unfoldable pub ownNumber : Record → ℕ
+ownNumber r = subentryOf (n1 r)
+
+-- "ENDSUBENT | records between"; "99999 on ENDSUBENT"; the records between follow SUBENT, each with "its own number"
+pub record Encloses (accession : List ℕ) (opening : Record) (body : List Record) (ending : Record) : Type 0 where
+  pub between : Following (identificationFor accession (ownNumber opening)) 2 body
+  pub named : nameOf ending ≡ ENDSUBENT
+  pub counted : Says (n1 ending) (length body)
+  pub marked : Marked (identificationFor accession (ownNumber opening)) 99999 ending
+
+-- ---- headings and pointers
+
+-- "No heading with its pointer occurs twice within the COMMON of 001, this subentry's COMMON and its DATA together."
+abbrev pub headingsTogether : First → Later → List (List ℕ)
+headingsTogether first s =
+    headingsOfPart (first .common) ++ (headingsOfPart (s .common) ++ headingsOfPart (s .values))
+
+abbrev pub NoneTwice : List (List ℕ) → Type 0
+NoneTwice headings = Once (equalTo 11) [] headings
+
+-- the eleventh columns of headings
+abbrev pub pointersOn : List (List ℕ) → List ℕ
+pointersOn headings = map pointerOf headings
+
+-- "A pointer on a DATA heading must occur in BIB column 11 of this subentry or 001, or on a heading of either one's
+-- COMMON."
+abbrev pub pointersFor : First → Later → List ℕ
+pointersFor first s =
+    pointersIn (textsOfPart (s .bib))
+    ++ (pointersIn (textsOfPart (first .bib))
+    ++ (pointersOn (headingsOfPart (s .common)) ++ pointersOn (headingsOfPart (first .common))))
+
+-- a pointer, if the heading has one, is among them
+abbrev pub Occurs : List ℕ → List ℕ → Type 0
+Occurs pointers h = isBlank (pointerOf h) ≡ false → anyOf (eqb (pointerOf h)) pointers ≡ true
+
+-- ---- subentries
+
+-- "The first subentry is SUBENT 001."
+pub record GoodFirst (accession : List ℕ) (s : First) : Type 0 where
+  pub opens : Opens SUBENT accession (s .opening)
+  pub number : ownNumber (s .opening) ≡ 1
+  pub bib : GoodBibPart (s .bib)
+  pub common : GoodCommonPart (s .common)
+  pub headings : NoneTwice (headingsOfPart (s .common))
+  pub encloses : Encloses accession (s .opening) (bodyOfFirst s) (s .ending)
+
+-- a later one with its records
+pub record GoodLater (accession : List ℕ) (first : First) (s : Later) : Type 0 where
+  pub opens : Opens SUBENT accession (s .opening)
+  pub bib : GoodBibPart (s .bib)
+  pub common : GoodCommonPart (s .common)
+  pub values : GoodDataPart (s .values)
+  pub headings : NoneTwice (headingsTogether first s)
+  pub pointers : All (Occurs (pointersFor first s)) (headingsOfPart (s .values))
+  pub encloses : Encloses accession (s .opening) (bodyOf s) (s .ending)
+
+abbrev pub GoodSubentry : List ℕ → First → Subentry → Type 0
+GoodSubentry accession first (nosubent r) = Opens NOSUBENT accession r
+GoodSubentry accession first (subent s) = GoodLater accession first s
+
+abbrev pub subentryNumber : Subentry → ℕ
+subentryNumber (nosubent r) = ownNumber r
+subentryNumber (subent s) = ownNumber (s .opening)
+
+-- "Later numbers rise strictly, up to 998."
+unfoldable pub Rising : ℕ → List Subentry → Type 0
+Rising number [] = Unit
+Rising number (s ∷ ss) =
+    (number < subentryNumber s) × (subentryNumber s ≤ LAST-SUBENTRY) × Rising (subentryNumber s) ss

@@ -1,0 +1,121 @@
+-- COMMON and DATA sections (document 01, "BIB, headings, pointers" and the table of N1 and N2).
+use Prim.Native.Nat.{ℕ, _*_, _/_, _%_, _<_, _≤_}
+use mathlib.Core.Path.{_≡_}
+use mathlib.Core.Bool.{Bool, true, false}
+use mathlib.Core.List.{List, []}
+use lib.ListN.{length, getD}
+use Rattle.laws.specs.Search.{howMany}
+use Rattle.laws.specs.Members.{listOf}
+use Rattle.laws.specs.Walk.{All}
+use Rattle.number.specs.declared.form.Form.{Form}
+use Rattle.number.specs.declared.form.Form.the-variants as Form
+use Rattle.record.specs.Columns.{recordsFor}
+use Rattle.record.specs.Fields.{fieldAt}
+use Rattle.record.specs.Word.{isWord, badPointer, isUnit, blankTo}
+use Rattle.record.specs.Identifier.{COMMON, NOCOMMON, ENDCOMMON, DATA, NODATA, ENDDATA, isEnd}
+use Rattle.record.specs.System.{countOf, isCount, numberOf}
+use Rattle.record.specs.Numbers.{formAt, saysNumber, noValue}
+use Rattle.rules.specs.State.{MOST-COLUMNS, MOST-LINES}
+use Rattle.good.specs.Parts.{Record, Table, Section, present, absent, rowsOf}
+use Rattle.good.specs.Marks.{nameOf, n1, n2, Says}
+
+-- ---- rows
+
+-- "columns, 1-18": N1 of COMMON and of DATA
+unfoldable pub columnsOf : Table → ℕ
+columnsOf t = numberOf (countOf (n1 (t .opening)))
+
+-- the column c of a row, counted from 0: six to a record
+unfoldable pub cell : List Record → ℕ → List ℕ
+cell row c = fieldAt (getD row (c / 6) []) (c % 6)
+
+-- "With k = columns/6 rounded up": a row of n columns has k records; each used column has one property, and "unused
+-- fields are blank"; no record begins with a system identifier "beginning with END"
+pub record Row (Used Unused : List ℕ → Type 0) (n : ℕ) (row : List Record) : Type 0 where
+  pub records : length row ≡ recordsFor n
+  pub used : (c : ℕ) → c < n → Used (cell row c)
+  pub unused : (c : ℕ) → n ≤ c → c < length row * 6 → Unused (cell row c)
+  pub no-end : All (λ r. isEnd (nameOf r) ≡ false) row
+
+-- "A heading is a word in ten columns, with a pointer or blank in the eleventh."
+pub record Heading (f : List ℕ) : Type 0 where
+  pub word : isWord 10 f ≡ true
+  pub pointer : badPointer f ≡ false
+
+-- "A unit is a word in ten columns, eleventh blank."
+abbrev pub UnitCell : List ℕ → Type 0
+UnitCell f = isUnit f ≡ true
+
+abbrev pub BlankCell : List ℕ → Type 0
+BlankCell f = blankTo 11 f ≡ true
+
+-- "COMMON values are never blank. DATA values may be": none is malformed; what a field says is what it reads to
+abbrev pub Value : Bool → List ℕ → Type 0
+Value optional f = noValue optional (formAt f) ≡ false
+
+abbrev pub BlankValue : List ℕ → Type 0
+BlankValue f = formAt f ≡ Form.Blank
+
+abbrev pub isNumber : List Record → ℕ → Bool
+isNumber row c = saysNumber (formAt (cell row c))
+
+-- the numbers of a line
+unfoldable pub numbersIn : ℕ → List Record → ℕ
+numbersIn n row = howMany (isNumber row) 0 n
+
+abbrev pub GoodHeadings : ℕ → List Record → Type 0
+GoodHeadings n row = Row Heading BlankCell n row
+
+abbrev pub GoodUnits : ℕ → List Record → Type 0
+GoodUnits n row = Row UnitCell BlankCell n row
+
+abbrev pub GoodValues : Bool → ℕ → List Record → Type 0
+GoodValues optional n row = Row (Value optional) BlankValue n row
+
+-- the headings of a table, by column
+unfoldable pub headingsOf : Table → List (List ℕ)
+headingsOf t = listOf (cell (t .headings)) 0 (columnsOf t)
+
+-- ---- sections
+
+-- what COMMON and DATA have in common
+pub record GoodTable (t : Table) : Type 0 where
+  pub counted : isCount (countOf (n1 (t .opening))) ≡ true
+  pub least : 1 ≤ columnsOf t
+  pub most : columnsOf t ≤ MOST-COLUMNS
+  pub headings : GoodHeadings (columnsOf t) (t .headings)
+  pub units : GoodUnits (columnsOf t) (t .units)
+  pub between : Says (n1 (t .ending)) (length (rowsOf t))
+
+-- "COMMON has exactly 3k records": headings, units and one line, and N2 says so
+pub record GoodCommon (t : Table) : Type 0 where
+  pub opens : nameOf (t .opening) ≡ COMMON
+  pub table : GoodTable t
+  pub one : length (t .lines) ≡ 1
+  pub records : Says (n2 (t .opening)) (3 * recordsFor (columnsOf t))
+  pub values : All (GoodValues false (columnsOf t)) (t .lines)
+  pub ends : nameOf (t .ending) ≡ ENDCOMMON
+
+-- "DATA | columns, 1-18 | lines, 1-20,000": N2 says its lines; "each line has at least one number"
+pub record GoodData (t : Table) : Type 0 where
+  pub opens : nameOf (t .opening) ≡ DATA
+  pub table : GoodTable t
+  pub lines : Says (n2 (t .opening)) (length (t .lines))
+  pub least : 1 ≤ length (t .lines)
+  pub most : length (t .lines) ≤ MOST-LINES
+  pub values : All (GoodValues true (columnsOf t)) (t .lines)
+  pub numbers : All (λ row. 1 ≤ numbersIn (columnsOf t) row) (t .lines)
+  pub ends : nameOf (t .ending) ≡ ENDDATA
+
+-- "COMMON section or NOCOMMON", "DATA section or NODATA"
+abbrev pub GoodCommonPart : Section Table → Type 0
+GoodCommonPart (present t) = GoodCommon t
+GoodCommonPart (absent r) = nameOf r ≡ NOCOMMON
+
+abbrev pub GoodDataPart : Section Table → Type 0
+GoodDataPart (present t) = GoodData t
+GoodDataPart (absent r) = nameOf r ≡ NODATA
+
+abbrev pub headingsOfPart : Section Table → List (List ℕ)
+headingsOfPart (present t) = headingsOf t
+headingsOfPart (absent r) = []
