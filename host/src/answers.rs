@@ -1,0 +1,176 @@
+//! What judging and asking hand back.
+
+use std::fmt;
+
+/// So many of something, in words.
+pub(crate) fn counted(count: impl TryInto<u64>, one: &str, several: &str) -> String {
+    let count = count.try_into().unwrap_or(u64::MAX);
+    format!("{count} {}", if count == 1 { one } else { several })
+}
+
+/// The four totals of an accepted entry.
+#[derive(Clone, Copy, Debug, Default, PartialEq, Eq, Hash)]
+pub struct Totals {
+    /// Subentries, NOSUBENT included.
+    pub subentries: u32,
+    /// Keywords of all BIB sections.
+    pub keywords: u32,
+    /// Lines of all DATA sections; a line may take several records.
+    pub lines: u32,
+    /// Number fields of COMMON and DATA that are not blank.
+    pub numbers: u32,
+}
+
+/// Why an entry is not accepted, and where: the paper's number, record and column.
+#[derive(Clone, Copy, Debug, PartialEq, Eq, Hash)]
+pub struct Refusal {
+    /// 1 to 16, from the paper's table of refusals.
+    pub number: u32,
+    /// The record, from 1. It is 0 with number 1, and one past the last record with number 16.
+    pub record: u32,
+    /// The column, from 1. It is 0 with numbers 1 and 16.
+    pub column: u32,
+}
+
+impl Refusal {
+    /// What the number stands for, in the words of the paper's table.
+    pub fn meaning(&self) -> &'static str {
+        match self.number {
+            1 => "the length is 0, not a multiple of 81, or over 1,620,000",
+            2 => "byte 81 of the record is not a line feed",
+            3 => "the character is not permitted",
+            4 => "the record is not due here by nesting or counts",
+            5 => "wrong accession or subentry in columns 67-74",
+            6 => "wrong sequence in columns 75-79",
+            7 => "the system field is not in its form",
+            8 => "the count is out of range or untrue",
+            9 => "the subentry is of another accession, not the first 001, or does not rise",
+            10 => "the keyword is missing, malformed or repeated",
+            11 => "the pointer is no pointer, or repeated under its keyword",
+            12 => "the heading or unit is no word, or an unused field is filled",
+            13 => "the heading is repeated",
+            14 => "the pointer of the DATA heading is not found",
+            15 => "the value is malformed, or blank where it may not be",
+            16 => "the records end before ENDENTRY",
+            _ => "the paper has no such refusal",
+        }
+    }
+}
+
+impl fmt::Display for Refusal {
+    fn fmt(&self, f: &mut fmt::Formatter<'_>) -> fmt::Result {
+        write!(f, "refusal {}", self.number)?;
+        if self.record > 0 {
+            write!(f, ", record {}", self.record)?;
+        }
+        if self.column > 0 {
+            write!(f, ", column {}", self.column)?;
+        }
+        write!(f, ": {}", self.meaning())
+    }
+}
+
+/// What judging says of a string of bytes.
+#[derive(Clone, Copy, Debug, PartialEq, Eq, Hash)]
+pub enum Verdict {
+    /// The bytes are one entry that keeps every rule.
+    Accepted(Totals),
+    /// The first fault: "records in order; within one record the lowest number; within that the leftmost column".
+    Refused(Refusal),
+}
+
+impl Verdict {
+    /// The seven numbers as the judging program prints them: refusal, record, column, subentries, keywords, lines,
+    /// numbers. "Accepted is 0 0 0 with four totals. On refusal the totals are 0."
+    pub fn numbers(&self) -> [u32; 7] {
+        match self {
+            Verdict::Accepted(t) => [0, 0, 0, t.subentries, t.keywords, t.lines, t.numbers],
+            Verdict::Refused(r) => [r.number, r.record, r.column, 0, 0, 0, 0],
+        }
+    }
+
+    /// The refusal, if it is one.
+    pub fn refusal(&self) -> Option<Refusal> {
+        match self {
+            Verdict::Accepted(_) => None,
+            Verdict::Refused(refusal) => Some(*refusal),
+        }
+    }
+}
+
+impl fmt::Display for Verdict {
+    fn fmt(&self, f: &mut fmt::Formatter<'_>) -> fmt::Result {
+        match self {
+            Verdict::Accepted(t) => {
+                let subentries = counted(t.subentries, "subentry", "subentries");
+                let keywords = counted(t.keywords, "keyword", "keywords");
+                let lines = counted(t.lines, "DATA line", "DATA lines");
+                write!(f, "accepted: {subentries}, {keywords}, {lines}, {}", counted(t.numbers, "number", "numbers"))
+            }
+            Verdict::Refused(refusal) => refusal.fmt(f),
+        }
+    }
+}
+
+/// Why a question, a copy, a reading or a writing has no answer.
+#[derive(Clone, Copy, Debug, PartialEq, Eq, Hash)]
+pub struct NoAnswer {
+    /// The paper's number: 31 to 37 for questions and copies; 40, 41 and 15 for number fields.
+    pub number: u32,
+    /// With 31, why the entry is refused. With any other number there is none.
+    pub entry: Option<Refusal>,
+}
+
+impl NoAnswer {
+    /// A number that stands alone.
+    pub(crate) fn numbered(number: u32) -> NoAnswer {
+        NoAnswer { number, entry: None }
+    }
+
+    /// What the number stands for, in the paper's words.
+    pub fn meaning(&self) -> &'static str {
+        match self.number {
+            15 => "the number field is malformed",
+            31 => "the entry is refused",
+            32 => "no such subentry, or NOSUBENT",
+            33 => "no such section",
+            34 => "no such line",
+            35 => "no such column",
+            36 => "no passage with that keyword place and pointer",
+            37 => "the buffer is shorter than the entry",
+            40 => "a number field is eleven bytes",
+            41 => "no field reads to the value",
+            _ => "the paper has no such refusal",
+        }
+    }
+}
+
+impl fmt::Display for NoAnswer {
+    fn fmt(&self, f: &mut fmt::Formatter<'_>) -> fmt::Result {
+        write!(f, "refusal {}: {}", self.number, self.meaning())?;
+        match self.entry {
+            Some(refusal) => write!(f, " ({refusal})"),
+            None => Ok(()),
+        }
+    }
+}
+
+impl std::error::Error for NoAnswer {}
+
+/// A part of the caller's entry: ten columns of a heading or unit, or the whole records of a passage.
+#[derive(Clone, Copy, Debug, PartialEq, Eq, Hash)]
+pub struct Part {
+    /// The first byte, counted from 0.
+    pub offset: usize,
+    /// How many bytes.
+    pub length: usize,
+    /// The pointer beside it; blank means none. Beside a unit stands its heading's pointer.
+    pub pointer: u8,
+}
+
+impl Part {
+    /// The bytes themselves, where `entry` is the entry that was asked about.
+    pub fn of<'a>(&self, entry: &'a [u8]) -> &'a [u8] {
+        &entry[self.offset..self.offset + self.length]
+    }
+}

@@ -1,0 +1,246 @@
+//! Times the library beside the reference and beside other readers of numbers: same process, same input, medians.
+//!
+//!     cargo run --release --bin bench
+//!
+//! Each line has the time of one field, value or record: the median, its ratio to the library's, and the least, which
+//! says more where the machine had other work.
+
+#![forbid(unsafe_code)]
+
+use glockenbeacon::generate::{self, Random, SHAPES};
+use glockenbeacon::{boundary, library, reference, Decimal, Value, RECORD};
+use std::ffi::CString;
+use std::hint::black_box;
+use std::io::Write;
+use std::process::Command;
+use std::time::{Duration, Instant};
+
+/// How often each group is timed; fewer times where one run takes long.
+const RUNS: usize = 41;
+const FEW_RUNS: usize = 5;
+const LONG: Duration = Duration::from_millis(100);
+
+/// How many things are timed at once: so few that the machine's other work mostly falls between two groups.
+const GROUP: usize = 100;
+
+/// The time of one thing in nanoseconds: the mean over the groups of each group's median, and of each group's least.
+#[derive(Clone, Copy)]
+struct Time {
+    median: f64,
+    least: f64,
+}
+
+impl Time {
+    /// Of the runs of each group of so many things.
+    fn of(groups: &mut [Vec<f64>], things: usize) -> Time {
+        groups.iter_mut().for_each(|runs| runs.sort_by(f64::total_cmp));
+        let mean = |place: &dyn Fn(&Vec<f64>) -> f64| groups.iter().map(place).sum::<f64>() / things as f64;
+        Time { median: mean(&|runs| runs[runs.len() / 2]), least: mean(&|runs| runs[0]) }
+    }
+
+    /// The time of one of so many parts of a thing.
+    fn part(self, parts: usize) -> Time {
+        Time { median: self.median / parts as f64, least: self.least / parts as f64 }
+    }
+}
+
+fn timed<T, A>(things: &[T], mut run: impl FnMut(&T) -> A) -> Time {
+    let mut groups = vec![Vec::with_capacity(RUNS); things.len().div_ceil(GROUP)];
+    let begin = Instant::now();
+    for turn in 0..=RUNS {
+        for (group, runs) in things.chunks(GROUP).zip(&mut groups) {
+            let start = Instant::now();
+            for thing in group {
+                black_box(run(black_box(thing)));
+            }
+            runs.push(start.elapsed().as_nanos() as f64);
+        }
+        if turn >= FEW_RUNS && begin.elapsed() > LONG * FEW_RUNS as u32 {
+            break;
+        }
+    }
+    Time::of(&mut groups, things.len())
+}
+
+/// Prints rows of one table: median, its ratio to the first row's, and the least.
+fn table(title: &str, rows: &[(&str, Time)]) {
+    println!("\n{title}");
+    for (name, time) in rows {
+        let Time { median, least } = time;
+        println!("  {name:<44} {median:>9.1} ns {:>7.2}   least {least:>9.1} ns", median / rows[0].1.median);
+    }
+}
+
+/// A reader by hand: one pass with counters, as one would write it for speed.
+fn by_hand(field: &[u8; 11]) -> Option<Value> {
+    let mut at = 0;
+    while at < 11 && field[at] == b' ' {
+        at += 1;
+    }
+    if at == 11 {
+        return Some(Value::Blank);
+    }
+    let negative = field[at] == b'-';
+    if negative || field[at] == b'+' {
+        at += 1;
+    }
+    let (mut number, mut digits, mut places, mut point) = (0_u64, 0, 0, false);
+    while at < 11 {
+        match field[at] {
+            digit @ b'0'..=b'9' => {
+                number = number * 10 + u64::from(digit - b'0');
+                digits += 1;
+                places += i32::from(point);
+            }
+            b'.' if !point => point = true,
+            _ => break,
+        }
+        at += 1;
+    }
+    if !point || digits == 0 {
+        return None;
+    }
+    while at < 11 && field[at] == b' ' {
+        at += 1;
+    }
+    let exponent = if at == 11 { 0 } else { exponent_by_hand(field, at)? };
+    if number == 0 {
+        return Some(Value::Number(Decimal::ZERO));
+    }
+    let mut power = exponent - places;
+    while number % 10 == 0 {
+        number /= 10;
+        power += 1;
+    }
+    Some(Value::Number(Decimal { negative, coefficient: number, power }))
+}
+
+/// The exponent that begins at a column.
+fn exponent_by_hand(field: &[u8; 11], mut at: usize) -> Option<i32> {
+    let marked = field[at] == b'E';
+    at += usize::from(marked);
+    let below = at < 11 && field[at] == b'-';
+    if below || (at < 11 && field[at] == b'+') {
+        at += 1;
+    } else if marked {
+        while at < 11 && field[at] == b' ' {
+            at += 1;
+        }
+    } else {
+        return None;
+    }
+    if at == 11 {
+        return None;
+    }
+    let mut size = 0;
+    while at < 11 {
+        match field[at] {
+            digit @ b'0'..=b'9' => size = size * 10 + i32::from(digit - b'0'),
+            _ => return None,
+        }
+        at += 1;
+    }
+    Some(if below { -size } else { size })
+}
+
+/// A valid field as text that Rust's and C's readers take: no blanks, and an E before each exponent.
+fn plain_text(field: &[u8; 11]) -> CString {
+    let mut text = String::from_utf8_lossy(field).replace(' ', "");
+    if let Some(at) = text.rfind(['+', '-']).filter(|&at| at > 0 && !text.contains('E')) {
+        text.insert(at, 'E');
+    }
+    CString::new(text).expect("no zero byte")
+}
+
+/// The value of a field, if a double can hold it: beyond that, other readers do other work.
+fn value_of(field: &[u8; 11]) -> Option<Decimal> {
+    match library::read_number(field) {
+        Ok(Value::Number(decimal)) => decimal.to_double().map(|_| decimal),
+        _ => None,
+    }
+}
+
+fn numbers() {
+    let mut random = Random::seeded(1);
+    let fields: Vec<[u8; 11]> = std::iter::repeat_with(|| generate::spelling(&mut random))
+        .filter(|field| value_of(field).is_some())
+        .take(20_000)
+        .collect();
+    let texts: Vec<CString> = fields.iter().map(plain_text).collect();
+    let words: Vec<&str> = texts.iter().map(|text| text.to_str().expect("plain")).collect();
+    let values: Vec<Decimal> = fields.iter().filter_map(value_of).collect();
+    assert!(fields.iter().zip(&values).all(|(field, value)| by_hand(field) == Some(Value::Number(*value))));
+    assert!(texts.iter().zip(&values).all(|(text, value)| Some(boundary::c_read(text)) == value.to_double()));
+    let mut rows = vec![
+        ("library::read_number", timed(&fields, |field| library::read_number(field))),
+        ("exact reader by hand", timed(&fields, by_hand)),
+        ("reference::read_number", timed(&fields, |field| reference::read_number(field))),
+        ("str::parse::<f64>, of the field made plain", timed(&words, |text| text.parse::<f64>())),
+        ("C's strtod, of the field made plain", timed(&texts, |text| boundary::c_read(text))),
+    ];
+    match fortran(&fields) {
+        Some(time) => rows.push(("Fortran formatted read, a process of its own", time)),
+        None => println!("gfortran is not installed: its read was not timed"),
+    }
+    table("Reading a number field (20,000 valid fields in all spellings)", &rows);
+
+    let mut out = [0; 11];
+    let library_write = timed(&values, |value| library::write_number(*value, black_box(&mut out)));
+    let reference_write = timed(&values, |value| reference::write_number(*value, black_box(&mut out)));
+    let mut line = Vec::with_capacity(64);
+    let printed = timed(&values, |value| {
+        line.clear();
+        write!(line, "{}e{}", value.coefficient, value.power)
+    });
+    table(
+        "Writing the canonical field (the 20,000 values of these fields)",
+        &[
+            ("library::write_number", library_write),
+            ("reference::write_number", reference_write),
+            ("write!(\"{}e{}\"), coefficient and power only", printed),
+        ],
+    );
+}
+
+/// The same of the Fortran program, which prints the times of its groups, run by run; none if it cannot be compiled.
+fn fortran(fields: &[[u8; 11]]) -> Option<Time> {
+    let room = std::env::temp_dir().join(format!("x4-bench-{}", std::process::id()));
+    std::fs::create_dir_all(&room).ok()?;
+    let (program, file) = (room.join("time_read"), room.join("fields"));
+    let source = concat!(env!("CARGO_MANIFEST_DIR"), "/fortran/time_read.f90");
+    let done = Command::new("gfortran").args(["-O2", "-o"]).arg(&program).arg(source).status().ok()?;
+    let lines: Vec<u8> = fields.iter().flat_map(|field| [field.as_slice(), b"\n"].concat()).collect();
+    std::fs::write(&file, lines).ok()?;
+    let output = Command::new(&program).arg(&file).output().ok().filter(|_| done.success())?;
+    let _ = std::fs::remove_dir_all(&room);
+    let times: Vec<f64> =
+        String::from_utf8_lossy(&output.stdout).lines().filter_map(|line| line.parse().ok()).collect();
+    let count = fields.len() / GROUP;
+    let mut groups: Vec<Vec<f64>> =
+        (0..count).map(|group| times[group..].iter().step_by(count).copied().collect()).collect();
+    Some(Time::of(&mut groups, fields.len()))
+}
+
+fn judging() {
+    for shape in SHAPES {
+        for records in [1_000, 5_000, 20_000] {
+            let entry = generate::large(&mut Random::seeded(1), shape, records);
+            let n = entry.len() / RECORD;
+            assert_eq!(library::judge(&entry).numbers()[0], 0);
+            let rows = [
+                ("library::judge", timed(&[&entry], |entry| library::judge(entry)).part(n)),
+                ("reference::judge", timed(&[&entry], |entry| reference::judge(entry)).part(n)),
+            ];
+            table(&format!("Judging, {shape:?}, {n} records: time of a record"), &rows);
+        }
+    }
+}
+
+fn main() {
+    println!("answered {}", library::who_answers());
+    numbers();
+    match library::proved().contains(&"judge") {
+        true => judging(),
+        false => println!("\njudging is not timed: no proved judge is linked"),
+    }
+}

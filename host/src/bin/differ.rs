@@ -1,0 +1,52 @@
+//! Holds the library against the reference: on the sample with every byte changed to every other, and on generated
+//! entries, number fields and decimals.
+//!
+//!     cargo run --release --bin differ -- [--seed N] [--entries N] [--numbers N]
+
+#![forbid(unsafe_code)]
+
+use glockenbeacon::differ::{Library, Pair, Reference};
+use glockenbeacon::library;
+use std::process::ExitCode;
+
+/// The number behind an option, or what stands for it.
+fn option(arguments: &[String], name: &str, otherwise: u64) -> Result<u64, String> {
+    match arguments.iter().position(|argument| argument == name) {
+        None => Ok(otherwise),
+        Some(at) => arguments.get(at + 1).and_then(|text| text.parse().ok()).ok_or(format!("{name} needs a number")),
+    }
+}
+
+fn run() -> Result<ExitCode, String> {
+    let arguments: Vec<String> = std::env::args().skip(1).collect();
+    let seed = option(&arguments, "--seed", 1)?;
+    let entries = option(&arguments, "--entries", 20_000)?;
+    let numbers = option(&arguments, "--numbers", 1_000_000)?;
+    println!("seed {seed}: {entries} entries, {numbers} number fields, {numbers} decimals");
+    println!("answered {}", library::who_answers());
+    let mut pair = Pair::new(&Library, &Reference);
+    let every: Vec<u8> = (0..=255).collect();
+    let outcome = pair
+        .bytes(include_bytes!("../../data/sample.x4"), &every)
+        .and_then(|()| pair.entries(seed, entries))
+        .and_then(|()| pair.fields(seed, numbers))
+        .and_then(|()| pair.decimals(seed, numbers));
+    print!("{}", pair.counts);
+    match outcome {
+        Ok(()) => {
+            println!("0 differences");
+            Ok(ExitCode::SUCCESS)
+        }
+        Err(difference) => {
+            println!("a difference: one is the library, the other the reference\n{difference}");
+            Ok(ExitCode::from(1))
+        }
+    }
+}
+
+fn main() -> ExitCode {
+    run().unwrap_or_else(|message| {
+        eprintln!("differ: {message}");
+        ExitCode::from(2)
+    })
+}

@@ -1,0 +1,348 @@
+//! Holds two implementations of the paper against each other on generated inputs.
+//!
+//! Each case has a seed of its own, which a difference names, so that the case can be made again.
+
+use crate::generate::{self, Kind, Random, Sheet, CAUSES};
+use crate::{library, reference, Decimal, NoAnswer, Part, Value, Verdict};
+use std::collections::BTreeMap;
+use std::fmt;
+
+/// What an implementation of the paper answers. By default the answers are the reference's.
+pub trait Implementation {
+    /// The verdict on an entry.
+    fn judge(&self, entry: &[u8]) -> Verdict {
+        reference::judge(entry)
+    }
+    /// The value in a place.
+    fn value(&self, entry: &[u8], place: [u32; 4]) -> Result<Value, NoAnswer> {
+        let [subentry, section, line, column] = place;
+        reference::value(entry, subentry, section, line, column)
+    }
+    /// The heading of a column.
+    fn heading(&self, entry: &[u8], place: [u32; 3]) -> Result<Part, NoAnswer> {
+        let [subentry, section, column] = place;
+        reference::heading(entry, subentry, section, column)
+    }
+    /// The unit of a column.
+    fn unit(&self, entry: &[u8], place: [u32; 3]) -> Result<Part, NoAnswer> {
+        let [subentry, section, column] = place;
+        reference::unit(entry, subentry, section, column)
+    }
+    /// The passage under a keyword and pointer.
+    fn passage(&self, entry: &[u8], subentry: u32, keyword: &[u8; 10], pointer: u8) -> Result<Part, NoAnswer> {
+        reference::passage(entry, subentry, keyword, pointer)
+    }
+    /// The canonical copy.
+    fn canonical_copy(&self, entry: &[u8], buffer: &mut [u8]) -> Result<(), NoAnswer> {
+        reference::canonical_copy(entry, buffer)
+    }
+    /// The reading of a field.
+    fn read_number(&self, field: &[u8]) -> Result<Value, NoAnswer> {
+        reference::read_number(field)
+    }
+    /// The writing of a field.
+    fn write_number(&self, decimal: Decimal, buffer: &mut [u8]) -> Result<(), NoAnswer> {
+        reference::write_number(decimal, buffer)
+    }
+}
+
+/// The reference.
+pub struct Reference;
+
+impl Implementation for Reference {}
+
+/// The library.
+pub struct Library;
+
+impl Implementation for Library {
+    fn judge(&self, entry: &[u8]) -> Verdict {
+        library::judge(entry)
+    }
+    fn value(&self, entry: &[u8], place: [u32; 4]) -> Result<Value, NoAnswer> {
+        let [subentry, section, line, column] = place;
+        library::value(entry, subentry, section, line, column)
+    }
+    fn heading(&self, entry: &[u8], place: [u32; 3]) -> Result<Part, NoAnswer> {
+        let [subentry, section, column] = place;
+        library::heading(entry, subentry, section, column)
+    }
+    fn unit(&self, entry: &[u8], place: [u32; 3]) -> Result<Part, NoAnswer> {
+        let [subentry, section, column] = place;
+        library::unit(entry, subentry, section, column)
+    }
+    fn passage(&self, entry: &[u8], subentry: u32, keyword: &[u8; 10], pointer: u8) -> Result<Part, NoAnswer> {
+        library::passage(entry, subentry, keyword, pointer)
+    }
+    fn canonical_copy(&self, entry: &[u8], buffer: &mut [u8]) -> Result<(), NoAnswer> {
+        library::canonical_copy(entry, buffer)
+    }
+    fn read_number(&self, field: &[u8]) -> Result<Value, NoAnswer> {
+        library::read_number(field)
+    }
+    fn write_number(&self, decimal: Decimal, buffer: &mut [u8]) -> Result<(), NoAnswer> {
+        library::write_number(decimal, buffer)
+    }
+}
+
+/// A case on which two implementations differ.
+#[derive(Clone, Debug)]
+pub struct Difference {
+    /// The seed of the case.
+    pub seed: u64,
+    /// What was asked, and the two answers.
+    pub words: String,
+    /// The bytes that it was asked of.
+    pub input: Vec<u8>,
+}
+
+impl fmt::Display for Difference {
+    fn fmt(&self, f: &mut fmt::Formatter<'_>) -> fmt::Result {
+        write!(f, "seed {}: {}\n{}", self.seed, self.words, String::from_utf8_lossy(&self.input))
+    }
+}
+
+/// How often each answer was given, by the paper's number; 0 stands for an answer that is no refusal.
+#[derive(Clone, Debug, Default)]
+pub struct Tally(BTreeMap<u32, u64>);
+
+impl Tally {
+    /// How often this number was given.
+    pub fn of(&self, number: u32) -> u64 {
+        self.0.get(&number).copied().unwrap_or(0)
+    }
+
+    fn count(&mut self, number: u32) {
+        *self.0.entry(number).or_default() += 1;
+    }
+
+    fn add<T>(&mut self, answer: &Result<T, NoAnswer>) {
+        self.count(answer.as_ref().err().map_or(0, |refused| refused.number));
+    }
+}
+
+/// What was asked, and how often.
+#[derive(Clone, Debug, Default)]
+pub struct Counts {
+    /// Verdicts.
+    pub verdicts: Tally,
+    /// Answers to questions and copies.
+    pub answers: Tally,
+    /// Readings.
+    pub readings: Tally,
+    /// Writings.
+    pub writings: Tally,
+}
+
+impl fmt::Display for Counts {
+    fn fmt(&self, f: &mut fmt::Formatter<'_>) -> fmt::Result {
+        let groups = [
+            ("verdicts", &self.verdicts),
+            ("questions and copies", &self.answers),
+            ("number fields read", &self.readings),
+            ("decimals written", &self.writings),
+        ];
+        for (name, Tally(tally)) in groups {
+            writeln!(f, "{name}: {}", tally.values().sum::<u64>())?;
+            for (number, count) in tally {
+                writeln!(f, "  {number:>2}: {count}")?;
+            }
+        }
+        Ok(())
+    }
+}
+
+/// Two implementations, and how often they were asked.
+pub struct Pair<'i> {
+    one: &'i dyn Implementation,
+    other: &'i dyn Implementation,
+    /// The counts so far.
+    pub counts: Counts,
+}
+
+impl<'i> Pair<'i> {
+    /// A pair that has not been asked yet.
+    pub fn new(one: &'i dyn Implementation, other: &'i dyn Implementation) -> Pair<'i> {
+        Pair { one, other, counts: Counts::default() }
+    }
+
+    /// Asks both about so many entries, good and damaged.
+    pub fn entries(&mut self, seed: u64, count: u64) -> Result<(), Difference> {
+        for seed in seed..seed + count {
+            let mut random = Random::seeded(seed);
+            let sheet = input(&mut random);
+            self.entry(&mut random, &sheet).map_err(|words| Difference { seed, words, input: sheet.bytes.clone() })?;
+        }
+        Ok(())
+    }
+
+    /// Asks both to judge an entry with one byte changed, for every byte and all of these values.
+    pub fn bytes(&mut self, entry: &[u8], values: &[u8]) -> Result<(), Difference> {
+        let mut changed = entry.to_vec();
+        for place in 0..entry.len() {
+            for &value in values {
+                changed[place] = value;
+                let (one, other) = (self.one.judge(&changed), self.other.judge(&changed));
+                self.counts.verdicts.count(one.numbers()[0]);
+                let seed = place as u64;
+                same("judge", &one, &other).map_err(|words| Difference { seed, words, input: changed.clone() })?;
+            }
+            changed[place] = entry[place];
+        }
+        Ok(())
+    }
+
+    /// Asks both to read so many number fields.
+    pub fn fields(&mut self, seed: u64, count: u64) -> Result<(), Difference> {
+        for seed in seed..seed + count {
+            let mut random = Random::seeded(seed);
+            let field = generate::number_field(&mut random);
+            // Now and then a field that is not eleven bytes long.
+            let field = if random.once_in(50) { &field[..random.below(11)] } else { &field };
+            let (one, other) = (self.one.read_number(field), self.other.read_number(field));
+            self.counts.readings.add(&one);
+            same("read_number", &one, &other).map_err(|words| Difference { seed, words, input: field.to_vec() })?;
+        }
+        Ok(())
+    }
+
+    /// Asks both to write so many decimals.
+    pub fn decimals(&mut self, seed: u64, count: u64) -> Result<(), Difference> {
+        for seed in seed..seed + count {
+            let mut random = Random::seeded(seed);
+            let decimal = generate::decimal(&mut random);
+            let length = if random.once_in(50) { random.below(14) } else { 11 };
+            let (mut first, mut second) = (vec![b'#'; length], vec![b'#'; length]);
+            let one = self.one.write_number(decimal, &mut first);
+            let other = self.other.write_number(decimal, &mut second);
+            self.counts.writings.add(&one);
+            let same = same("write_number", &(one, first), &(other, second));
+            same.map_err(|words| Difference { seed, words: format!("{decimal:?}: {words}"), input: Vec::new() })?;
+        }
+        Ok(())
+    }
+
+    /// The verdict, some questions and a copy of one input.
+    fn entry(&mut self, random: &mut Random, sheet: &Sheet) -> Result<(), String> {
+        let entry = &sheet.bytes;
+        let (one, other) = (self.one.judge(entry), self.other.judge(entry));
+        same("judge", &one, &other)?;
+        self.counts.verdicts.count(one.numbers()[0]);
+        for _ in 0..12 {
+            self.question(random, sheet)?;
+        }
+        let length = entry.len() + random.below(3);
+        let length = if random.once_in(3) { length.saturating_sub(random.below(100)) } else { length };
+        let (mut first, mut second) = (vec![b'#'; length], vec![b'#'; length]);
+        let copied = self.one.canonical_copy(entry, &mut first);
+        let other = self.other.canonical_copy(entry, &mut second);
+        self.counts.answers.add(&copied);
+        same("canonical_copy", &(copied, first), &(other, second))
+    }
+
+    /// One question, often inside the entry's shape and sometimes beside it.
+    fn question(&mut self, random: &mut Random, sheet: &Sheet) -> Result<(), String> {
+        let (one, other, entry) = (self.one, self.other, &sheet.bytes);
+        let place = place(random, sheet);
+        let [subentry, section, _, column] = place;
+        let short = [subentry, section, column];
+        match random.below(4) {
+            0 => self.answered("value", place, one.value(entry, place), other.value(entry, place)),
+            1 => self.answered("heading", short, one.heading(entry, short), other.heading(entry, short)),
+            2 => self.answered("unit", short, one.unit(entry, short), other.unit(entry, short)),
+            _ => {
+                let (owner, keyword, pointer) = keyword(random, sheet);
+                let subentry = if random.once_in(12) { subentry } else { owner };
+                let first = one.passage(entry, subentry, &keyword, pointer);
+                let second = other.passage(entry, subentry, &keyword, pointer);
+                self.answered("passage", (subentry, String::from_utf8_lossy(&keyword), pointer), first, second)
+            }
+        }
+    }
+
+    /// Counts an answer and compares it with the other.
+    fn answered<A: fmt::Debug, T: PartialEq + fmt::Debug>(
+        &mut self,
+        question: &str,
+        asked: A,
+        one: Result<T, NoAnswer>,
+        other: Result<T, NoAnswer>,
+    ) -> Result<(), String> {
+        self.counts.answers.add(&one);
+        same(&format!("{question} {asked:?}"), &one, &other)
+    }
+}
+
+/// Whether two answers are the same; if not, both in words.
+fn same<T: PartialEq + fmt::Debug>(asked: &str, one: &T, other: &T) -> Result<(), String> {
+    if one == other {
+        Ok(())
+    } else {
+        Err(format!("{asked}\n  one:   {one:?}\n  other: {other:?}"))
+    }
+}
+
+/// An input: a valid entry, one damaged by a known cause, one with noise, or bytes.
+fn input(random: &mut Random) -> Sheet {
+    let mut sheet = generate::entry(random);
+    match random.below(10) {
+        0 | 1 => {}
+        2..=6 => {
+            let cause = random.below(CAUSES.len());
+            // Where the entry has no place for the cause, it stays valid.
+            let _ = generate::damage(random, &mut sheet, cause);
+        }
+        7 | 8 => generate::noise(random, &mut sheet),
+        _ => sheet = Sheet { bytes: generate::random_bytes(random), kinds: Vec::new() },
+    }
+    sheet
+}
+
+/// Subentry, section, line and column of a question.
+fn place(random: &mut Random, sheet: &Sheet) -> [u32; 4] {
+    let subentry = match random.once_in(12) {
+        true => random.one(&[0, 1, 2, 999, 1001, u32::MAX]),
+        false => subentry(random, sheet),
+    };
+    let section = if random.once_in(12) { random.below(5) } else { random.within(1, 2) } as u32;
+    let line = random.one(&[0, 1, 1, 1, 1, 2, 2, 3, 5, 6, u32::MAX]);
+    let column = if random.once_in(2) { random.within(0, 20) } else { random.within(1, 3) } as u32;
+    [subentry, section, line, column]
+}
+
+/// The number of a subentry as three digits, if they are that.
+fn three_digits(digits: &[u8]) -> u32 {
+    std::str::from_utf8(digits).ok().and_then(|text| text.parse().ok()).unwrap_or(0)
+}
+
+/// Whether a record of the sheet is still there: damage may have cut the bytes.
+fn there(sheet: &Sheet, at: usize) -> bool {
+    (at + 1) * crate::RECORD <= sheet.bytes.len()
+}
+
+/// A subentry of the sheet.
+fn subentry(random: &mut Random, sheet: &Sheet) -> u32 {
+    let mut places = sheet.find(|kind| matches!(kind, Kind::System("SUBENT" | "NOSUBENT")));
+    places.retain(|&at| there(sheet, at));
+    if places.is_empty() {
+        return 1;
+    }
+    three_digits(sheet.columns(random.one(&places), 20, 22))
+}
+
+/// A keyword and pointer that may have a passage, and the subentry that it would be in.
+fn keyword(random: &mut Random, sheet: &Sheet) -> (u32, [u8; 10], u8) {
+    let mut places = sheet.find(|kind| matches!(kind, Kind::Text { .. }));
+    places.retain(|&at| there(sheet, at));
+    if places.is_empty() {
+        return (1, *b"TITLE     ", b' ');
+    }
+    let at = random.one(&places);
+    let named = (0..=at).rev().find(|&at| sheet.columns(at, 1, 10) != b"          ").unwrap_or(at);
+    let keyword = sheet.columns(named, 1, 10).try_into().unwrap_or(*b"          ");
+    let pointer = match random.below(4) {
+        0 => b' ',
+        1 => random.one(b"12AZ0a"),
+        _ => sheet.columns(at, 11, 11)[0],
+    };
+    (three_digits(sheet.columns(at, 72, 74)), keyword, pointer)
+}

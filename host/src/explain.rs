@@ -1,0 +1,403 @@
+//! A refusal in words: what was expected in that place, what stands there, and the record with a mark under it.
+//!
+//! The number, record and column come from judging. The words are made here, from the entry laid out by the reference.
+
+use crate::answers::counted;
+use crate::reference::record::{blank, is_pointer, is_word, Name, Record};
+use crate::reference::tree::{Cell, Role, Stop, Subentry, Table, Tree};
+use crate::reference::{identification_due, keyword_total};
+use crate::{Refusal, RECORD};
+
+/// What can be said of a refusal.
+#[derive(Clone, Debug, PartialEq, Eq)]
+pub struct Explanation {
+    /// What should stand there.
+    pub expected: String,
+    /// What stands there.
+    pub found: String,
+    /// What may be behind it, where that can be told.
+    pub note: Option<String>,
+}
+
+/// Explains a refusal, where `refusal` is what judging says of this very entry.
+pub fn explain(entry: &[u8], refusal: &Refusal) -> Explanation {
+    if refusal.number == 1 {
+        return wrong_length(entry);
+    }
+    let tree = Tree::of(&entry[..entry.len() / RECORD * RECORD]);
+    let at = refusal.record as usize - 1;
+    let case = Case { tree: &tree, at, column: refusal.column as usize };
+    let (expected, found) = match refusal.number {
+        2 => ("a line feed in byte 81".into(), case.character()),
+        3 => ("a blank, a letter, a digit or one of + - . ) ( * / = ' , % < > : ; ! ? &".into(), case.character()),
+        4 => (case.due_record(), case.columns(1, 11)),
+        5 => (case.identification().0, case.columns(67, 74)),
+        6 => (case.identification().1, case.columns(75, 79)),
+        7 => (case.form().into(), case.field()),
+        8 => (case.count(), case.field()),
+        9 => (case.subentry_number(), case.field()),
+        10 => (case.keyword(), case.columns(1, 10)),
+        11 => (case.pointer(), case.character()),
+        12 => (case.word(), case.field()),
+        13 => (case.other_heading(), case.field()),
+        14 => (case.known_pointer(), case.field()),
+        15 => (case.value(), case.field()),
+        _ => (case.due_record(), "the end of the input".into()),
+    };
+    Explanation { expected, found, note: note(entry, refusal) }
+}
+
+/// The record of a refusal as compilers of programs show a line: its number, its text, and a mark under the column.
+/// There is none where the refusal names no record of the entry.
+pub fn shown(entry: &[u8], refusal: &Refusal) -> Option<String> {
+    let record = entry.get((refusal.record as usize).checked_sub(1)? * RECORD..)?.get(..RECORD)?;
+    let text: String = record[..80].iter().map(|&byte| printable(byte)).collect();
+    let width = match refusal.number {
+        2 | 3 | 11 => 1,
+        5 => 8,
+        6 => 5,
+        10 => 10,
+        _ => 11,
+    };
+    let number = refusal.record.to_string();
+    let margin = " ".repeat(number.len());
+    let before = " ".repeat(refusal.column as usize - 1);
+    let text = text.trim_end();
+    Some(format!("  {number} | {text}\n  {margin} | {before}^{}\n", "~".repeat(width - 1)))
+}
+
+/// A byte as one character of a line.
+fn printable(byte: u8) -> char {
+    if byte.is_ascii_graphic() || byte == b' ' {
+        char::from(byte)
+    } else {
+        '?'
+    }
+}
+
+/// Bytes between quotation marks.
+fn quoted(bytes: &[u8]) -> String {
+    if !bytes.is_empty() && blank(bytes) {
+        return "blanks".into();
+    }
+    let text: String = bytes.iter().map(|&byte| printable(byte)).collect();
+    format!("'{text}'")
+}
+
+/// Identifiers one of which is due.
+fn either(names: &[Name]) -> String {
+    let names: Vec<&str> = names.iter().map(|name| name.spelling()).collect();
+    names.join(" or ")
+}
+
+/// A table as its first record announces it.
+fn announced(table: &Table) -> String {
+    let columns = counted(table.columns, "column", "columns");
+    let shape = match table.name {
+        Name::Common => columns,
+        _ => format!("{columns}, {}", counted(table.lines, "line", "lines")),
+    };
+    format!("{} on record {} ({shape})", table.name.spelling(), table.opening + 1)
+}
+
+/// What is due in a field beyond the table's columns.
+fn unused(table: &Table, cell: &Cell) -> String {
+    let columns = counted(table.columns, "column", "columns");
+    format!("blanks, as the table has {columns} and this would be column {}", cell.column)
+}
+
+/// One refused place in an entry that is laid out.
+struct Case<'t, 'a> {
+    tree: &'t Tree<'a>,
+    at: usize,
+    column: usize,
+}
+
+impl<'t, 'a> Case<'t, 'a> {
+    fn record(&self) -> Record<'a> {
+        self.tree.records[self.at]
+    }
+
+    fn columns(&self, first: usize, last: usize) -> String {
+        quoted(self.record().columns(first, last))
+    }
+
+    /// The eleven columns from the refused one on.
+    fn field(&self) -> String {
+        self.columns(self.column, (self.column + 10).min(66))
+    }
+
+    fn character(&self) -> String {
+        let byte = self.record().0[self.column - 1];
+        match byte {
+            b'\n' => "a line feed".into(),
+            b'\r' => "a carriage return".into(),
+            b'\t' => "a tab".into(),
+            b' ' => "a blank".into(),
+            _ if byte.is_ascii_graphic() => format!("'{}'", char::from(byte)),
+            _ => format!("byte {byte}"),
+        }
+    }
+
+    /// The subentry that the record lies in or opens.
+    fn subentry(&self) -> Option<&'t Subentry> {
+        self.tree.subentries.iter().rev().find(|subentry| subentry.opening <= self.at)
+    }
+
+    /// Refusals 5 and 6: the owner and the sequence.
+    fn identification(&self) -> (String, String) {
+        let (accession, number, sequence) = identification_due(self.tree, self.at, self.subentry());
+        (quoted(&[accession, number].concat()), quoted(format!("{sequence:05}").as_bytes()))
+    }
+
+    /// The table that the record lies in.
+    fn table(&self) -> Option<&'t Table> {
+        self.subentry()?.tables().find(|table| (table.opening..=table.opening + table.records()).contains(&self.at))
+    }
+
+    /// The refused field of a table.
+    fn cell(&self) -> Option<Cell<'a>> {
+        let table = self.table()?;
+        let row = (self.at - table.opening - 1) / table.records_per_line();
+        let mut cells = table.cells(self.tree, row);
+        cells.find(|cell| cell.record == self.at && cell.field == (self.column - 1) / 11)
+    }
+
+    fn name(&self) -> Option<Name> {
+        match self.tree.roles.get(self.at) {
+            Some(Role::System(name)) => Some(*name),
+            _ => None,
+        }
+    }
+
+    /// Refusals 4 and 16: what the record should have been.
+    fn due_record(&self) -> String {
+        match (&self.tree.stop, self.tree.roles.get(self.at)) {
+            (_, Some(_)) => self.due_in_section(),
+            (Stop::NotDue(_, due), _) if due.is_empty() => "nothing: an entry ends with ENDENTRY".into(),
+            (Stop::NotDue(_, due) | Stop::RanOut(due), _) if !due.is_empty() => either(due) + &self.because(due),
+            _ => self.due_in_section(),
+        }
+    }
+
+    /// Why an END record is due.
+    fn because(&self, due: &[Name]) -> String {
+        let Some(subentry) = self.subentry() else { return String::new() };
+        let table = match due {
+            [Name::EndCommon] => subentry.common.as_ref(),
+            [Name::EndData] => subentry.data.as_ref(),
+            _ => None,
+        };
+        match (table, &subentry.bib) {
+            (Some(table), _) => format!(", as the {} records of {} end here", table.records(), announced(table)),
+            (None, Some(bib)) if due == [Name::EndBib] => {
+                format!(", as the {} records of BIB on record {} end here", bib.text.len(), bib.opening + 1)
+            }
+            _ => String::new(),
+        }
+    }
+
+    /// What is due inside a section.
+    fn due_in_section(&self) -> String {
+        if let Some(table) = self.table() {
+            let place = self.at - table.opening;
+            return format!("record {place} of the {} that {} announces", table.records(), announced(table));
+        }
+        match self.subentry().and_then(|subentry| subentry.bib.as_ref()) {
+            Some(bib) => {
+                let records = String::from_utf8_lossy(self.tree.records[bib.opening].n2()).trim().to_string();
+                let place = self.at - bib.opening;
+                format!("record {place} of the {records} that BIB on record {} announces", bib.opening + 1)
+            }
+            None => "ENTRY".into(),
+        }
+    }
+
+    /// Refusal 7: the form of the field.
+    fn form(&self) -> &'static str {
+        match (self.name(), self.column) {
+            (Some(Name::Entry), 12) => "6 blanks and the accession: a capital or digit, then 4 digits",
+            (Some(Name::Subent | Name::NoSubent), 12) => {
+                "3 blanks, the accession (a capital or digit, 4 digits), 3 digits"
+            }
+            (Some(Name::Entry | Name::Subent | Name::NoSubent), _) => {
+                "3 blanks and a date YYYYMMDD, month 01-12, day 01-31"
+            }
+            _ => "a count: blanks, then digits up to the last column",
+        }
+    }
+
+    /// Refusal 8: the range, or the true count.
+    fn count(&self) -> String {
+        let number = |field| String::from_utf8_lossy(self.record().field(field)).trim().to_string();
+        let Some(subentry) = self.subentry() else { return String::new() };
+        let between = |opening: usize| format!("{}, the records between", self.at - opening - 1);
+        match (self.name(), self.column) {
+            (Some(Name::Bib), 12) => "at least 1 keyword".into(),
+            (Some(Name::Bib), _) => format!("at least {} records, one for each keyword", number(1)),
+            (Some(Name::Common | Name::Data), 12) => "1 to 18 columns".into(),
+            (Some(Name::Common), _) => {
+                let columns = number(1).parse::<usize>().unwrap_or(0);
+                format!("{} records for {}", 3 * columns.div_ceil(6), counted(columns, "column", "columns"))
+            }
+            (Some(Name::Data), _) => "1 to 20,000 lines".into(),
+            (Some(Name::EndBib), _) => self.end_bib(subentry),
+            (Some(Name::EndCommon), _) => between(subentry.common.as_ref().map_or(0, |table| table.opening)),
+            (Some(Name::EndData), _) => between(subentry.data.as_ref().map_or(0, |table| table.opening)),
+            (Some(Name::EndSubent), _) => between(subentry.opening),
+            _ => format!("{}, the subentries", self.tree.subentries.len()),
+        }
+    }
+
+    /// On ENDBIB its own count is judged, and the keyword total that BIB announced.
+    fn end_bib(&self, subentry: &Subentry) -> String {
+        let Some(bib) = &subentry.bib else { return String::new() };
+        let total = keyword_total(self.tree, bib);
+        let announced = String::from_utf8_lossy(self.tree.records[bib.opening].n1()).trim().to_string();
+        if announced.parse() == Ok(total) {
+            return format!("{}, the records between", bib.text.len());
+        }
+        let total = counted(total, "keyword", "keywords");
+        format!("{total} in N1 of BIB on record {}, which says {announced}", bib.opening + 1)
+    }
+
+    /// Refusal 9.
+    fn subentry_number(&self) -> String {
+        let accession = quoted(self.tree.records[0].columns(18, 22));
+        let before = self.tree.subentries.iter().take_while(|subentry| subentry.opening < self.at).last();
+        match before {
+            None => format!("accession {accession} and number 001, as this is the first subentry"),
+            Some(before) => {
+                let number = String::from_utf8_lossy(self.tree.number(before));
+                format!("accession {accession} and a number above {number}, at most 998")
+            }
+        }
+    }
+
+    /// Refusal 10.
+    fn keyword(&self) -> String {
+        let keyword = self.record().keyword();
+        let Some(bib) = self.subentry().and_then(|subentry| subentry.bib.as_ref()) else { return String::new() };
+        if blank(keyword) {
+            return "a keyword, as this is the first record of BIB".into();
+        }
+        if !is_word(keyword) {
+            return "a keyword: a word from column 1, blanks behind it; or ten blanks".into();
+        }
+        let first = bib.text.clone().find(|&at| self.tree.records[at].keyword() == keyword).unwrap_or(self.at);
+        format!("a keyword that this BIB does not have yet; record {} has this one", first + 1)
+    }
+
+    /// Refusal 11.
+    fn pointer(&self) -> String {
+        let byte = self.record().0[self.column - 1];
+        let bib = self.subentry().and_then(|subentry| subentry.bib.as_ref());
+        let bib = bib.filter(|bib| is_pointer(byte) && bib.text.contains(&self.at));
+        let Some(bib) = bib else { return "a pointer, 1-9 or A-Z, or a blank".into() };
+        let earlier = (bib.text.start..self.at).rev().find(|&at| self.tree.records[at].pointer() == byte);
+        let earlier = earlier.unwrap_or(self.at) + 1;
+        format!("a pointer that is new under its keyword; record {earlier} has this one")
+    }
+
+    /// Refusal 12.
+    fn word(&self) -> String {
+        let Some(table) = self.table() else { return String::new() };
+        match (self.cell(), self.tree.roles[self.at]) {
+            (Some(cell), _) if !cell.used => unused(table, &cell),
+            (Some(cell), Role::Unit(_)) if is_word(cell.word()) => "a blank in the unit's eleventh column".into(),
+            (_, Role::Unit(_)) => "a unit: a word of at most ten columns".into(),
+            _ => "a heading: a word of at most ten columns".into(),
+        }
+    }
+
+    /// Refusal 13.
+    fn other_heading(&self) -> String {
+        let own = self.subentry().into_iter().flat_map(Subentry::tables);
+        let shared = self.tree.subentries.first().and_then(|first| first.common.as_ref());
+        let headings = shared.into_iter().chain(own).flat_map(|table| table.headings(self.tree));
+        let bytes = self.record().columns(self.column, self.column + 10);
+        let mut same = headings.filter(|cell| cell.bytes == bytes);
+        match same.next() {
+            Some(cell) => format!(
+                "a heading that is not there yet; record {}, column {} has this one",
+                cell.record + 1,
+                cell.first_column()
+            ),
+            None => String::new(),
+        }
+    }
+
+    /// Refusal 14.
+    fn known_pointer(&self) -> String {
+        let first = self.tree.subentries.first();
+        let mut known = std::collections::BTreeSet::new();
+        for place in first.into_iter().chain(self.subentry()) {
+            if let Some(bib) = &place.bib {
+                known.extend(self.tree.records[bib.text.clone()].iter().map(|record| record.pointer()));
+            }
+            known.extend(place.common.iter().flat_map(|table| table.headings(self.tree)).map(|cell| cell.eleventh()));
+        }
+        let known: Vec<String> = known.into_iter().filter(|&byte| byte != b' ').map(|byte| quoted(&[byte])).collect();
+        let known = if known.is_empty() { "there is none".into() } else { format!("there are {}", known.join(" ")) };
+        format!("a pointer of BIB or COMMON, in this subentry or 001 ({known})")
+    }
+
+    /// Refusal 15.
+    fn value(&self) -> String {
+        let (Some(table), Some(cell)) = (self.table(), self.cell()) else { return String::new() };
+        if !cell.used {
+            return unused(table, &cell);
+        }
+        match (blank(cell.bytes), table.name) {
+            (true, Name::Common) => "a number: COMMON values are never blank".into(),
+            (true, _) => "at least one number on the line that ends here".into(),
+            _ => "a number: blanks, a sign or none, digits with one point; then blanks, or an exponent that ends the \
+                  field: a sign and digits, or E and digits"
+                .into(),
+        }
+    }
+}
+
+/// Refusal 1.
+fn wrong_length(entry: &[u8]) -> Explanation {
+    let (records, rest) = (entry.len() / RECORD, entry.len() % RECORD);
+    let bytes = |count: usize| counted(count, "byte", "bytes");
+    let found = match (entry.len(), counted(records, "record", "records")) {
+        (0, _) => "no bytes".into(),
+        (length, records) if rest != 0 => format!("{}: {records} and {}", bytes(length), bytes(rest)),
+        (length, records) => format!("{}: {records}", bytes(length)),
+    };
+    let expected = "1 to 20,000 records of 81 bytes each, 80 columns and a line feed".into();
+    Explanation { expected, found, note: note(entry, &Refusal { number: 1, record: 0, column: 0 }) }
+}
+
+/// What may be behind a refusal: several entries in a file, or lines that are not 80 columns long.
+fn note(entry: &[u8], refusal: &Refusal) -> Option<String> {
+    if matches!(refusal.number, 1 | 4) {
+        if let Some(several) = several_entries(entry) {
+            return Some(several);
+        }
+    }
+    if !matches!(refusal.number, 1..=3) || entry.is_empty() {
+        return None;
+    }
+    let lines = entry.strip_suffix(b"\n").unwrap_or(entry).split(|&byte| byte == b'\n');
+    let (number, line) = lines.enumerate().find(|(_, line)| line.len() != RECORD - 1)?;
+    let ending = match line.split_last() {
+        Some((b'\r', rest)) if rest.len() == RECORD - 1 => "ends with a carriage return".into(),
+        _ => format!("has {}", counted(line.len(), "column", "columns")),
+    };
+    Some(format!("line {} {ending}; a record has 80 columns and a line feed", number + 1))
+}
+
+/// Whether the input goes on after its first entry, or is a transmission.
+fn several_entries(bytes: &[u8]) -> Option<String> {
+    let begins = |record: &&[u8], name: &str| record.get(..11) == Some(format!("{name:11}").as_bytes());
+    if bytes.chunks(RECORD).next().is_some_and(|first| begins(&first, "TRANS")) {
+        return Some("this is a transmission; one entry is judged, from ENTRY to ENDENTRY".into());
+    }
+    let mut records = bytes.chunks(RECORD);
+    records.find(|record| begins(record, "ENDENTRY"))?;
+    let more = records.filter(|record| begins(record, "ENTRY")).count();
+    (more > 0).then(|| format!("the input holds {} entries; one entry is judged at a time: split it", more + 1))
+}

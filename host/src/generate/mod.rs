@@ -1,0 +1,52 @@
+//! Makes inputs for tests: valid entries of every shape, entries damaged in known and unknown ways, number fields and
+//! decimals. Everything follows from a seed, so that a printed seed brings an input back.
+
+mod damage;
+mod large;
+mod numbers;
+mod sheet;
+
+pub use damage::{damage, noise, random_bytes, Damage, CAUSES};
+pub use large::{large, Shape, SHAPES};
+pub use numbers::{decimal, number_field, spelling};
+pub use sheet::{entry, Kind, Sheet};
+
+/// A small generator of pseudo-random numbers (SplitMix64).
+#[derive(Clone, Debug)]
+pub struct Random(u64);
+
+impl Random {
+    /// The generator of this seed.
+    pub fn seeded(seed: u64) -> Random {
+        Random(seed)
+    }
+
+    /// The next 64 bits.
+    pub fn bits(&mut self) -> u64 {
+        self.0 = self.0.wrapping_add(0x9E37_79B9_7F4A_7C15);
+        let mut bits = self.0;
+        bits = (bits ^ (bits >> 30)).wrapping_mul(0xBF58_476D_1CE4_E5B9);
+        bits = (bits ^ (bits >> 27)).wrapping_mul(0x94D0_49BB_1331_11EB);
+        bits ^ (bits >> 31)
+    }
+
+    /// A number below `end`.
+    pub fn below(&mut self, end: usize) -> usize {
+        (self.bits() % end as u64) as usize
+    }
+
+    /// A number from `first` to `last`.
+    pub fn within(&mut self, first: usize, last: usize) -> usize {
+        first + self.below(last - first + 1)
+    }
+
+    /// True once in `of` times.
+    pub fn once_in(&mut self, of: usize) -> bool {
+        self.below(of) == 0
+    }
+
+    /// One of some things.
+    pub fn one<T: Copy>(&mut self, of: &[T]) -> T {
+        of[self.below(of.len())]
+    }
+}

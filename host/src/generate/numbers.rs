@@ -1,0 +1,85 @@
+//! Number fields in every spelling, fields that are nearly numbers, and decimals to write.
+
+use super::Random;
+use crate::Decimal;
+
+/// Eleven columns that read to some number, in any of the spellings that the paper allows.
+pub fn spelling(random: &mut Random) -> [u8; 11] {
+    let sign = random.one(&["", "", "", "+", "-"]);
+    let (tail, gap, inner) = tail(random);
+    // Sign, point, tail and its blanks take their columns; the digits take some of the rest.
+    let room = 11 - sign.len() - 1 - tail.len() - gap - inner;
+    let digits = random.within(1, room);
+    let before = random.within(0, digits);
+    let mut text: String = (0..digits).map(|_| random.one(&['0', '0', '1', '2', '5', '9', '7'])).collect();
+    text.insert(before, '.');
+    let figures = match tail.strip_prefix('E').filter(|_| inner > 0) {
+        Some(rest) => format!("E{}{rest}", " ".repeat(inner)),
+        None => tail.clone(),
+    };
+    let field = if tail.is_empty() {
+        let lead = random.within(0, room - digits);
+        format!("{:lead$}{sign}{text}{:rest$}", "", "", rest = room - digits - lead)
+    } else {
+        format!("{:lead$}{sign}{text}{:gap$}{figures}", "", "", lead = room - digits)
+    };
+    field.into_bytes().try_into().expect("eleven columns")
+}
+
+/// An exponent or nothing, the blanks before it, and the blanks behind its E.
+fn tail(random: &mut Random) -> (String, usize, usize) {
+    let style = random.below(5);
+    if style < 2 {
+        return (String::new(), 0, 0);
+    }
+    let length = random.one(&[1, 1, 2, 2, 2, 3, 5]);
+    let digits: String = (0..length).map(|_| random.one(&['0', '0', '1', '2', '9'])).collect();
+    let sign = random.one(&["+", "-"]);
+    let gap = if random.once_in(3) { 1 } else { 0 };
+    match style {
+        2 => (format!("{sign}{digits}"), gap, 0),
+        3 => (format!("E{sign}{digits}"), gap, 0),
+        _ => (format!("E{digits}"), gap, random.below(2)),
+    }
+}
+
+/// Eleven columns: a number, a number with one or two columns changed, letters of numbers at random, or blanks.
+pub fn number_field(random: &mut Random) -> [u8; 11] {
+    const LETTERS: &[u8] = b"  +-..E0123456789";
+    const OTHERS: &[u8] = b" +-.E0159eDdNX,:/#\t\n\xB0";
+    let mut field = match random.below(20) {
+        0 => [b' '; 11],
+        1..=3 => std::array::from_fn(|_| random.one(LETTERS)),
+        _ => spelling(random),
+    };
+    for _ in 0..random.one(&[0, 0, 1, 1, 2]) {
+        let among = if random.once_in(3) { OTHERS } else { LETTERS };
+        field[random.below(11)] = random.one(among);
+    }
+    field
+}
+
+/// A decimal to write: short and long, with and without zeros behind, near the edges where a writer may slip.
+pub fn decimal(random: &mut Random) -> Decimal {
+    let coefficient = match random.below(8) {
+        0 => random.bits(),
+        1 => random.one(&[0, 1, 9, 10, 99, 100, 9_999_999_999, 10_000_000_000, u64::MAX]),
+        2 => 10_u64.pow(random.below(20) as u32),
+        _ => random.bits() % 10_u64.pow(random.within(1, 11) as u32),
+    };
+    let power = match random.below(8) {
+        0 => random.bits() as i32,
+        1 => random.one(&[i32::MIN, i32::MAX, -100_000_000, 99_999_999, 100_000_000, -100_000_001, 0]),
+        2 | 3 => {
+            // A power of ten and its neighbours: there the exponent grows by a digit.
+            let edge = 10_i32.pow(random.within(1, 8) as u32) - 12 + random.below(24) as i32;
+            if random.once_in(2) {
+                edge
+            } else {
+                -edge
+            }
+        }
+        _ => random.below(40) as i32 - 20,
+    };
+    Decimal { negative: random.once_in(3), coefficient, power }
+}

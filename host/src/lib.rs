@@ -1,0 +1,50 @@
+//! Reads one EXFOR entry, from ENTRY to ENDENTRY: judges it, answers questions about its tables and passages,
+//! reads and writes number fields, and copies the entry canonically.
+//!
+//! "The paper" is document 01, `Build requirements and exact rules`. Its numbers are kept: a refusal here has the
+//! number that the paper gives it, records, lines and columns count from 1, and an accepted entry has the paper's
+//! four totals. Programs call [`library`]; [`reference`] is a second implementation, written from the paper alone,
+//! which the tests hold against the first.
+//!
+//! ```
+//! use glockenbeacon::{library, Value, Verdict, DATA};
+//!
+//! let entry = std::fs::read("data/sample.x4")?;
+//! match library::judge(&entry) {
+//!     Verdict::Accepted(totals) => assert_eq!(totals.numbers, 6),
+//!     Verdict::Refused(refusal) => panic!("{refusal}"),
+//! }
+//! if let Value::Number(decimal) = library::value(&entry, 2, DATA, 1, 2)? {
+//!     assert_eq!(decimal.to_string(), "0.145");
+//! }
+//! # Ok::<(), Box<dyn std::error::Error>>(())
+//! ```
+
+#![deny(unsafe_code)]
+#![warn(missing_docs)]
+
+pub mod answers;
+#[allow(unsafe_code)]
+pub mod boundary;
+pub mod compare;
+pub mod decimal;
+pub mod differ;
+pub mod explain;
+pub mod generate;
+pub mod json;
+pub mod library;
+pub mod reference;
+pub mod tables;
+pub mod words;
+
+pub use answers::{NoAnswer, Part, Refusal, Totals, Verdict};
+pub use decimal::{Decimal, Value};
+
+/// "A record is 80 columns and one line feed (81 bytes)."
+pub const RECORD: usize = 81;
+
+/// The section number of COMMON in questions: "1 COMMON, 2 DATA".
+pub const COMMON: u32 = 1;
+
+/// The section number of DATA in questions.
+pub const DATA: u32 = 2;

@@ -1,0 +1,72 @@
+//! The calls that programs use. This is the only module that knows who answers them: the archive of proved functions
+//! where it is linked and has the call, and otherwise [`crate::reference`]. [`proved`] says which.
+
+#[cfg(proved)]
+use crate::boundary as archive_or_reference;
+#[cfg(not(proved))]
+use crate::reference as archive_or_reference;
+use crate::{reference, Decimal, NoAnswer, Part, Value, Verdict};
+
+/// Every call, in the order of this module.
+pub const CALLS: [&str; 8] =
+    ["judge", "value", "heading", "unit", "passage", "canonical_copy", "read_number", "write_number"];
+
+/// The calls that the archive of proved functions answers in this build.
+pub fn proved() -> &'static [&'static str] {
+    match cfg!(proved) {
+        true => &["judge", "read_number", "write_number"],
+        false => &[],
+    }
+}
+
+/// The path of the archive that is linked, if one is.
+pub fn archive() -> Option<&'static str> {
+    option_env!("X4_ARCHIVE").filter(|_| cfg!(proved))
+}
+
+/// Who answers, in words.
+pub fn who_answers() -> String {
+    let by_reference: Vec<&str> = CALLS.into_iter().filter(|call| !proved().contains(call)).collect();
+    let list = |calls: &[&str]| if calls.is_empty() { "none".to_string() } else { calls.join(", ") };
+    format!("by proved functions: {}; by the reference: {}", list(proved()), list(&by_reference))
+}
+
+/// Judges one entry, from ENTRY to ENDENTRY.
+pub fn judge(entry: &[u8]) -> Verdict {
+    archive_or_reference::judge(entry)
+}
+
+/// What stands in a column of a line of COMMON (section 1, line 1 only) or DATA (section 2).
+pub fn value(entry: &[u8], subentry: u32, section: u32, line: u32, column: u32) -> Result<Value, NoAnswer> {
+    reference::value(entry, subentry, section, line, column)
+}
+
+/// The heading of a column: ten columns of the entry, and its pointer.
+pub fn heading(entry: &[u8], subentry: u32, section: u32, column: u32) -> Result<Part, NoAnswer> {
+    reference::heading(entry, subentry, section, column)
+}
+
+/// The unit of a column: ten columns of the entry, and the pointer of its heading.
+pub fn unit(entry: &[u8], subentry: u32, section: u32, column: u32) -> Result<Part, NoAnswer> {
+    reference::unit(entry, subentry, section, column)
+}
+
+/// The passage under a keyword (its ten bytes) and a pointer (blank for none): whole records of the entry.
+pub fn passage(entry: &[u8], subentry: u32, keyword: &[u8; 10], pointer: u8) -> Result<Part, NoAnswer> {
+    reference::passage(entry, subentry, keyword, pointer)
+}
+
+/// Writes the canonical copy of the entry to the front of the buffer. Refused, it stores nothing.
+pub fn canonical_copy(entry: &[u8], buffer: &mut [u8]) -> Result<(), NoAnswer> {
+    reference::canonical_copy(entry, buffer)
+}
+
+/// Reads one number field of eleven bytes.
+pub fn read_number(field: &[u8]) -> Result<Value, NoAnswer> {
+    archive_or_reference::read_number(field)
+}
+
+/// Writes the canonical field of a value into eleven bytes. Refused, it stores nothing.
+pub fn write_number(decimal: Decimal, buffer: &mut [u8]) -> Result<(), NoAnswer> {
+    archive_or_reference::write_number(decimal, buffer)
+}

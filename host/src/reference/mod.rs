@@ -1,0 +1,43 @@
+//! A second implementation of the paper, to hold the library against.
+//!
+//! It is written from the paper alone and finds things in another way, so that a slip made in one is unlikely in the
+//! other. The whole entry is first laid out as a tree by nesting and counts. Then each row of the table of refusals
+//! walks the tree by itself and notes all its faults, with sets and maps for what may not occur twice; the verdict is
+//! the least of the noted faults. A number field is taken apart as text, and the canonical field is found by trying
+//! the shapes of fields in the paper's order of preference.
+
+pub mod number;
+pub mod questions;
+pub mod record;
+mod rules;
+pub mod tree;
+
+use crate::{Refusal, Verdict};
+pub use number::{read_number, write_number};
+pub use questions::{canonical_copy, heading, passage, unit, value};
+pub use rules::{identification_due, keyword_total};
+use tree::Tree;
+
+/// "An entry is 1 to 20,000 records."
+const MOST_BYTES: usize = 20_000 * crate::RECORD;
+
+/// Whether the length alone is refused: "length 0, not a multiple of 81, or over 1,620,000".
+fn wrong_length(bytes: &[u8]) -> bool {
+    bytes.is_empty() || bytes.len() > MOST_BYTES || bytes.len() % crate::RECORD != 0
+}
+
+/// Judges one entry.
+pub fn judge(bytes: &[u8]) -> Verdict {
+    if wrong_length(bytes) {
+        return Verdict::Refused(Refusal { number: 1, record: 0, column: 0 });
+    }
+    let tree = Tree::of(bytes);
+    match rules::faults(&tree).iter().min() {
+        None => Verdict::Accepted(rules::totals(&tree)),
+        Some(fault) => Verdict::Refused(Refusal {
+            number: fault.number,
+            record: fault.record as u32 + 1,
+            column: fault.column as u32,
+        }),
+    }
+}

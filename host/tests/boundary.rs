@@ -1,0 +1,156 @@
+//! The same functions called from C, by `include/x4.h`, and from Fortran, by `fortran/x4.f90`.
+
+use glockenbeacon::generate::{self, Random};
+use glockenbeacon::{library, reference, Value};
+use std::ffi::OsString;
+use std::io::Write;
+use std::path::{Path, PathBuf};
+use std::process::{Command, Stdio};
+
+/// Said past the test's own output, which nobody sees when a test passes.
+fn say(words: &str) {
+    std::io::stderr().write_all(format!("{words}\n").as_bytes()).unwrap();
+}
+
+/// Compiles a program with the archive; none if there is no archive or no compiler, which is said.
+fn compiled(compiler: &str, name: &str, arguments: &[&str], sources: &[&str]) -> Option<PathBuf> {
+    let Some(archive) = library::archive() else {
+        say(&format!("no proved archive is linked: {name} was not tried"));
+        return None;
+    };
+    let home = Path::new(env!("CARGO_MANIFEST_DIR"));
+    let program = Path::new(env!("CARGO_TARGET_TMPDIR")).join(name);
+    let sources: Vec<OsString> = sources.iter().map(|source| home.join(source).into_os_string()).collect();
+    let mut command = Command::new(compiler);
+    command.current_dir(home).args(arguments).arg("-o").arg(&program).args(sources).arg(archive);
+    match command.status() {
+        Ok(status) => {
+            assert!(status.success(), "{name} does not compile");
+            Some(program)
+        }
+        Err(_) => {
+            say(&format!("{compiler} is not installed: {name} was not tried"));
+            None
+        }
+    }
+}
+
+/// What a program prints for these lines.
+fn printed(program: &Path, lines: &[String]) -> Vec<String> {
+    let mut child = Command::new(program).stdin(Stdio::piped()).stdout(Stdio::piped()).spawn().unwrap();
+    let mut input = child.stdin.take().unwrap();
+    let text = lines.join("\n") + "\n";
+    let writer = std::thread::spawn(move || input.write_all(text.as_bytes()).unwrap());
+    let output = child.wait_with_output().unwrap();
+    writer.join().unwrap();
+    assert!(output.status.success());
+    String::from_utf8(output.stdout).unwrap().lines().map(str::to_string).collect()
+}
+
+/// The same by the reference.
+fn expected(field: &str) -> String {
+    match reference::read_number(field.as_bytes()) {
+        Ok(Value::Blank) => "blank".into(),
+        Err(refused) => format!("refused {}", refused.number),
+        Ok(Value::Number(decimal)) => {
+            let mut out = *b"###########";
+            let number = reference::write_number(decimal, &mut out).map_or_else(|refused| refused.number, |()| 0);
+            let sign = if decimal.negative { "-" } else { "" };
+            let (coefficient, power) = (decimal.coefficient, decimal.power);
+            format!("{sign}{coefficient}E{power} {number} '{}'", String::from_utf8_lossy(&out))
+        }
+    }
+}
+
+/// Number fields of every kind, some of another length.
+fn fields() -> Vec<String> {
+    let mut random = Random::seeded(8);
+    let given =
+        ["           ", "      .1-99999999", ".1-99999999", "-9999999999", "        -.0", "", "1.", "         14"];
+    let mut fields: Vec<String> = given.map(String::from).to_vec();
+    while fields.len() < 20_000 {
+        let field = generate::number_field(&mut random);
+        if field.iter().all(|byte| (32..127).contains(byte)) {
+            let length = if random.once_in(20) { random.below(11) } else { 11 };
+            fields.push(String::from_utf8_lossy(&field[..length]).to_string());
+        }
+    }
+    fields
+}
+
+fn agree(program: &Path) {
+    let fields = fields();
+    let answers = printed(program, &fields);
+    assert_eq!(answers.len(), fields.len());
+    for (field, answer) in fields.iter().zip(answers) {
+        assert_eq!(answer, expected(field), "{field:?}");
+    }
+}
+
+#[test]
+fn c_programs_get_the_same_answers() {
+    if let Some(program) = compiled("gcc", "numbers-c", &C, &["tests/c/numbers.c"]) {
+        agree(&program);
+    }
+}
+
+#[test]
+fn fortran_programs_get_the_same_answers() {
+    let arguments = ["-std=f2008", "-O2", "-Wall", "-Werror", "-J", env!("CARGO_TARGET_TMPDIR")];
+    if let Some(program) = compiled("gfortran", "numbers-f", &arguments, &["fortran/x4.f90", "fortran/numbers.f90"]) {
+        agree(&program);
+    }
+}
+
+/// Entries of every kind: the sample, damaged ones, the largest, and no entry at all.
+fn entries() -> Vec<Vec<u8>> {
+    let sample = include_bytes!("../data/sample.x4").to_vec();
+    let mut entries = vec![Vec::new(), sample.clone(), sample[..81 * 20].to_vec(), sample[1..].to_vec()];
+    for seed in 0..40 {
+        let mut random = Random::seeded(seed);
+        let mut sheet = generate::entry(&mut random);
+        let _ = generate::damage(&mut random, &mut sheet, seed as usize % generate::CAUSES.len());
+        entries.push(sheet.bytes);
+    }
+    entries.extend(generate::SHAPES.map(|shape| generate::large(&mut Random::seeded(1), shape, 20_000)));
+    entries
+}
+
+/// Both programs print the verdict of a file: one reads it from its standard input, one by its name.
+fn verdicts_agree(program: &Path, name: &str) {
+    for (index, entry) in entries().iter().enumerate() {
+        let file = Path::new(env!("CARGO_TARGET_TMPDIR")).join(format!("{name}-{index}.x4"));
+        std::fs::write(&file, entry).unwrap();
+        let input = std::fs::File::open(&file).unwrap();
+        let output = Command::new(program).arg(&file).stdin(input).output().unwrap();
+        let numbers = reference::judge(entry).numbers().map(|number| number.to_string()).join(" ");
+        assert_eq!(String::from_utf8_lossy(&output.stdout).trim_end(), numbers, "{}", file.display());
+    }
+}
+
+const C: [&str; 7] = ["-std=c11", "-O2", "-Wall", "-Wextra", "-Werror", "-pedantic", "-Iinclude"];
+
+#[test]
+fn c_programs_get_the_same_verdicts() {
+    if let Some(program) = compiled("gcc", "judge-c", &C, &["tests/c/judge.c"]) {
+        verdicts_agree(&program, "c");
+    }
+}
+
+#[test]
+fn fortran_programs_get_the_same_verdicts() {
+    let modules = concat!(env!("CARGO_TARGET_TMPDIR"), "/verdicts");
+    std::fs::create_dir_all(modules).unwrap();
+    let arguments = ["-std=f2008", "-O2", "-Wall", "-Werror", "-J", modules];
+    if let Some(program) = compiled("gfortran", "judge-f", &arguments, &["fortran/x4.f90", "fortran/judge.f90"]) {
+        verdicts_agree(&program, "f");
+    }
+}
+
+#[test]
+fn what_is_proved_is_said() {
+    let proved = library::proved();
+    assert_eq!(proved.is_empty(), library::archive().is_none());
+    assert!(proved.iter().all(|call| library::CALLS.contains(call)));
+    say(&format!("answered {}", library::who_answers()));
+}

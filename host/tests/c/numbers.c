@@ -1,0 +1,25 @@
+/* Reads each line of standard input as a number field and prints what it says; a number is written again. */
+#include "x4.h"
+
+#include <inttypes.h>
+#include <stdio.h>
+#include <string.h>
+
+int main(void) {
+    char line[64];
+    while (fgets(line, sizeof line, stdin)) {
+        size_t length = strcspn(line, "\n");
+        uint64_t word = x4_read_number((const uint8_t *)line, length);
+        if (x4_is_blank(word)) {
+            puts("blank");
+        } else if (!x4_is_number(word)) {
+            printf("refused %" PRIu32 "\n", x4_refusal(word));
+        } else {
+            uint8_t out[11];
+            uint32_t done = x4_write_number((uint32_t)x4_negative(word), x4_coefficient(word), x4_power(word), out, 11);
+            printf("%s%" PRIu64 "E%" PRId32 " %" PRIu32 " '%.11s'\n", x4_negative(word) ? "-" : "", x4_coefficient(word),
+                   x4_power(word), done, (const char *)out);
+        }
+    }
+    return 0;
+}

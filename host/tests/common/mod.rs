@@ -1,0 +1,96 @@
+//! The sample entry of the paper, and ways to change it.
+
+#![allow(dead_code)]
+
+/// The sample as the paper prints it: "blank to column 66, with identification as above and column 80 blank".
+pub const SAMPLE: &str = "\
+ENTRY            90001   20240105
+SUBENT        90001001   20240105
+BIB                  2          2
+TITLE      MADE SAMPLE
+AUTHOR     (A.B.NAME)
+ENDBIB               2
+COMMON               1          3
+EN
+MEV
+14.
+ENDCOMMON            3
+ENDSUBENT            9
+SUBENT        90001002   20240105
+BIB                  1          2
+REACTION  1(26-FE-0(N,EL),,DA)
+          2(26-FE-0(N,INL),,DA)
+ENDBIB               2
+NOCOMMON
+DATA                 3          2
+ANG        DATA      1DATA      2
+ADEG       MB/SR      MB/SR
+10.             1.45-1
+20.        0.14           2.5E 01
+ENDDATA              4
+ENDSUBENT           11
+ENDENTRY             2
+";
+
+/// Lays out lines as records, with the identification that follows from them.
+pub fn entry(text: &str) -> Vec<u8> {
+    let mut bytes = Vec::new();
+    let (mut accession, mut subentry, mut sequence) = (String::new(), "000".to_string(), 0);
+    for line in text.lines() {
+        let line = format!("{line:66}");
+        sequence += 1;
+        let mut shown = sequence;
+        match line[..11].trim() {
+            "ENTRY" => accession = line[17..22].to_string(),
+            "SUBENT" | "NOSUBENT" => {
+                (subentry, sequence, shown) = (line[19..22].to_string(), 1, 1);
+            }
+            "ENDSUBENT" => shown = 99_999,
+            "ENDENTRY" => (subentry, shown) = ("999".into(), 99_999),
+            _ => {}
+        }
+        bytes.extend_from_slice(format!("{line}{accession}{subentry}{shown:05} \n").as_bytes());
+    }
+    bytes
+}
+
+/// The sample as bytes.
+pub fn sample() -> Vec<u8> {
+    entry(SAMPLE)
+}
+
+/// Writes a text into a record from a column on, both counted from 1.
+pub fn put(bytes: &mut [u8], record: usize, column: usize, text: &str) {
+    let first = (record - 1) * 81 + column - 1;
+    bytes[first..first + text.len()].copy_from_slice(text.as_bytes());
+}
+
+/// The sample with one change.
+pub fn changed(record: usize, column: usize, text: &str) -> Vec<u8> {
+    let mut bytes = sample();
+    put(&mut bytes, record, column, text);
+    bytes
+}
+
+/// The sample with some lines replaced before it is laid out.
+pub fn replaced(from: &str, to: &str) -> Vec<u8> {
+    assert!(SAMPLE.contains(from), "{from}");
+    entry(&SAMPLE.replacen(from, to, 1))
+}
+
+/// The sample's DATA replaced by a table of so many columns, two lines, all filled: value `line.column`.
+pub fn wide(columns: usize) -> Vec<u8> {
+    let k = columns.div_ceil(6);
+    let row = |cell: &dyn Fn(usize) -> String| -> String {
+        let cells: Vec<String> = (1..=columns).map(|column| format!("{:11}", cell(column))).collect();
+        cells.chunks(6).map(|group| group.concat() + "\n").collect()
+    };
+    let table = format!("DATA       {columns:>11}          2\n")
+        + &row(&|column| format!("H{column}"))
+        + &row(&|column| format!("U{column}"))
+        + &row(&|column| format!("1.{column:02}"))
+        + &row(&|column| format!("2.{column:02}"))
+        + &format!("ENDDATA    {:>11}\nENDSUBENT  {:>11}\n", 4 * k, 4 * k + 7);
+    let (start, end) = (SAMPLE.find("DATA                 3").unwrap(), SAMPLE.find("ENDENTRY").unwrap());
+    entry(&format!("{}{table}{}", &SAMPLE[..start], &SAMPLE[end..]))
+}

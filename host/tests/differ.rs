@@ -1,0 +1,215 @@
+//! The library beside the reference; and slips planted on purpose, to see that they would be found.
+
+use glockenbeacon::differ::{Implementation, Library, Pair, Reference};
+use glockenbeacon::{reference, Decimal, NoAnswer, Part, Refusal, Totals, Value, Verdict};
+
+/// The short run: a long one is `cargo run --release --bin differ`.
+const SEED: u64 = 7;
+const ENTRIES: u64 = 1_500;
+
+#[test]
+fn the_library_and_the_reference_agree() {
+    let mut pair = Pair::new(&Library, &Reference);
+    let outcome = pair.fields(SEED, 100_000).and_then(|()| pair.decimals(SEED, 100_000));
+    let outcome = outcome.and_then(|()| pair.entries(SEED, ENTRIES));
+    let outcome = outcome.and_then(|()| pair.bytes(include_bytes!("../data/sample.x4"), b" 01A.E\n#"));
+    outcome.unwrap_or_else(|difference| panic!("{difference}"));
+    let counts = pair.counts;
+    assert!((0..=16).all(|number| counts.verdicts.of(number) >= 5), "every refusal occurs:\n{counts}");
+    for number in [0, 31, 32, 33, 34, 35, 36, 37] {
+        assert!(counts.answers.of(number) >= 100, "every answer occurs:\n{counts}");
+    }
+    assert!([0, 15, 40].iter().all(|&number| counts.readings.of(number) >= 1_000), "{counts}");
+    assert!([0, 40, 41].iter().all(|&number| counts.writings.of(number) >= 1_000), "{counts}");
+}
+
+/// A slip is found by the same short run.
+fn found(slip: &dyn Implementation) -> bool {
+    let mut pair = Pair::new(slip, &Reference);
+    let outcome = pair.fields(SEED, 20_000).and_then(|()| pair.decimals(SEED, 20_000));
+    outcome.and_then(|()| pair.entries(SEED, ENTRIES)).is_err()
+}
+
+/// "`1.45-1` taken as 1.45": the exponent overlooked.
+struct ExponentLost;
+
+impl Implementation for ExponentLost {
+    fn read_number(&self, field: &[u8]) -> Result<Value, NoAnswer> {
+        let answer = reference::read_number(field);
+        let text = String::from_utf8_lossy(field).to_string();
+        match text.trim_start().get(1..).and_then(|rest| rest.find(['+', '-', 'E'])) {
+            Some(at) if answer.is_ok() => {
+                let start = text.len() - text.trim_start().len();
+                reference::read_number(format!("{:11}", &text[..start + 1 + at]).as_bytes())
+            }
+            _ => answer,
+        }
+    }
+}
+
+/// "With seven columns, the second record of a line taken as a new point."
+struct RecordsAsLines;
+
+impl Implementation for RecordsAsLines {
+    fn value(&self, entry: &[u8], place: [u32; 4]) -> Result<Value, NoAnswer> {
+        let [subentry, section, line, column] = place;
+        match reference::value(entry, subentry, section, line, column) {
+            Ok(_) if column > 6 => reference::value(entry, subentry, section, line, column - 6),
+            answer => answer,
+        }
+    }
+}
+
+/// "ENDBIB searched for, so a false N2 passes."
+struct EndSearched;
+
+impl Implementation for EndSearched {
+    fn judge(&self, entry: &[u8]) -> Verdict {
+        match reference::judge(entry) {
+            Verdict::Refused(Refusal { number: 4, record, .. })
+                if entry[81 * (record as usize - 1)..].starts_with(b"ENDBIB ") =>
+            {
+                Verdict::Accepted(Totals::default())
+            }
+            verdict => verdict,
+        }
+    }
+}
+
+/// "`0.0` and blank held to be equal."
+struct ZeroAsBlank;
+
+impl Implementation for ZeroAsBlank {
+    fn value(&self, entry: &[u8], place: [u32; 4]) -> Result<Value, NoAnswer> {
+        let [subentry, section, line, column] = place;
+        match reference::value(entry, subentry, section, line, column) {
+            Ok(Value::Number(Decimal::ZERO)) => Ok(Value::Blank),
+            answer => answer,
+        }
+    }
+}
+
+/// "A pointer carried past the next keyword."
+struct PointerCarried;
+
+impl Implementation for PointerCarried {
+    fn passage(&self, entry: &[u8], subentry: u32, keyword: &[u8; 10], pointer: u8) -> Result<Part, NoAnswer> {
+        let answer = reference::passage(entry, subentry, keyword, pointer);
+        match answer {
+            Err(NoAnswer { number: 36, .. }) => reference::passage(entry, subentry, keyword, b' ').or(answer),
+            _ => answer,
+        }
+    }
+}
+
+/// A refusal that is right but for its place.
+struct WrongColumn(u32);
+
+impl Implementation for WrongColumn {
+    fn judge(&self, entry: &[u8]) -> Verdict {
+        match reference::judge(entry) {
+            Verdict::Refused(refusal) if refusal.number == self.0 => {
+                Verdict::Refused(Refusal { column: refusal.column + 11, ..refusal })
+            }
+            verdict => verdict,
+        }
+    }
+}
+
+/// Totals that are made up.
+struct TotalsMadeUp;
+
+impl Implementation for TotalsMadeUp {
+    fn judge(&self, entry: &[u8]) -> Verdict {
+        match reference::judge(entry) {
+            Verdict::Accepted(totals) => Verdict::Accepted(Totals { lines: totals.numbers, ..totals }),
+            verdict => verdict,
+        }
+    }
+}
+
+/// The unit's own eleventh column, which is blank, in place of its heading's pointer.
+struct UnitWithoutPointer;
+
+impl Implementation for UnitWithoutPointer {
+    fn unit(&self, entry: &[u8], [subentry, section, column]: [u32; 3]) -> Result<Part, NoAnswer> {
+        reference::unit(entry, subentry, section, column).map(|part| Part { pointer: b' ', ..part })
+    }
+}
+
+/// A copy that is a plain duplicate.
+struct PlainDuplicate;
+
+impl Implementation for PlainDuplicate {
+    fn canonical_copy(&self, entry: &[u8], buffer: &mut [u8]) -> Result<(), NoAnswer> {
+        reference::canonical_copy(entry, buffer)?;
+        buffer[..entry.len()].copy_from_slice(entry);
+        Ok(())
+    }
+}
+
+/// A copy that stores before it refuses.
+struct StoresFirst;
+
+impl Implementation for StoresFirst {
+    fn canonical_copy(&self, entry: &[u8], buffer: &mut [u8]) -> Result<(), NoAnswer> {
+        let common = entry.len().min(buffer.len());
+        let answer = reference::canonical_copy(entry, buffer);
+        if answer.is_err() {
+            buffer[..common].copy_from_slice(&entry[..common]);
+        }
+        answer
+    }
+}
+
+/// `0.14` written for `.14`: not the fewest columns.
+struct NotShortest;
+
+impl Implementation for NotShortest {
+    fn write_number(&self, decimal: Decimal, buffer: &mut [u8]) -> Result<(), NoAnswer> {
+        reference::write_number(decimal, buffer)?;
+        if let Some(at) = buffer.windows(2).position(|pair| pair == b" .") {
+            buffer[at] = b'0';
+        }
+        Ok(())
+    }
+}
+
+/// `1.+100` written for `10.+99`: as short, but with fewer digits before the point.
+struct FewerDigitsBefore;
+
+impl Implementation for FewerDigitsBefore {
+    fn write_number(&self, decimal: Decimal, buffer: &mut [u8]) -> Result<(), NoAnswer> {
+        reference::write_number(decimal, buffer)?;
+        let text = String::from_utf8_lossy(buffer).to_string();
+        for nines in ["9", "99", "999", "9999"] {
+            if let Some(front) = text.trim().strip_suffix(&format!("0.+{nines}")) {
+                let power = nines.len();
+                buffer.copy_from_slice(format!("{:>11}", format!("{front}.+1{:0>power$}", "")).as_bytes());
+            }
+        }
+        Ok(())
+    }
+}
+
+#[test]
+fn planted_slips_are_found() {
+    let slips: [(&str, &dyn Implementation); 13] = [
+        ("ExponentLost", &ExponentLost),
+        ("RecordsAsLines", &RecordsAsLines),
+        ("EndSearched", &EndSearched),
+        ("ZeroAsBlank", &ZeroAsBlank),
+        ("PointerCarried", &PointerCarried),
+        ("WrongColumn 9", &WrongColumn(9)),
+        ("WrongColumn 14", &WrongColumn(14)),
+        ("TotalsMadeUp", &TotalsMadeUp),
+        ("UnitWithoutPointer", &UnitWithoutPointer),
+        ("PlainDuplicate", &PlainDuplicate),
+        ("StoresFirst", &StoresFirst),
+        ("NotShortest", &NotShortest),
+        ("FewerDigitsBefore", &FewerDigitsBefore),
+    ];
+    for (name, slip) in slips {
+        assert!(found(slip), "{name} goes unseen");
+    }
+}

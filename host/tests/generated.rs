@@ -1,0 +1,249 @@
+//! Generated inputs: entries made valid are accepted, an entry damaged by a known cause gets the refusal that the paper
+//! gives for it, and canonical copies have the properties that the paper asks for.
+
+use glockenbeacon::explain::{explain, shown};
+use glockenbeacon::generate::{self, damage, Kind, Random, Shape, CAUSES, SHAPES};
+use glockenbeacon::library::{canonical_copy, heading, judge, read_number, unit, value, write_number};
+use glockenbeacon::reference::number::{canonical_text, read, Reading};
+use glockenbeacon::tables::tables;
+use glockenbeacon::{Decimal, Refusal, Totals, Value, Verdict, COMMON, DATA};
+use std::collections::{BTreeMap, BTreeSet};
+
+const SEED: u64 = 20_240_105;
+
+#[test]
+fn valid_entries_are_accepted_and_copied() {
+    let mut random = Random::seeded(SEED);
+    for number in 0..1_000 {
+        let sheet = generate::entry(&mut random);
+        let entry = &sheet.bytes;
+        let verdict = judge(entry);
+        assert!(matches!(verdict, Verdict::Accepted(_)), "entry {number} of seed {SEED}: {verdict}");
+        let mut buffer = vec![b'#'; entry.len() + 7];
+        canonical_copy(entry, &mut buffer).expect("an accepted entry is copied");
+        let (copy, tail) = buffer.split_at(entry.len());
+        assert_eq!(tail, b"#######", "bytes past the entry's length stay");
+        assert_eq!(judge(copy), verdict, "the copy is accepted, with the same totals");
+        let mut again = copy.to_vec();
+        canonical_copy(copy, &mut again).expect("a copy is copied");
+        assert_eq!(again, copy, "a copy is its own copy");
+    }
+}
+
+/// Every system record occurs, tables of one to eighteen columns in 001's COMMON, in other COMMONs and in DATA,
+/// pointers on headings, and blanks among values.
+#[test]
+fn every_shape_is_made() {
+    let mut random = Random::seeded(SEED + 9);
+    let (mut names, mut tables, mut pointers, mut blanks) = (BTreeSet::new(), BTreeSet::new(), 0, 0);
+    for _ in 0..2_000 {
+        let sheet = generate::entry(&mut random);
+        for (at, kind) in sheet.kinds.iter().enumerate() {
+            match kind {
+                Kind::System(name) => {
+                    names.insert(*name);
+                    if matches!(*name, "COMMON" | "DATA") {
+                        let columns: usize = String::from_utf8_lossy(sheet.columns(at, 12, 22)).trim().parse().unwrap();
+                        tables.insert((*name, sheet.columns(at, 72, 74) == b"001", columns));
+                    }
+                }
+                Kind::Heading { section: "DATA", .. } => {
+                    pointers += (1..=6).filter(|field| sheet.columns(at, 11 * field, 11 * field) != b" ").count();
+                }
+                Kind::Values { section: "DATA", .. } => blanks += usize::from(sheet.columns(at, 1, 11) == [b' '; 11]),
+                _ => {}
+            }
+        }
+    }
+    assert_eq!(names.len(), 14, "{names:?}");
+    assert_eq!(tables.len(), 3 * 18, "{tables:?}");
+    assert!(pointers > 500 && blanks > 500, "{pointers} pointers, {blanks} blanks");
+}
+
+#[test]
+fn every_cause_gets_its_refusal() {
+    let mut random = Random::seeded(SEED + 1);
+    let mut seen: BTreeMap<&str, usize> = BTreeMap::new();
+    let mut numbers = [0; 17];
+    for round in 0..100 {
+        for cause in 0..CAUSES.len() {
+            let mut sheet = generate::entry(&mut random);
+            let Some(done) = damage(&mut random, &mut sheet, cause) else { continue };
+            let verdict = judge(&sheet.bytes);
+            let text = String::from_utf8_lossy(&sheet.bytes).to_string();
+            assert_eq!(verdict, Verdict::Refused(done.due), "{} (round {round}):\n{text}", done.cause);
+            *seen.entry(done.cause).or_default() += 1;
+            numbers[done.due.number as usize] += 1;
+        }
+    }
+    assert!(CAUSES.iter().all(|(cause, _)| seen.get(cause).is_some_and(|&times| times >= 10)), "{seen:?}");
+    assert!(numbers[1..].iter().all(|&times| times >= 50), "{numbers:?}");
+}
+
+#[test]
+fn refused_entries_are_not_copied() {
+    let mut random = Random::seeded(SEED + 2);
+    for _ in 0..500 {
+        let mut sheet = generate::entry(&mut random);
+        generate::noise(&mut random, &mut sheet);
+        let mut buffer = vec![b'#'; sheet.bytes.len()];
+        let copied = canonical_copy(&sheet.bytes, &mut buffer);
+        match judge(&sheet.bytes) {
+            Verdict::Accepted(_) => assert_eq!(copied, Ok(())),
+            Verdict::Refused(refusal) => {
+                let answer = copied.expect_err("a refused entry has no copy");
+                assert_eq!((answer.number, answer.entry), (31, Some(refusal)));
+                assert!(buffer.iter().all(|&byte| byte == b'#'), "a refused call stores nothing");
+                assert_eq!(value(&sheet.bytes, 1, 1, 1, 1), Err(answer));
+            }
+        }
+    }
+}
+
+#[test]
+fn random_bytes_are_refused() {
+    let mut random = Random::seeded(SEED + 3);
+    for _ in 0..5_000 {
+        let bytes = generate::random_bytes(&mut random);
+        let whole = !bytes.is_empty() && bytes.len() % 81 == 0;
+        match judge(&bytes) {
+            Verdict::Refused(Refusal { number: 1, record: 0, column: 0 }) => assert!(!whole),
+            Verdict::Refused(refusal) => assert!(whole && refusal.record >= 1),
+            Verdict::Accepted(_) => panic!("accepted: {bytes:?}"),
+        }
+    }
+}
+
+#[test]
+fn a_number_field_and_its_canonical_field_read_alike() {
+    let mut random = Random::seeded(SEED + 4);
+    for _ in 0..100_000 {
+        let field = generate::spelling(&mut random);
+        let text = String::from_utf8_lossy(&field).to_string();
+        let Ok(Value::Number(decimal)) = read_number(&field) else { panic!("{text:?} is no number") };
+        let mut canonical = [0; 11];
+        write_number(decimal, &mut canonical).unwrap_or_else(|refused| panic!("{text:?}: {refused}"));
+        assert_eq!(read_number(&canonical), Ok(Value::Number(decimal)), "{text:?}");
+        let columns = |field: &[u8]| String::from_utf8_lossy(field).trim().len();
+        assert!(columns(&canonical) <= columns(&field), "{text:?}");
+    }
+}
+
+#[test]
+fn a_decimal_is_written_or_refused() {
+    let mut random = Random::seeded(SEED + 5);
+    let mut refused = 0;
+    for _ in 0..100_000 {
+        let decimal = generate::decimal(&mut random);
+        let mut field = [b'#'; 11];
+        match write_number(decimal, &mut field) {
+            Ok(()) => assert_eq!(read_number(&field).ok(), decimal.normal().map(Value::Number), "{decimal:?}"),
+            Err(answer) => {
+                refused += 1;
+                assert_eq!((answer.number, field), (41, [b'#'; 11]), "{decimal:?}");
+            }
+        }
+    }
+    assert!((10_000..90_000).contains(&refused), "{refused} refused");
+}
+
+/// Large entries, up to the limits of the paper: the totals follow from the shape.
+#[test]
+fn large_entries_are_accepted() {
+    let mut random = Random::seeded(SEED + 8);
+    for records in [1_000, 5_000, 20_000] {
+        for shape in SHAPES {
+            let entry = generate::large(&mut random, shape, records);
+            let had = (entry.len() / 81) as u32;
+            assert!(had <= records as u32 && had + 1_000 > records as u32, "{shape:?}: {had} records");
+            let Verdict::Accepted(totals) = judge(&entry) else { panic!("{shape:?}: {}", judge(&entry)) };
+            let expected = match shape {
+                Shape::Text => Totals { subentries: 1, keywords: (had - 7).div_ceil(500), lines: 0, numbers: 0 },
+                Shape::Keywords => Totals { subentries: 1, keywords: had - 7, lines: 0, numbers: 0 },
+                Shape::Table => {
+                    let lines = (had - 18) / 3;
+                    Totals { subentries: 2, keywords: 0, lines, numbers: 18 * lines }
+                }
+                Shape::Subentries => {
+                    let lines = had - 6 - 8 * (totals.subentries - 1);
+                    Totals { subentries: totals.subentries, keywords: 0, lines, numbers: 4 * lines }
+                }
+            };
+            assert_eq!(totals, expected, "{shape:?}, {had} records");
+        }
+    }
+    let entry = generate::large(&mut random, Shape::Subentries, 20_000);
+    assert_eq!(judge(&entry).numbers()[3], 998, "as many subentries as there may be");
+}
+
+/// The tables of an entry say what its questions answer.
+#[test]
+fn tables_and_questions_agree() {
+    let mut random = Random::seeded(SEED + 6);
+    for _ in 0..60 {
+        let entry = generate::entry(&mut random).bytes;
+        for table in tables(&entry).expect("a valid entry has tables") {
+            let subentry: u32 = table.subentry[5..].parse().unwrap();
+            let section = if table.section == "COMMON" { COMMON } else { DATA };
+            for (index, column) in table.columns.iter().enumerate() {
+                let number = index as u32 + 1;
+                let heading = heading(&entry, subentry, section, number).unwrap();
+                let unit = unit(&entry, subentry, section, number).unwrap();
+                assert_eq!(heading.of(&entry), format!("{:10}", column.heading).as_bytes());
+                assert_eq!(unit.of(&entry), format!("{:10}", column.unit).as_bytes());
+                assert_eq!(char::from(heading.pointer), column.pointer.unwrap_or(' '));
+                for (line, values) in table.lines.iter().enumerate() {
+                    assert_eq!(value(&entry, subentry, section, line as u32 + 1, number), Ok(values[index]));
+                }
+            }
+        }
+    }
+}
+
+/// Every refusal has words, and its record can be shown.
+#[test]
+fn refusals_are_explained() {
+    let mut random = Random::seeded(SEED + 7);
+    for round in 0..4_000 {
+        let mut sheet = generate::entry(&mut random);
+        match round % 2 {
+            0 => _ = damage(&mut random, &mut sheet, round / 2 % CAUSES.len()),
+            _ => generate::noise(&mut random, &mut sheet),
+        }
+        if let Verdict::Refused(refusal) = judge(&sheet.bytes) {
+            let words = explain(&sheet.bytes, &refusal);
+            assert!(!words.expected.is_empty() && !words.found.is_empty(), "{refusal}: {words:?}");
+            assert_eq!(shown(&sheet.bytes, &refusal).is_some(), !matches!(refusal.number, 1 | 16));
+        }
+    }
+}
+
+/// "Of all fields reading to the value": at widths where all strings can be tried, they are.
+#[test]
+fn the_canonical_field_is_the_best_of_all() {
+    const LETTERS: &[u8; 15] = b" +-.E0123456789";
+    for width in 1..=5 {
+        let mut best: BTreeMap<(bool, u64, i32), Vec<Vec<u8>>> = BTreeMap::new();
+        for code in 0..15_usize.pow(width as u32) {
+            let field: Vec<u8> = (0..width).map(|place| LETTERS[code / 15_usize.pow(place as u32) % 15]).collect();
+            if let Reading::Number(Decimal { negative, coefficient, power }) = read(&field) {
+                best.entry((negative, coefficient, power)).or_default().push(field);
+            }
+        }
+        for ((negative, coefficient, power), mut fields) in best {
+            let rank = |field: &Vec<u8>| {
+                let text = String::from_utf8_lossy(field).to_string();
+                let shown = text.trim();
+                let body = shown.trim_start_matches(['+', '-']);
+                let exponent = body.contains(['+', '-', 'E', ' ']);
+                let before = body.find('.').expect("a point");
+                (shown.len(), exponent, shown.contains('E'), usize::MAX - before, usize::MAX - text.trim_end().len())
+            };
+            fields.sort_by_key(rank);
+            let winner = String::from_utf8_lossy(&fields[0]).to_string();
+            assert!(fields.len() == 1 || rank(&fields[0]) < rank(&fields[1]), "{winner} is not alone");
+            let written = canonical_text(Decimal { negative, coefficient, power }, width).expect("a field reads to it");
+            assert_eq!(format!("{written:>width$}"), winner);
+        }
+    }
+}

@@ -1,0 +1,383 @@
+//! What the paper says of its sample entry and its numbers. The expectations are worked out by hand.
+
+mod common;
+
+use common::{changed, entry, put, replaced, sample, wide, SAMPLE};
+use glockenbeacon::library::{canonical_copy, heading, judge, passage, read_number, unit, value, write_number};
+use glockenbeacon::{Decimal, NoAnswer, Part, Refusal, Value, COMMON, DATA};
+
+/// The seven numbers as the judging program prints them.
+fn judged(bytes: &[u8]) -> String {
+    judge(bytes).numbers().map(|number| number.to_string()).join(" ")
+}
+
+#[test]
+fn the_sample_is_accepted() {
+    assert_eq!(judged(&sample()), "0 0 0 2 3 2 6");
+    let file = concat!(env!("CARGO_MANIFEST_DIR"), "/data/sample.x4");
+    assert_eq!(std::fs::read(file).expect("the sample as a file"), sample());
+}
+
+/// "Run, not proved: the sample with 18 and 19 columns, N2 one too many, pointer 3 on a heading, `1.5E`."
+#[test]
+fn the_run_list() {
+    assert_eq!(judged(&wide(18)), "0 0 0 2 3 2 37");
+    assert_eq!(judged(&wide(19)), "8 19 12 0 0 0 0");
+    assert_eq!(judged(&changed(3, 33, "3")), "4 6 1 0 0 0 0");
+    assert_eq!(judged(&changed(7, 33, "4")), "8 7 23 0 0 0 0");
+    assert_eq!(judged(&changed(19, 33, "3")), "4 24 1 0 0 0 0");
+    assert_eq!(judged(&changed(20, 33, "3")), "14 20 23 0 0 0 0");
+    assert_eq!(judged(&changed(22, 12, "       1.5E")), "15 22 12 0 0 0 0");
+}
+
+/// Changes of one place of the sample: record, column, text, and the verdict.
+#[test]
+fn small_changes() {
+    for (record, column, text, verdict) in [
+        // Length, characters.
+        (1, 81, " ", "2 1 81 0 0 0 0"),
+        (26, 81, "X", "2 26 81 0 0 0 0"),
+        (5, 40, "#", "3 5 40 0 0 0 0"),
+        (5, 80, "[", "3 5 80 0 0 0 0"),
+        (5, 80, "&", "0 0 0 2 3 2 6"),
+        // Nesting.
+        (1, 1, "entry", "4 1 1 0 0 0 0"),
+        (2, 1, "NOSUBENT", "4 2 1 0 0 0 0"),
+        (2, 1, "ENDENTRY", "4 2 1 0 0 0 0"),
+        (5, 1, "DATA      1", "0 0 0 2 3 2 6"),
+        (5, 1, "DATA       ", "4 5 1 0 0 0 0"),
+        (6, 11, "1", "4 6 1 0 0 0 0"),
+        (20, 1, "DATA       ", "0 0 0 2 3 2 6"),
+        (20, 1, "ENDDATA    ", "4 20 1 0 0 0 0"),
+        (20, 1, "ENDDATA1   ", "0 0 0 2 3 2 6"),
+        (20, 1, "ENDDATA   1", "0 0 0 2 3 2 6"),
+        (21, 1, "ENDBIB     ", "4 21 1 0 0 0 0"),
+        (22, 1, "DATA       ", "15 22 1 0 0 0 0"),
+        // Identification and sequence.
+        (1, 72, "001", "5 1 67 0 0 0 0"),
+        (4, 67, "90002", "5 4 67 0 0 0 0"),
+        (12, 72, "002", "5 12 67 0 0 0 0"),
+        (13, 15, "90002", "5 13 67 0 0 0 0"),
+        (26, 72, "000", "5 26 67 0 0 0 0"),
+        (4, 75, "    3", "6 4 75 0 0 0 0"),
+        (12, 75, "00011", "6 12 75 0 0 0 0"),
+        // Forms and counts.
+        (1, 17, "0", "7 1 12 0 0 0 0"),
+        (1, 23, "   20241305", "7 1 23 0 0 0 0"),
+        (1, 23, "   20240132", "7 1 23 0 0 0 0"),
+        (1, 23, "   00000230", "0 0 0 2 3 2 6"),
+        (3, 12, "          0          X", "7 3 23 0 0 0 0"),
+        (3, 23, "           ", "7 3 23 0 0 0 0"),
+        (3, 12, "0000000000200000000002", "0 0 0 2 3 2 6"),
+        (3, 12, "          3          2", "8 3 23 0 0 0 0"),
+        (3, 12, "99999999999          2", "8 3 23 0 0 0 0"),
+        (3, 12, "          2 4294967298", "4 6 1 0 0 0 0"),
+        (14, 12, "          2", "8 17 12 0 0 0 0"),
+        (6, 12, "          1", "8 6 12 0 0 0 0"),
+        (6, 12, " 4294967298", "8 6 12 0 0 0 0"),
+        (12, 12, "         10", "8 12 12 0 0 0 0"),
+        (26, 12, "          1", "8 26 12 0 0 0 0"),
+        (19, 23, "      20001", "8 19 23 0 0 0 0"),
+        (19, 23, "      20000", "4 24 1 0 0 0 0"),
+        (19, 23, "          0", "8 19 23 0 0 0 0"),
+        (18, 12, "anything? at all!", "0 0 0 2 3 2 6"),
+        // Keywords and pointers of BIB.
+        (4, 1, "          ", "10 4 1 0 0 0 0"),
+        (4, 1, " TITLE", "10 4 1 0 0 0 0"),
+        (5, 1, "TITLE ", "10 5 1 0 0 0 0"),
+        (5, 1, "      ", "8 6 12 0 0 0 0"),
+        (16, 11, "1", "11 16 11 0 0 0 0"),
+        (16, 11, "0", "11 16 11 0 0 0 0"),
+        (16, 11, "a", "11 16 11 0 0 0 0"),
+        // Headings and units.
+        (20, 1, "EN ", "13 20 1 0 0 0 0"),
+        (20, 1, "EN        1", "0 0 0 2 3 2 6"),
+        (20, 33, "1", "13 20 23 0 0 0 0"),
+        (20, 33, "A", "14 20 23 0 0 0 0"),
+        (20, 33, " ", "0 0 0 2 3 2 6"),
+        (20, 44, "1", "12 20 34 0 0 0 0"),
+        (20, 12, "A B", "12 20 12 0 0 0 0"),
+        (21, 1, "    ", "12 21 1 0 0 0 0"),
+        (21, 22, "1", "12 21 12 0 0 0 0"),
+        (21, 66, "X", "12 21 56 0 0 0 0"),
+        // Values.
+        (10, 1, "   ", "15 10 1 0 0 0 0"),
+        (10, 12, "1.", "15 10 12 0 0 0 0"),
+        (22, 1, "                      ", "15 22 1 0 0 0 0"),
+        (22, 34, "1.", "15 22 34 0 0 0 0"),
+        (23, 1, "0.0", "0 0 0 2 3 2 6"),
+        (23, 1, "   ", "0 0 0 2 3 2 5"),
+    ] {
+        assert_eq!(judged(&changed(record, column, text)), verdict, "record {record}, column {column}: {text:?}");
+    }
+}
+
+/// Changes of several places.
+#[test]
+fn larger_changes() {
+    let mut bytes = changed(20, 1, " ANG");
+    put(&mut bytes, 20, 33, "0");
+    assert_eq!(judged(&bytes), "11 20 33 0 0 0 0", "11 comes before 12 wherever they stand");
+    let mut bytes = changed(22, 1, "                      ");
+    put(&mut bytes, 22, 60, "1.");
+    assert_eq!(judged(&bytes), "15 22 1 0 0 0 0");
+    assert_eq!(judged(&replaced("SUBENT        90001001", "SUBENT        90001002")), "9 2 12 0 0 0 0");
+    let other = replaced("SUBENT        90001002", "SUBENT        90002002");
+    assert_eq!(judged(&other), "5 13 67 0 0 0 0");
+    let mut other = changed(13, 15, "90002");
+    put(&mut other, 13, 67, "90002");
+    assert_eq!(judged(&other), "9 13 12 0 0 0 0");
+    for (number, verdict) in [("999", "9 13 12 0 0 0 0"), ("998", "0 0 0 2 3 2 6"), ("001", "9 13 12 0 0 0 0")] {
+        assert_eq!(judged(&replaced("90001002", &format!("90001{number}"))), verdict);
+    }
+    let absent = "NOSUBENT      90001003   20240105\nENDENTRY             3";
+    assert_eq!(judged(&replaced("ENDENTRY             2", absent)), "0 0 0 3 3 2 6");
+    assert_eq!(judged(&replaced("ENDENTRY             2", &absent.replace("  3", "  2"))), "8 27 12 0 0 0 0");
+    assert_eq!(judged(&replaced("ENDENTRY             2", &absent.replace("20240105", ""))), "7 26 23 0 0 0 0");
+}
+
+#[test]
+fn lengths() {
+    let mut bytes = sample();
+    assert_eq!(judged(&bytes[..25 * 81]), "16 26 0 0 0 0 0");
+    assert_eq!(judged(&bytes[..81]), "16 2 0 0 0 0 0");
+    assert_eq!(judged(&[]), "1 0 0 0 0 0 0");
+    assert_eq!(judged(&bytes[..26 * 81 - 1]), "1 0 0 0 0 0 0", "the last line feed is missing");
+    bytes.extend_from_slice(&sample()[..81]);
+    assert_eq!(judged(&bytes), "4 27 1 0 0 0 0");
+    let longest = |records: usize| {
+        let text = "\n".repeat(records - 26);
+        let counts = SAMPLE
+            .replace("2          2\nTITLE", &format!("2 {:10}\nTITLE", records - 24))
+            .replace("ENDBIB               2\nCOMMON", &format!("ENDBIB     {:11}\nCOMMON", records - 24))
+            .replace("ENDSUBENT            9", &format!("ENDSUBENT  {:11}", records - 17));
+        entry(&counts.replace("TITLE      MADE SAMPLE\n", &format!("TITLE      MADE SAMPLE\n{text}")))
+    };
+    assert_eq!(judged(&longest(20_000)), "0 0 0 2 3 2 6", "20,000 records are allowed");
+    assert_eq!(judged(&longest(20_001)), "1 0 0 0 0 0 0");
+}
+
+fn number(negative: bool, coefficient: u64, power: i32) -> Result<Value, NoAnswer> {
+    Ok(Value::Number(Decimal { negative, coefficient, power }))
+}
+
+fn refused<T>(number: u32) -> Result<T, NoAnswer> {
+    Err(NoAnswer { number, entry: None })
+}
+
+#[test]
+fn values_of_the_sample() {
+    let bytes = sample();
+    assert_eq!(value(&bytes, 1, COMMON, 1, 1), number(false, 14, 0));
+    assert_eq!(value(&bytes, 2, DATA, 1, 1), number(false, 1, 1));
+    assert_eq!(value(&bytes, 2, DATA, 1, 2), number(false, 145, -3));
+    assert_eq!(value(&bytes, 2, DATA, 1, 3), Ok(Value::Blank));
+    assert_eq!(value(&bytes, 2, DATA, 2, 3), number(false, 25, 0));
+    assert_eq!(value(&changed(23, 12, "0.0 "), 2, DATA, 2, 2), Ok(Value::Number(Decimal::ZERO)), "zero is not blank");
+    for (subentry, section, line, column, refusal) in [
+        (0, 1, 1, 1, 32),
+        (3, 9, 9, 9, 32),
+        (1002, 2, 1, 1, 32),
+        (1, DATA, 1, 1, 33),
+        (2, COMMON, 1, 1, 33),
+        (2, 0, 0, 0, 33),
+        (2, 3, 1, 1, 33),
+        (1, COMMON, 2, 99, 34),
+        (2, DATA, 0, 0, 34),
+        (2, DATA, 3, 1, 34),
+        (2, DATA, 2, 0, 35),
+        (2, DATA, 2, 4, 35),
+        (2, DATA, 2, u32::MAX, 35),
+    ] {
+        assert_eq!(value(&bytes, subentry, section, line, column), refused(refusal));
+    }
+    let entry = Some(Refusal { number: 16, record: 26, column: 0 });
+    assert_eq!(value(&bytes[..25 * 81], 9, 9, 9, 9), Err(NoAnswer { number: 31, entry }));
+    let absent = replaced("ENDENTRY             2", "NOSUBENT      90001003   20240105\nENDENTRY             3");
+    assert_eq!(value(&absent, 3, DATA, 1, 1), refused(32), "NOSUBENT has no tables");
+}
+
+#[test]
+fn headings_and_units_of_the_sample() {
+    let bytes = sample();
+    let part = heading(&bytes, 2, DATA, 2).unwrap();
+    assert_eq!(part, Part { offset: 19 * 81 + 11, length: 10, pointer: b'1' });
+    assert_eq!(part.of(&bytes), b"DATA      ");
+    let part = unit(&bytes, 2, DATA, 3).unwrap();
+    assert_eq!(part, Part { offset: 20 * 81 + 22, length: 10, pointer: b'2' }, "the heading's pointer beside a unit");
+    assert_eq!(part.of(&bytes), b"MB/SR     ");
+    assert_eq!(heading(&bytes, 1, COMMON, 1).map(|part| part.pointer), Ok(b' '));
+    assert_eq!(heading(&bytes, 2, DATA, 4), refused(35));
+    assert_eq!(unit(&bytes, 2, DATA, 0), refused(35));
+    assert_eq!(heading(&bytes, 2, 3, 1), refused(33));
+    assert_eq!(unit(&bytes, 3, 3, 0), refused(32));
+}
+
+#[test]
+fn passages_of_the_sample() {
+    let bytes = sample();
+    let records =
+        |first: usize, count: usize, pointer: u8| Ok(Part { offset: first * 81, length: count * 81, pointer });
+    assert_eq!(passage(&bytes, 2, b"REACTION  ", b'1'), records(14, 1, b'1'));
+    assert_eq!(passage(&bytes, 2, b"REACTION  ", b'2'), records(15, 1, b'2'));
+    assert_eq!(passage(&bytes, 2, b"REACTION  ", b' '), refused(36), "its record bears pointer 1");
+    assert_eq!(passage(&bytes, 1, b"AUTHOR    ", b' '), records(4, 1, b' '));
+    assert_eq!(passage(&bytes, 2, b"AUTHOR    ", b' '), refused(36), "001's passages are 001's");
+    assert_eq!(passage(&bytes, 1, b"          ", b' '), refused(36));
+    assert_eq!(passage(&bytes, 3, b"AUTHOR    ", b' '), refused(32));
+    let without = entry(&SAMPLE.replace(
+        "BIB                  2          2\nTITLE      MADE SAMPLE\nAUTHOR     (A.B.NAME)\nENDBIB               2",
+        "NOBIB",
+    ).replace("ENDSUBENT            9", "ENDSUBENT            6"));
+    assert_eq!(passage(&without, 1, b"AUTHOR    ", b' '), refused(33));
+    // "A pointer carried past the next keyword" is a reading that only looks right.
+    let text = "REACTION  1(A)\n           more\n          2(B)\nSTATUS     (C)\n           more";
+    let bytes = entry(
+        &SAMPLE
+            .replace("REACTION  1(26-FE-0(N,EL),,DA)\n          2(26-FE-0(N,INL),,DA)", text)
+            .replace("BIB                  1          2", "BIB                  2          5")
+            .replace("ENDBIB               2\nNOCOMMON", "ENDBIB               5\nNOCOMMON")
+            .replace("ENDSUBENT           11", "ENDSUBENT           14"),
+    );
+    assert_eq!(judged(&bytes), "0 0 0 2 4 2 6");
+    assert_eq!(passage(&bytes, 2, b"REACTION  ", b'1'), records(14, 2, b'1'));
+    assert_eq!(passage(&bytes, 2, b"REACTION  ", b'2'), records(16, 1, b'2'));
+    assert_eq!(passage(&bytes, 2, b"STATUS    ", b' '), records(17, 2, b' '));
+    assert_eq!(passage(&bytes, 2, b"STATUS    ", b'2'), refused(36));
+}
+
+/// With seven columns, the second record of a line is no new point.
+#[test]
+fn tables_of_several_records_to_a_line() {
+    for (columns, numbers) in [(7_u32, 15), (12, 25), (18, 37)] {
+        let bytes = wide(columns as usize);
+        let k = columns.div_ceil(6) as usize;
+        assert_eq!(judged(&bytes), format!("0 0 0 2 3 2 {numbers}"));
+        for line in 1..=2 {
+            for column in 1..=columns {
+                let (tens, ones) = (column / 10, column % 10);
+                let mut expected =
+                    Decimal { negative: false, coefficient: u64::from(100 * line + 10 * tens + ones), power: -2 };
+                while expected.coefficient % 10 == 0 {
+                    expected =
+                        Decimal { coefficient: expected.coefficient / 10, power: expected.power + 1, ..expected };
+                }
+                assert_eq!(value(&bytes, 2, DATA, line, column), Ok(Value::Number(expected)));
+            }
+        }
+        assert_eq!(value(&bytes, 2, DATA, 3, 1), refused(34));
+        assert_eq!(value(&bytes, 2, DATA, 1, columns + 1), refused(35));
+        let last = (columns - 1) as usize;
+        let offset = (19 + last / 6) * 81 + 11 * (last % 6);
+        assert_eq!(heading(&bytes, 2, DATA, columns), Ok(Part { offset, length: 10, pointer: b' ' }));
+        assert_eq!(unit(&bytes, 2, DATA, columns).map(|part| part.offset), Ok(offset + k * 81));
+    }
+}
+
+/// "Marked to be proved, this paragraph (right-adjusted unless shown)": field, value, canonical field.
+#[test]
+fn the_marked_numbers() {
+    for (field, coefficient, power, canonical) in [
+        ("0.14", 14, -2, ".14"),
+        ("1.45-1", 145, -3, ".145"),
+        ("1.40 E 00", 14, -1, "1.4"),
+        ("1000.", 1, 3, "1.+3"),
+        ("100.", 1, 2, "100."),
+        ("1.-3", 1, -3, ".001"),
+        ("1.+100", 1, 100, "10.+99"),
+        ("-.0", 0, 0, "0."),
+        (".12345678-9", 12_345_678, -17, ".12345678-9"),
+        (".1-99999999", 1, -100_000_000, ".1-99999999"),
+    ] {
+        let field = format!("{field:>11}");
+        assert_eq!(read_number(field.as_bytes()), number(false, coefficient, power), "{field}");
+        let mut written = [0; 11];
+        write_number(Decimal { negative: false, coefficient, power }, &mut written).unwrap();
+        assert_eq!(String::from_utf8_lossy(&written), format!("{canonical:>11}"));
+    }
+    for field in ["         14", "          .", "       + 1.", "     1.4-1 ", "       1.5E"] {
+        assert_eq!(read_number(field.as_bytes()), refused(15), "{field}");
+    }
+    assert_eq!(read_number(b"           "), Ok(Value::Blank));
+    assert_eq!(read_number(b"1."), refused(40));
+    assert_eq!(read_number(b""), refused(40));
+    for (coefficient, power) in [(12_345_678_901, 0), (1, 100_000_000), (10_000_000_000_000_000_000, i32::MAX)] {
+        let mut written = [b'#'; 11];
+        assert_eq!(write_number(Decimal { negative: false, coefficient, power }, &mut written), refused(41));
+        assert_eq!(written, [b'#'; 11], "a refused call stores nothing");
+    }
+    let mut short = [b'#'; 10];
+    assert_eq!(
+        write_number(Decimal { negative: false, coefficient: 12_345_678_901, power: 0 }, &mut short),
+        refused(40)
+    );
+    assert_eq!(short, [b'#'; 10]);
+}
+
+/// Spellings that are told apart by a hair.
+#[test]
+fn spellings() {
+    for (field, coefficient, power) in [
+        ("1.         ", 1, 0),
+        ("     +1.   ", 1, 0),
+        ("   1.40 -01", 14, -2),
+        ("     1.E+05", 1, 5),
+        ("      1.E 5", 1, 5),
+        (" 1.  E    5", 1, 5),
+        ("0.+99999999", 0, 0),
+        ("00000000.10", 1, -1),
+        ("9999999999.", 9_999_999_999, 0),
+        ("1.-00000003", 1, -3),
+    ] {
+        assert_eq!(read_number(field.as_bytes()), number(false, coefficient, power), "{field}");
+    }
+    for field in [
+        "1.4E -1", "1. 5", "1.4e1", "1.4D1", "1.2.3", "+ .1", "1.+", "1.E", "1.E+", "1.E+ 1", "1.- 1", "E1", "1.5 5",
+        "--1.", "+-1.", "1", "-", "1.E++1", "1.EE1", "\t1.", "1.\n",
+    ] {
+        assert_eq!(read_number(format!("{field:>11}").as_bytes()), refused(15), "{field}");
+    }
+}
+
+/// Where the exponent grows by a digit, and where plain and exponent are equally long.
+#[test]
+fn canonical_fields_at_the_edges() {
+    for (negative, coefficient, power, canonical) in [
+        (false, 1, 10, "10.+9"),
+        (false, 12, 100, "120.+99"),
+        (false, 1, 11, "1.+11"),
+        (false, 1, -4, "1.-4"),
+        (false, 1, -10, ".1-9"),
+        (false, 1, -11, "1.-11"),
+        (false, 99, -11, ".99-9"),
+        (false, 99, -12, "99.-12"),
+        (true, 25, 0, "-25."),
+        (true, 1, -3, "-.001"),
+        (false, 9_999_999_999, 0, "9999999999."),
+        (false, 10, -100_000_001, ".1-99999999"),
+        (true, 0, 77, "0."),
+    ] {
+        let mut written = [0; 11];
+        write_number(Decimal { negative, coefficient, power }, &mut written).unwrap();
+        assert_eq!(String::from_utf8_lossy(&written), format!("{canonical:>11}"), "{coefficient}E{power}");
+    }
+}
+
+#[test]
+fn the_copy_of_the_sample() {
+    let bytes = sample();
+    let mut buffer = vec![b'#'; bytes.len() + 3];
+    assert_eq!(canonical_copy(&bytes, &mut buffer), Ok(()));
+    let (copy, tail) = buffer.split_at(bytes.len());
+    assert_eq!(tail, b"###");
+    let mut expected = sample();
+    put(&mut expected, 10, 1, "        14.");
+    put(&mut expected, 22, 1, "        10.       .145           ");
+    put(&mut expected, 23, 1, "        20.        .14        25.");
+    assert_eq!(copy, expected);
+    let mut short = vec![b'#'; bytes.len() - 1];
+    assert_eq!(canonical_copy(&bytes, &mut short), refused(37));
+    assert!(short.iter().all(|&byte| byte == b'#'));
+    let entry = Some(Refusal { number: 1, record: 0, column: 0 });
+    assert_eq!(canonical_copy(&[], &mut short), Err(NoAnswer { number: 31, entry }));
+}

@@ -1,0 +1,254 @@
+//! What x4 prints, and how it ends.
+
+mod common;
+
+use common::{changed, sample, wide};
+use std::io::Write;
+use std::path::PathBuf;
+use std::process::{Command, Output, Stdio};
+
+fn run(arguments: &[&str], input: &[u8]) -> Output {
+    let mut command = Command::new(env!("CARGO_BIN_EXE_x4"));
+    let streams = command.args(arguments).stdin(Stdio::piped()).stdout(Stdio::piped()).stderr(Stdio::piped());
+    let mut child = streams.spawn().unwrap();
+    let mut pipe = child.stdin.take().unwrap();
+    let input = input.to_vec();
+    let writer = std::thread::spawn(move || drop(pipe.write_all(&input)));
+    let output = child.wait_with_output().unwrap();
+    writer.join().unwrap();
+    output
+}
+
+fn printed(output: &Output) -> String {
+    String::from_utf8(output.stdout.clone()).unwrap()
+}
+
+fn complained(output: &Output) -> String {
+    String::from_utf8(output.stderr.clone()).unwrap()
+}
+
+/// Writes a file for one test.
+fn file(name: &str, content: &[u8]) -> String {
+    let path = PathBuf::from(env!("CARGO_TARGET_TMPDIR")).join(name);
+    std::fs::write(&path, content).unwrap();
+    path.to_str().unwrap().to_string()
+}
+
+#[test]
+fn a_good_entry_is_judged() {
+    let output = run(&["judge"], &sample());
+    let words = "0 0 0 2 3 2 6\naccepted: 2 subentries, 3 keywords, 2 DATA lines, 6 numbers\n";
+    assert_eq!((printed(&output).as_str(), output.status.code()), (words, Some(0)));
+    assert_eq!(printed(&run(&["judge", "-"], &sample())), words);
+    assert_eq!(complained(&output), "");
+}
+
+#[test]
+fn a_bad_entry_is_shown_with_a_mark() {
+    let output = run(&["judge"], &changed(22, 12, "       1.5E"));
+    let words = "\
+15 22 12 0 0 0 0
+refusal 15, record 22, column 12: the value is malformed, or blank where it may not be
+  22 | 10.               1.5E                                            9000100200010
+     |            ^~~~~~~~~~~
+  expected: a number: blanks, a sign or none, digits with one point; then blanks, or an exponent that ends the field: \
+a sign and digits, or E and digits
+  found:    '       1.5E'
+";
+    assert_eq!((printed(&output).as_str(), output.status.code()), (words, Some(1)));
+}
+
+/// One damaged sample for each refusal: what was expected, and what was found.
+#[test]
+fn every_refusal_is_explained() {
+    let sample = sample();
+    let cases: Vec<(Vec<u8>, &str, &str)> = vec![
+        (
+            sample[..100].to_vec(),
+            "1 to 20,000 records of 81 bytes each, 80 columns and a line feed",
+            "100 bytes: 1 record and 19 bytes",
+        ),
+        (changed(3, 81, "\r"), "a line feed in byte 81", "a carriage return"),
+        (changed(3, 40, "#"), "a blank, a letter, a digit or one of + - . ) ( * / = ' , % < > : ; ! ? &", "'#'"),
+        (changed(2, 1, "BIB    "), "SUBENT", "'BIB        '"),
+        (changed(5, 1, "ENDBIB"), "record 2 of the 2 that BIB on record 3 announces", "'ENDBIB     '"),
+        (changed(3, 33, "3"), "record 3 of the 3 that BIB on record 3 announces", "'ENDBIB     '"),
+        (
+            changed(19, 33, "3"),
+            "record 5 of the 5 that DATA on record 19 (3 columns, 3 lines) announces",
+            "'ENDDATA    '",
+        ),
+        (
+            changed(19, 33, "1"),
+            "ENDDATA, as the 3 records of DATA on record 19 (3 columns, 1 line) end here",
+            "'20.        '",
+        ),
+        (changed(16, 67, "90002"), "'90001002'", "'90002002'"),
+        (changed(16, 75, "00003"), "'00004'", "'00003'"),
+        (changed(1, 23, "   20241305"), "3 blanks and a date YYYYMMDD, month 01-12, day 01-31", "'   20241305'"),
+        (changed(3, 12, "          x"), "a count: blanks, then digits up to the last column", "'          x'"),
+        (changed(7, 33, "4"), "3 records for 1 column", "'          4'"),
+        (changed(6, 22, "1"), "2, the records between", "'          1'"),
+        (changed(14, 22, "2"), "1 keyword in N1 of BIB on record 14, which says 2", "'          2'"),
+        (changed(26, 22, "3"), "2, the subentries", "'          3'"),
+        (changed(5, 1, "TITLE "), "a keyword that this BIB does not have yet; record 4 has this one", "'TITLE     '"),
+        (changed(4, 1, "     "), "a keyword, as this is the first record of BIB", "blanks"),
+        (changed(16, 11, "1"), "a pointer that is new under its keyword; record 15 has this one", "'1'"),
+        (changed(16, 11, "0"), "a pointer, 1-9 or A-Z, or a blank", "'0'"),
+        (changed(20, 1, " ANG"), "a heading: a word of at most ten columns", "' ANG       '"),
+        (changed(21, 22, "1"), "a blank in the unit's eleventh column", "'MB/SR     1'"),
+        (changed(20, 1, "EN "), "a heading that is not there yet; record 8, column 1 has this one", "'EN         '"),
+        (
+            changed(20, 33, "3"),
+            "a pointer of BIB or COMMON, in this subentry or 001 (there are '1' '2')",
+            "'DATA      3'",
+        ),
+        (changed(10, 1, "   "), "a number: COMMON values are never blank", "blanks"),
+        (changed(22, 1, &" ".repeat(22)), "at least one number on the line that ends here", "blanks"),
+        (sample[..25 * 81].to_vec(), "SUBENT or NOSUBENT or ENDENTRY", "the end of the input"),
+        (
+            sample[..22 * 81].to_vec(),
+            "record 4 of the 4 that DATA on record 19 (3 columns, 2 lines) announces",
+            "the end of the input",
+        ),
+    ];
+    for (entry, expected, found) in cases {
+        let output = run(&["judge"], &entry);
+        let words = printed(&output);
+        assert!(words.contains(&format!("\n  expected: {expected}\n  found:    {found}\n")), "{words}");
+        assert_eq!(output.status.code(), Some(1));
+    }
+}
+
+#[test]
+fn lines_that_are_no_records_are_noted() {
+    let trimmed: String =
+        String::from_utf8(sample()).unwrap().lines().map(|line| format!("{}\n", line.trim())).collect();
+    let words = printed(&run(&["judge"], trimmed.as_bytes()));
+    assert!(words.contains("  note:     line 1 has 79 columns; a record has 80 columns and a line feed\n"), "{words}");
+    let returns = String::from_utf8(sample()).unwrap().replace('\n', "\r\n");
+    let words = printed(&run(&["judge"], returns.as_bytes()));
+    assert!(words.contains("  note:     line 1 ends with a carriage return; a record has"), "{words}");
+}
+
+#[test]
+fn several_entries_in_one_file_are_refused_clearly() {
+    let output = run(&["judge"], &[sample(), sample(), sample()].concat());
+    let words = printed(&output);
+    assert!(words.starts_with("4 27 1 0 0 0 0\n"), "{words}");
+    assert!(
+        words.ends_with("  note:     the input holds 3 entries; one entry is judged at a time: split it\n"),
+        "{words}"
+    );
+    assert_eq!(output.status.code(), Some(1));
+    let whole = [changed(1, 1, "TRANS")[..81].to_vec(), sample()].concat();
+    let words = printed(&run(&["judge"], &whole));
+    assert!(
+        words.ends_with("  note:     this is a transmission; one entry is judged, from ENTRY to ENDENTRY\n"),
+        "{words}"
+    );
+}
+
+#[test]
+fn several_files_are_judged_one_by_one() {
+    let (good, bad) = (file("good.x4", &sample()), file("bad.x4", &changed(26, 72, "000")));
+    let output = run(&["judge", &good, "no-such-file", &bad], b"");
+    let words = printed(&output);
+    assert!(
+        words.contains(&format!("{good}: 0 0 0 2 3 2 6\n")) && words.contains(&format!("{bad}: 5 26 67 0 0 0 0\n"))
+    );
+    assert_eq!(complained(&output), "x4: no-such-file: No such file or directory (os error 2)\n", "and no progress");
+    assert_eq!(output.status.code(), Some(2));
+    assert_eq!(run(&["judge", &good, &good], b"").status.code(), Some(0));
+    assert_eq!(run(&["judge", &good, &bad], b"").status.code(), Some(1));
+}
+
+#[test]
+fn verdicts_as_json() {
+    let words = "{\"file\":\"-\",\"accepted\":true,\"refusal\":0,\"record\":0,\"column\":0,\"subentries\":2,\
+                 \"keywords\":3,\"lines\":2,\"numbers\":6}\n";
+    assert_eq!(printed(&run(&["judge", "--json"], &sample())), words);
+    let words = "{\"file\":\"-\",\"accepted\":false,\"refusal\":6,\"record\":4,\"column\":75,\"subentries\":0,\
+                 \"keywords\":0,\"lines\":0,\"numbers\":0,\"meaning\":\"wrong sequence in columns 75-79\",\
+                 \"expected\":\"'00003'\",\"found\":\"'00004'\",\"note\":null}\n";
+    assert_eq!(printed(&run(&["judge", "--json"], &changed(4, 79, "4"))), words);
+}
+
+#[test]
+fn tables_are_exact() {
+    let mut entry = changed(23, 12, "0.0 ");
+    common::put(&mut entry, 20, 1, "A,B");
+    let csv = "\
+90001001,COMMON,heading,EN
+90001001,COMMON,pointer,
+90001001,COMMON,unit,MEV
+90001001,COMMON,1,14
+90001002,DATA,heading,\"A,B\",DATA,DATA
+90001002,DATA,pointer,,1,2
+90001002,DATA,unit,ADEG,MB/SR,MB/SR
+90001002,DATA,1,10,0.145,
+90001002,DATA,2,20,0,25
+";
+    assert_eq!(printed(&run(&["tables"], &entry)), csv);
+    let json = "[{\"subentry\":\"90001001\",\"section\":\"COMMON\",\
+                \"columns\":[{\"heading\":\"EN\",\"pointer\":null,\"unit\":\"MEV\"}],\"lines\":[[\"14\"]]},\
+                {\"subentry\":\"90001002\",\"section\":\"DATA\",\
+                \"columns\":[{\"heading\":\"A,B\",\"pointer\":null,\"unit\":\"ADEG\"},\
+                {\"heading\":\"DATA\",\"pointer\":\"1\",\"unit\":\"MB/SR\"},\
+                {\"heading\":\"DATA\",\"pointer\":\"2\",\"unit\":\"MB/SR\"}],\
+                \"lines\":[[\"10\",\"0.145\",null],[\"20\",\"0\",\"25\"]]}]\n";
+    assert_eq!(printed(&run(&["tables", "--json"], &entry)), json);
+    let seven = printed(&run(&["tables"], &wide(7)));
+    assert!(seven.ends_with("90001002,DATA,2,2.01,2.02,2.03,2.04,2.05,2.06,2.07\n"), "{seven}");
+    let output = run(&["tables"], &changed(4, 79, "4"));
+    assert_eq!((printed(&output).as_str(), output.status.code()), ("", Some(1)));
+    assert!(complained(&output).starts_with("x4: standard input: refusal 6, record 4, column 75: "));
+}
+
+#[test]
+fn canonical_copies() {
+    let output = run(&["canon"], &sample());
+    let mut expected = sample();
+    common::put(&mut expected, 10, 1, "        14.");
+    common::put(&mut expected, 22, 1, "        10.       .145");
+    common::put(&mut expected, 23, 1, "        20.        .14        25.");
+    assert_eq!((output.stdout, output.status.code()), (expected, Some(0)));
+    let output = run(&["canon"], &sample()[..81]);
+    assert_eq!((printed(&output).as_str(), output.status.code()), ("", Some(1)));
+}
+
+#[test]
+fn entries_are_compared() {
+    let first = file("first.x4", &sample());
+    let copy = file("copy.x4", &run(&["canon", &first], b"").stdout);
+    let output = run(&["compare", &first, &copy], b"");
+    assert_eq!((printed(&output).as_str(), output.status.code()), ("same: 2 tables, 6 numbers\n", Some(0)));
+    let other = file("other.x4", &changed(22, 12, "       1.45"));
+    let output = run(&["compare", &first, &other], b"");
+    let words = "subentry 90001002, DATA, line 1, column 2: first 0.145, second 1.45\n";
+    assert_eq!((printed(&output).as_str(), output.status.code()), (words, Some(1)));
+    let zero = file("zero.x4", &changed(22, 23, "        0.0"));
+    let words = "subentry 90001002, DATA, line 1, column 3: first a blank, second 0\n";
+    assert_eq!(printed(&run(&["compare", &first, &zero], b"")), words);
+    let table = file("first.csv", &run(&["tables", &first], b"").stdout);
+    assert_eq!(run(&["compare", "--exact", &first, &table], b"").status.code(), Some(0));
+    let output = run(&["compare", &first, "-"], b"no table\n");
+    assert_eq!(output.status.code(), Some(2));
+    assert!(complained(&output).starts_with("x4: standard input: neither an entry nor tables: line 1: "));
+    assert_eq!(run(&["compare", &first], b"").status.code(), Some(2));
+    let output = run(&["compare", "-", "-"], b"");
+    assert_eq!(complained(&output), "x4: only one of the two can be standard input\n");
+}
+
+#[test]
+fn help_and_wrong_arguments() {
+    for page in [&["--help"][..], &["help"], &["help", "judge"], &["judge", "--help"], &["help", "compare"]] {
+        let output = run(page, b"");
+        assert!(printed(&output).contains("x4 ") && output.status.success(), "{page:?}");
+    }
+    assert!(printed(&run(&["help", "judge"], b"")).starts_with("x4 judge [--json] [FILE..]\n"));
+    for wrong in [&[][..], &["jugde"], &["judge", "--jsno"], &["tables", "a", "b"], &["help", "me"]] {
+        let output = run(wrong, b"");
+        assert!(output.status.code() == Some(2) && complained(&output).starts_with("x4: "), "{wrong:?}");
+    }
+}
