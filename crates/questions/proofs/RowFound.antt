@@ -227,7 +227,7 @@ count-next t role fs r =
     P : Track → Type 0
     P u = u .records .0 ≡ t .records .0 + 1
 
-records-at : (s : List ℕ) (i : ℕ) → contextAt s i .track .records .0 ≡ i
+pub records-at : (s : List ℕ) (i : ℕ) → contextAt s i .track .records .0 ≡ i
 unfolding contextAt contextAfter
 records-at s zero = refl
 records-at s (suc i) =

@@ -1,0 +1,3 @@
+pub mod CopiedRecords
+pub mod CopiedRows
+pub mod Values

@@ -1,0 +1,59 @@
+-- Every question about a value has the same answer in the copy.
+-- Assumes nothing.
+use Prim.Native.Nat.{ℕ}
+use mathlib.Core.Path.{_≡_, refl, sym, _∙_, ap}
+use mathlib.Core.List.{List}
+use Rattle.record.specs.Columns.{placeOf}
+use Rattle.record.specs.declared.columns.LineNo.{LineNo}
+use Rattle.record.specs.declared.columns.RecordNo.{RecordNo}
+use Rattle.entry.specs.declared.verdict.Verdict.{Verdict}
+use Rattle.questions.specs.declared.row.Row.{Row}
+use Rattle.questions.specs.declared.place.Shape.{Shape}
+use Rattle.questions.specs.declared.ask.ValueAnswer.{ValueAnswer}
+use Rattle.questions.specs.Row.{rowOf}
+use Rattle.questions.specs.Place.{fieldsAt, shapeOf}
+use Rattle.questions.specs.Ask.{sectionIn, valueRefusal, valueBy, valueOf}
+use Rattle.copy.specs.Copy.{copyOf}
+use Rattle.copy.specs.Demand.{Accepted}
+use Rattle.copy.proofs.Demand.{copy-accepted}
+use Rattle.same_answers.specs.Same.{AlikeAnswer, SameValues}
+use Rattle.same_answers.proofs.CopiedRecords.{copied-identifiers, copied-places}
+use Rattle.same_answers.proofs.CopiedRows.{copied-row, section-kept}
+
+shape-same : (s t : List ℕ) (section : ℕ) (at : RecordNo) → fieldsAt t at ≡ fieldsAt s at → shapeOf t section at ≡ shapeOf s section at
+unfolding shapeOf
+shape-same s t section at e = rw e
+
+module _ (s : List ℕ) (accepted : Accepted s) where
+  refusal-same : (v : Verdict) (x : Row) (at : RecordNo) (shape : Shape) (line : LineNo) (column : ℕ)
+      → valueRefusal (copyOf s) v x at shape line column ≡ valueRefusal s v x at shape line column
+  unfolding valueRefusal
+  refusal-same v x at shape line column = rw (copied-identifiers s accepted (x .first))
+
+  value-same : (v : Verdict) (number section : ℕ) (line : LineNo) (column : ℕ)
+      → valueBy (copyOf s) v (rowOf s number) section line column ≡ valueBy s v (rowOf s number) section line column
+  unfolding valueBy
+  value-same v number section line column =
+      let x = rowOf s number in
+      let at = sectionIn x section in
+      let shape = shapeOf s section at in
+      rw (
+        shape-same s (copyOf s) section at (section-kept s accepted number section),
+        refusal-same v x at shape line column,
+        copied-places s accepted (placeOf at (shape .columns) line column),
+      )
+
+  answer-same : (number section : ℕ) (line : LineNo) (column : ℕ)
+      → valueOf (copyOf s) number section line column ≡ valueOf s number section line column
+  unfolding valueOf
+  answer-same number section line column =
+      rw (copy-accepted s accepted, copied-row s accepted number) (value-same _ number section line column)
+
+-- "with the same values [..] at the same places"
+pub same-values : SameValues
+same-values s accepted number section line column =
+    let e = answer-same s accepted number section line column in
+    record {
+      numbers = ap (λ (a : ValueAnswer). a .answer) e;
+      values = ap (λ (a : ValueAnswer). a .value) e;
+    }

@@ -1,0 +1,1 @@
+// Questions asked of an entry and of its canonical copy.
