@@ -3,10 +3,5 @@ pub mod Refusals
 pub mod Parts
 pub mod Rows
 pub mod Judged
-pub mod Contexts
-pub mod Laid
-pub mod TableLaid
-pub mod Nesting
-pub mod RowFound
-pub mod Answered
+pub mod RowChanges
 pub mod NumberedRow

@@ -3,4 +3,3 @@ pub mod Numbers
 pub mod Place
 pub mod Passage
 pub mod Ask
-pub mod Inside

@@ -26,10 +26,10 @@ use Rattle.entry.specs.Next.{contextAfter}
 use Rattle.entry.specs.Verdict.{roleOf, turnOf}
 use Rattle.entry.proofs.GoingOn.{go-fine}
 use Rattle.questions.specs.Place.{hasRecord, fieldsAt, identifierAt, fieldOf}
-use Rattle.questions.specs.Inside.{contextAt, roleAt, behind}
-use Rattle.questions.proofs.Contexts.{Walked, walked}
+use Rattle.inside.specs.Inside.{contextAt, roleAt, behind}
+use Rattle.inside.proofs.Contexts.{Walked, walked}
 use Rattle.questions.proofs.Records.{record-there}
-use Rattle.questions.proofs.RowFound.{fields-at}
+use Rattle.inside.proofs.RowFound.{fields-at}
 use Rattle.copy.specs.Copy.{copyRecord, recordsOf, fieldIn, copyOf}
 use Rattle.copy.specs.Demand.{Accepted}
 use Rattle.copy.proofs.FaithfulRecords.{role-kept, identifier-kept, not-copied, faithful}

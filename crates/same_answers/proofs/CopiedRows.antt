@@ -25,9 +25,9 @@ use Rattle.questions.specs.Row.{NONE, emptyRow, withFirst, withBib, withCommon,
 use Rattle.questions.specs.Place.{fieldsAt}
 use Rattle.questions.specs.Ask.{sectionIn}
 use Rattle.questions.specs.Place.{COMMON-SECTION, DATA-SECTION}
-use Rattle.questions.specs.Inside.{contextAt, roleAt}
-use Rattle.questions.proofs.Contexts.{walked}
-use Rattle.questions.proofs.RowFound.{rowAt, found-row, records-at}
+use Rattle.inside.specs.Inside.{contextAt, roleAt}
+use Rattle.inside.proofs.Contexts.{walked}
+use Rattle.inside.proofs.RowFound.{rowAt, found-row, records-at}
 use Rattle.copy.specs.Copy.{copyRecord, copyOf}
 use Rattle.copy.specs.Demand.{Accepted}
 use Rattle.copy.proofs.FaithfulRecords.{role-kept, not-copied}

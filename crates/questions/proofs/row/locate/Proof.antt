@@ -4,7 +4,7 @@ use Rattle.entry.proofs.Numbered.{whole-records}
 use Rattle.entry.proofs.Stepping.{next-bytes, records-counted, stands-start}
 use Rattle.laws.proofs.Turns.{Run, run-done, run-next, run-out}
 use Rattle.questions.proofs.NumberedRow.{locate-start, numbers-locate}
-use Rattle.questions.proofs.RowFound.{number-stays}
+use Rattle.questions.proofs.RowChanges.{number-stays}
 use Rattle.questions.proofs.Rows.{met-empty, met-next}
 use Rattle.questions.specs.Numbers.{locateBy, locatedBy, locatingBy}
 use Rattle.questions.specs.Row.{Met, locate}

@@ -31,22 +31,22 @@ use Rattle.entry.specs.Verdict.{roleOf, judgeOf}
 use Rattle.rules.proofs.DueRecords.{fine-due}
 use Rattle.rules.proofs.WithoutFault.{fine-reads}
 use Rattle.entry.proofs.GoingOn.{go-fine}
 use Rattle.questions.specs.declared.row.Row.{Row}
 use Rattle.questions.specs.declared.place.Shape.{Shape}
 use Rattle.questions.specs.Row.{NONE, rowOf}
 use Rattle.questions.specs.Place.{COMMON-SECTION, DATA-SECTION, fieldsAt, shapeOf, headingPlace, unitPlace}
 use Rattle.questions.specs.Place.{fieldOf, byteOf}
 use Rattle.questions.specs.Ask.{firstOf, refusal, isRefused, isSubent, sectionIn, noSection, noLine, noColumn}
 use Rattle.questions.specs.Ask.{sectionRefusals, valueRefusal, valueBy, valueOf, columnRefusal, headingBy}
 use Rattle.questions.specs.Ask.{headingOf, unitBy, unitOf}
-use Rattle.questions.specs.Inside.{Accepted, contextAt, roleAt, openedBy, Opens, InsideColumn, linesIn}
-use Rattle.questions.specs.Inside.{InsideValue, isSaid, ValueAnswered, HeadingAnswered, UnitAnswered}
+use Rattle.inside.specs.Inside.{Accepted, contextAt, roleAt, openedBy, Opens, InsideColumn, linesIn}
+use Rattle.inside.specs.Inside.{InsideValue, isSaid, ValueAnswered, HeadingAnswered, UnitAnswered}
 use Rattle.questions.proofs.Refusals.{section-none}
-use Rattle.questions.proofs.Contexts.{Walked, walked}
-use Rattle.questions.proofs.Laid.{rowRole, Laid}
-use Rattle.questions.proofs.TableLaid.{table-laid, sectionRole, linesOf, Opened, opened}
-use Rattle.questions.proofs.RowFound.{Section, bib, common, table, opener, named, Opening, row-names, row-subent}
-use Rattle.questions.proofs.RowFound.{row-fields, fields-at}
+use Rattle.inside.proofs.Contexts.{Walked, walked}
+use Rattle.inside.proofs.Laid.{rowRole, Laid}
+use Rattle.inside.proofs.TableLaid.{table-laid, sectionRole, linesOf, Opened, opened}
+use Rattle.questions.proofs.RowChanges.{Section, bib, common, table, opener, named}
+use Rattle.inside.proofs.RowFound.{Opening, row-names, row-subent, row-fields, fields-at}
 
 -- ---- the section that is asked for
 

@@ -22,9 +22,9 @@ use Rattle.rules.proofs.DueRecords.{fine-common, fine-data}
 use Rattle.entry.specs.Next.{phaseAfter, afterSystem, trackAfter, contextAfter}
 use Rattle.entry.specs.Verdict.{roleOf, isDone, turnOf}
 use Rattle.entry.proofs.GoingOn.{go-fine}
-use Rattle.questions.specs.Inside.{behind, contextAt, roleAt}
-use Rattle.questions.proofs.Contexts.{Walked}
-use Rattle.questions.proofs.Laid.{phaseIn, rowRole, lineOf, Laid, laid-role, laid-on, laid-over}
+use Rattle.inside.specs.Inside.{behind, contextAt, roleAt}
+use Rattle.inside.proofs.Contexts.{Walked}
+use Rattle.inside.proofs.Laid.{phaseIn, rowRole, lineOf, Laid, laid-role, laid-on, laid-over}
 
 -- the last row that is read has the last line
 row-unread : (q lines : ℕ) → 1 ≤ lines → q ≤ lines + 1 → lineOf q ≤ lines

@@ -1,0 +1,6 @@
+pub mod Contexts
+pub mod Laid
+pub mod TableLaid
+pub mod Nesting
+pub mod RowFound
+pub mod Answered

@@ -1,0 +1,1 @@
+// The questions inside an entry's own shape: that each is answered.
