@@ -121,7 +121,7 @@ records-at s (suc i) =
     let r = blockAt 81 s i in
     count-next (c .track) (roleOf c r) (fieldsOf r) r ∙ ap (λ (k : ℕ). k + 1) (records-at s i) ∙ add-one i
 
-number-of : (s : List ℕ) (number i : ℕ) → rowAt s number i .number ≡ number
+pub number-of : (s : List ℕ) (number i : ℕ) → rowAt s number i .number ≡ number
 unfolding rowAt
 number-of s number zero = refl
 number-of s number (suc i) =
@@ -129,7 +129,7 @@ number-of s number (suc i) =
     let r = blockAt 81 s i in
     number-stays (c .track) (roleOf c r) (fieldsOf r) (rowAt s number i) ∙ number-of s number i
 
-row-next : (s : List ℕ) (number i : ℕ)
+pub row-next : (s : List ℕ) (number i : ℕ)
     → rowAt s number (suc i)
     ≡ notedAs (contextAt s i .track) (roleAt s i) (fieldsOf (blockAt 81 s i)) (rowAt s number i)
 unfolding rowAt

@@ -17,7 +17,7 @@ use Rattle.record.specs.Identifier.{COMMON, DATA}
 use Rattle.record.specs.declared.columns.LineNo.{LineNo}
 use Rattle.rules.specs.State.{Context, startContext}
 use Rattle.rules.specs.System.{countN1, countN2}
-use Rattle.rules.specs.Role.{NOT-DUE}
+use Rattle.rules.specs.Role.{TEXT, NOT-DUE}
 use Rattle.entry.specs.Next.{contextAfter}
 use Rattle.entry.specs.Verdict.{roleOf, judgeOf}
 use Rattle.questions.specs.Place.{COMMON-SECTION, DATA-SECTION}
@@ -70,6 +70,14 @@ pub record InsideValue (s : List ℕ) (n section : ℕ) (line : LineNo) (column 
   pub column-to : column ≤ countN1 (fieldsOf (blockAt 81 s index))
   pub line-from : 1 ≤ line .0
   pub line-to : line .0 ≤ linesIn section (blockAt 81 s index)
+
+-- ---- text records
+
+-- the record with the index i is a text record of the subentry n
+pub record TextOf (s : List ℕ) (n i : ℕ) : Type 0 where
+  pub there : i < length s / 81
+  pub role : roleAt s i ≡ TEXT
+  pub subentry : contextAt s i .track .subentry .number ≡ n
 
 -- ---- what is claimed of them
 
