@@ -220,7 +220,7 @@ leads-table false false false false false false false true i q = no q
 leads-table false false false false false false false false true q = no q
 leads-table false false false false false false false false false q = no q
 
-bib-led : (role : ℕ) → inBib (phaseAfter role) ≡ true → leadsToBib role ≡ true
+pub bib-led : (role : ℕ) → inBib (phaseAfter role) ≡ true → leadsToBib role ≡ true
 unfolding phaseAfter
 bib-led role q =
     leads-bib (eqb role ENTRY) (eqb role SUBENT) (leadsToBib role) (eqb role NOBIB || eqb role ENDBIB)
@@ -237,7 +237,7 @@ table-led role q =
     (eqb role NOSUBENT || eqb role ENDSUBENT) q
 
 -- one of two tests
-one-of : {X : Type 0} (a b : Bool) → (a || b) ≡ true → (a ≡ true → X) → (b ≡ true → X) → X
+pub one-of : {X : Type 0} (a b : Bool) → (a || b) ≡ true → (a ≡ true → X) → (b ≡ true → X) → X
 one-of true b e f g = f refl
 one-of false b e f g = g e
 

@@ -4,4 +4,6 @@ pub mod TableLaid
 pub mod Nesting
 pub mod RowFound
 pub mod TextLaid
+pub mod TextPlaced
+pub mod TextsSeen
 pub mod Answered

@@ -31,13 +31,12 @@ use Rattle.entry.proofs.GoingOn.{go-fine}
 use Rattle.entry.proofs.Numbered.{whole-records}
 use Rattle.questions.specs.declared.row.Row.{Row}
 use Rattle.questions.specs.Row.{NONE, notedAs, rowOf}
-use Rattle.questions.specs.Place.{fieldsAt}
 use Rattle.questions.specs.Passage.{textRecords}
 use Rattle.questions.proofs.RowChanges.{Section, bib, common, table, opener, named, section-stays, section-set}
 use Rattle.inside.specs.Inside.{Accepted, behind, contextAt, roleAt, TextOf}
 use Rattle.inside.proofs.Contexts.{walked}
 use Rattle.inside.proofs.Nesting.{either-as}
-use Rattle.inside.proofs.RowFound.{rowAt, found-row, records-at, number-of, row-next, Opening, fields-at}
+use Rattle.inside.proofs.RowFound.{rowAt, found-row, records-at, number-of, row-next, Opening, row-fields}
 
 -- ---- one record
 
@@ -161,6 +160,26 @@ module _ (s : List ℕ) (accepted : Accepted s) (n a : ℕ) (o : Opening s n bib
         subentry = y .subentry;
       }
 
+-- an accepted entry has whole records, 20,000 at most
+pub records-whole : (s : List ℕ) → Accepted s → (length s ≡ length s / 81 * 81) × (length s / 81 ≤ MOST-RECORDS)
+unfolding judgeOf
+records-whole s accepted = by-test (lengthGood (length s)) refl accepted
+  where
+    by-test : (t : Bool) → lengthGood (length s) ≡ t
+        → cond t (walk turnOf endOf startContext 0 (blocks 81 (length s / 81) s)) (refused 1 NONE 0) .refusal ≡ 0
+        → (length s ≡ length s / 81 * 81) × (length s / 81 ≤ MOST-RECORDS)
+    by-test true e h = whole-records (length s) e
+    by-test false e h = absurd (omega arith)
+
+-- the text records of the section, by the row of the subentry, are those that its own record announces
+pub texts-number : (s : List ℕ) (accepted : Accepted s) (n a : ℕ) → Opening s n bib a
+    → textRecords s (rowOf s n .bib) ≡ textsOf s a
+unfolding textRecords
+texts-number s accepted n a o =
+    let l = texts-there s accepted n a o in
+    let few = records-whole s accepted .1 in
+    rw (row-fields s accepted n bib a o, le-leb (textsOf s a) MOST-RECORDS (omega arith))
+
 -- ---- the section's record that a row names
 
 module _ (s : List ℕ) (n : ℕ) where
@@ -217,17 +236,6 @@ module _ (s : List ℕ) (n : ℕ) where
 
 -- ---- by the row
 
--- an accepted entry has whole records, 20,000 at most
-pub records-whole : (s : List ℕ) → Accepted s → (length s ≡ length s / 81 * 81) × (length s / 81 ≤ MOST-RECORDS)
-unfolding judgeOf
-records-whole s accepted = by-test (lengthGood (length s)) refl accepted
-  where
-    by-test : (t : Bool) → lengthGood (length s) ≡ t
-        → cond t (walk turnOf endOf startContext 0 (blocks 81 (length s / 81) s)) (refused 1 NONE 0) .refusal ≡ 0
-        → (length s ≡ length s / 81 * 81) × (length s / 81 ≤ MOST-RECORDS)
-    by-test true e h = whole-records (length s) e
-    by-test false e h = absurd (omega arith)
-
 module _ (s : List ℕ) (accepted : Accepted s) (n : ℕ) (some : rowOf s n .bib .0 ≡ 0 → ⊥) where
   abbrev at : RecordNo
   at = rowOf s n .bib
@@ -235,17 +243,8 @@ module _ (s : List ℕ) (accepted : Accepted s) (n : ℕ) (some : rowOf s n .bib
   pub row-bib : Opening s n bib (at .0 - 1)
   row-bib = row-opening s n accepted bib some
 
-  -- the text records of the section are those that its own record announces
   pub row-announced : textRecords s at ≡ textsOf s (at .0 - 1)
-  unfolding textRecords
-  row-announced =
-      let a = at .0 - 1 in
-      let t = row-bib .there in
-      let e : at .0 ≡ suc a = omega (arith, some) in
-      let f : fieldsAt s at ≡ fieldsOf (blockAt 81 s a) = fields-at s a (omega arith) at e in
-      let few = records-whole s accepted .1 in
-      let l = texts-there s accepted n a row-bib in
-      rw (f, le-leb (countN2 (fieldsOf (blockAt 81 s a))) MOST-RECORDS (omega arith))
+  row-announced = texts-number s accepted n (at .0 - 1) row-bib
 
   -- THE TEXT RECORDS, by the row of the subentry
   pub row-texts : (m : ℕ) → m < textRecords s at → TextOf s n (at .0 + m)

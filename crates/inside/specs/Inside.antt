@@ -3,16 +3,17 @@
 -- The judge's context before each record says what the record is: its role, its subentry, and in a table its row. From
 -- this alone, and from the counts that a section's own record announces, it is said which columns and lines the entry
 -- has; how they are found plays no part here.
-use Prim.Native.Nat.{ℕ, zero, suc, _/_, _<_, _≤_}
+use Prim.Native.Nat.{ℕ, zero, suc, _*_, _-_, _/_, _<_, _≤_}
 use mathlib.Core.Path.{_≡_}
 use mathlib.Core.Bool.{Bool, true, false, cond}
-use mathlib.Core.List.{List}
+use mathlib.Core.List.{List, []}
 use lib.Dec.{eqb}
-use lib.ListN.{length}
+use lib.ListN.{length, getD}
 use Rattle.laws.specs.Blocks.{blockAt}
 use Rattle.number.specs.declared.value.Reading.{Reading}
 use Rattle.number.specs.declared.value.Reading.the-variants.{Blank, Number, Refused}
 use Rattle.record.specs.Fields.{fieldsOf}
+use Rattle.record.specs.Word.{equalTo}
 use Rattle.record.specs.Identifier.{COMMON, DATA}
 use Rattle.record.specs.declared.columns.LineNo.{LineNo}
 use Rattle.rules.specs.State.{Context, startContext}
@@ -21,7 +22,9 @@ use Rattle.rules.specs.Role.{TEXT, NOT-DUE}
 use Rattle.entry.specs.Next.{contextAfter}
 use Rattle.entry.specs.Verdict.{roleOf, judgeOf}
 use Rattle.questions.specs.Place.{COMMON-SECTION, DATA-SECTION}
-use Rattle.questions.specs.Ask.{valueOf, headingOf, unitOf}
+use Rattle.questions.specs.declared.ask.PartAnswer.{PartAnswer}
+use Rattle.questions.specs.Passage.{hasKeyword, begins, beginsWith}
+use Rattle.questions.specs.Ask.{valueOf, headingOf, unitOf, passageAnswer}
 
 abbrev pub Accepted : List ℕ → Type 0
 Accepted s = judgeOf s .refusal ≡ 0
@@ -79,6 +82,38 @@ pub record TextOf (s : List ℕ) (n i : ℕ) : Type 0 where
   pub role : roleAt s i ≡ TEXT
   pub subentry : contextAt s i .track .subentry .number ≡ n
 
+-- ---- passages
+
+-- columns 1 to 11 of the record with the index i: the keyword's place and the pointer's
+abbrev pub placeAt : List ℕ → ℕ → List ℕ
+placeAt s i = getD (fieldsOf (blockAt 81 s i)) 0 []
+
+-- the record i stands under the keyword of the text record k: that is itself, or the last before it that has one
+pub record Under (s : List ℕ) (n k i : ℕ) : Type 0 where
+  pub text : TextOf s n k
+  pub keyword : hasKeyword (placeAt s k) ≡ true
+  pub before : k ≤ i
+  pub last : (j : ℕ) → k < j → j ≤ i → hasKeyword (placeAt s j) ≡ false
+
+-- "A passage is the run of records from a keyword (pointer of that record, or none) or from a pointer": the record at
+-- the index begins it; the keyword is ten bytes
+pub record InsidePassage (s : List ℕ) (n : ℕ) (keyword : List ℕ) (pointer : ℕ) : Type 0 where
+  pub index : ℕ
+  pub text : TextOf s n index
+  pub begun : beginsWith pointer (placeAt s index) ≡ true
+  pub keyword-at : ℕ
+  pub under : Under s n keyword-at index
+  pub same : equalTo 10 (placeAt s keyword-at) keyword ≡ true
+
+-- the part is that run, "up to the next pointer or keyword" or the end of the section
+pub record RunFrom (s : List ℕ) (n i : ℕ) (part : PartAnswer) : Type 0 where
+  pub first : part .first ≡ i * 81
+  pub past : ℕ
+  pub some : i < past
+  pub bytes : part .length ≡ (past - i) * 81
+  pub inside : (j : ℕ) → i < j → j < past → TextOf s n j × (begins (placeAt s j) ≡ false)
+  pub ends : TextOf s n past → begins (placeAt s past) ≡ true
+
 -- ---- what is claimed of them
 
 abbrev pub isSaid : Reading → Bool
@@ -102,3 +137,17 @@ abbrev pub UnitAnswered : Type 0
 UnitAnswered =
     (s : List ℕ) (n section column : ℕ) → Accepted s → InsideColumn s n section column
     → (unitOf s n section column .answer .number ≡ 0) × (unitOf s n section column .length ≡ 10)
+
+-- a passage is its whole records
+abbrev pub PassageAnswered : Type 0
+PassageAnswered =
+    (s : List ℕ) (n : ℕ) (keyword : List ℕ) (pointer : ℕ) → Accepted s → (x : InsidePassage s n keyword pointer)
+    → (passageAnswer s n keyword pointer .answer .number ≡ 0)
+    × RunFrom s n (x .index) (passageAnswer s n keyword pointer)
+
+-- "No keyword occurs twice in a section, and no pointer twice under one keyword": a keyword and a pointer have one
+-- passage
+abbrev pub OnePassage : Type 0
+OnePassage =
+    (s : List ℕ) (n : ℕ) (keyword : List ℕ) (pointer : ℕ) → Accepted s → (x y : InsidePassage s n keyword pointer)
+    → x .index ≡ y .index

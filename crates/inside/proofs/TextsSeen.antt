@@ -1,0 +1,252 @@
+-- What the judge has seen before a text record of an accepted entry: of the section the text records before it, and
+-- under its keyword those from the keyword's record on. So rules 10 and 11 speak of these records: no keyword of the
+-- section occurs twice, and no pointer twice under one keyword.
+-- Assumes nothing.
+use Prim.Native.Nat.{ℕ, zero, suc, _+_, _*_, _-_, _/_, _<_, _≤_}
+use mathlib.Core.Path.{_≡_, refl, sym, _∙_, ap}
+use mathlib.Core.Bool.{Bool, true, false, not, _||_}
+use mathlib.Core.List.{List, [], _++_}
+use native.Mathlib.Omega.{arith}
+use lib.Dec.{eqb}
+use lib.ListN.{length, take, drop, getD, length-drop}
+use lib.Seq.{length-take-le, take-add, take-take, drop-drop, drop-at, getD-take, getD-drop}
+use Rattle.laws.specs.Blocks.{blockAt}
+use Rattle.laws.specs.Members.{anyOf}
+use Rattle.laws.proofs.Booleans.{differ, or-right}
+use Rattle.laws.proofs.Listing.{any-none}
+use Rattle.record.specs.Columns.{columnsAt}
+use Rattle.record.specs.Fields.{fieldsOf}
+use Rattle.record.specs.Identifier.{BIB}
+use Rattle.record.specs.Text.{isBlank}
+use Rattle.record.specs.Word.{blankTo, equalTo, isWord, pointerOf, badPointer}
+use Rattle.record.proofs.ReadColumns.{field-of}
+use Rattle.rules.specs.declared.fault.Fault.the-variants.{Fine}
+use Rattle.rules.specs.declared.state.Track.{Track}
+use Rattle.rules.specs.State.{Seen, Context}
+use Rattle.rules.specs.Role.{TEXT}
+use Rattle.rules.specs.Fault.{when, leftmost}
+use Rattle.rules.specs.Text.{placesOf, pointersOf, pointerAt, keywordFault, rule10, pointerRepeated, rule11Text}
+use Rattle.rules.specs.Order.{faultOf}
+use Rattle.rules.proofs.WithoutFault.{none-found}
+use Rattle.entry.specs.Next.{partAfter, bibChange, underChange, seenAfter, contextAfter}
+use Rattle.entry.specs.Verdict.{roleOf}
+use Rattle.entry.proofs.GoingOn.{go-fine}
+use Rattle.questions.specs.Passage.{hasKeyword}
+use Rattle.questions.proofs.RowChanges.{bib}
+use Rattle.inside.specs.Inside.{Accepted, behind, contextAt, roleAt, TextOf, placeAt, Under}
+use Rattle.inside.proofs.Contexts.{walked}
+use Rattle.inside.proofs.RowFound.{Opening}
+use Rattle.inside.proofs.TextLaid.{textsOf, text-laid}
+use Rattle.inside.proofs.TextPlaced.{text-placed, text-behind, texts-between}
+
+-- ---- records one behind the other
+
+-- e records from the index b on
+abbrev recordsFrom : List ℕ → ℕ → ℕ → List ℕ
+recordsFrom s b e = take (e * 81) (drop (b * 81) s)
+
+records-none : (s : List ℕ) (b : ℕ) → recordsFrom s b 0 ≡ []
+records-none s b = refl
+
+records-next : (s : List ℕ) (b e : ℕ) → recordsFrom s b e ++ blockAt 81 s (b + e) ≡ recordsFrom s b (suc e)
+records-next s b e =
+    let l = drop (b * 81) s in
+    let x : suc e * 81 ≡ e * 81 + 81 = omega arith in
+    let y : b * 81 + e * 81 ≡ (b + e) * 81 = omega arith in
+    rw x (sym (take-add (e * 81) 81 l ∙ rw (drop-drop (e * 81) (b * 81) s, y)))
+
+drop-taken : (q w : ℕ) (l : List ℕ) → q ≤ length l → drop q (take (q + w) l) ≡ take w (drop q l)
+drop-taken q w l h = rw (take-add q w l) (drop-at (take q l) (take w (drop q l)) q (length-take-le q l h))
+
+module _ (s : List ℕ) (b e : ℕ) (fits : (b + e) * 81 ≤ length s) where
+  records-count : length (recordsFrom s b e) / 81 ≡ e
+  records-count =
+      let z : length (recordsFrom s b e) ≡ e * 81 =
+      length-take-le (e * 81) (drop (b * 81) s) (simp length-drop (omega arith)) in
+      omega arith
+
+  -- columns 1 to 11 of the record q of them
+  record-place : (q : ℕ) → q < e → columnsAt (q * 81) 11 (recordsFrom s b e) ≡ placeAt s (b + q)
+  record-place q h =
+      let l = drop (b * 81) s in
+      let r = drop ((b + q) * 81) s in
+      let w = (e - q) * 81 in
+      let x : e * 81 ≡ q * 81 + w = omega arith in
+      let y : b * 81 + q * 81 ≡ (b + q) * 81 = omega arith in
+      let here : drop (q * 81) (recordsFrom s b e) ≡ take w r =
+      ap (λ (n : ℕ). drop (q * 81) (take n l)) x ∙ drop-taken (q * 81) w l (simp length-drop (omega arith))
+      ∙ ap (take w) (drop-drop (q * 81) (b * 81) s ∙ ap (λ (n : ℕ). drop n s) y) in
+      ap (take 11) here ∙ take-take 11 w r (omega arith)
+      ∙ sym (field-of (take 81 r) 0 (omega arith) ∙ take-take 11 81 r (omega arith))
+
+  record-pointer : (q : ℕ) → q < e → pointerAt (recordsFrom s b e) q ≡ pointerOf (placeAt s (b + q))
+  record-pointer q h =
+      let part = recordsFrom s b e in
+      sym (getD-take 11 (drop (q * 81) part) 10 0 (omega arith) ∙ getD-drop (q * 81) part 10 0)
+      ∙ ap pointerOf (record-place q h)
+
+-- none of them has these ten columns, or this pointer
+module _ (s : List ℕ) (b e : ℕ) (fits : (b + e) * 81 ≤ length s) where
+  not-among : (f : List ℕ) → anyOf (equalTo 10 f) (placesOf (recordsFrom s b e)) ≡ false → (q : ℕ) → q < e
+      → equalTo 10 f (placeAt s (b + q)) ≡ false
+  unfolding placesOf
+  not-among f none q h =
+      let n = records-count s b e fits in
+      rw (record-place s b e fits q h) at
+      (any-none (equalTo 10 f) _ 0 (length (recordsFrom s b e) / 81) none q (omega arith) (omega arith))
+
+  not-pointed : (p : ℕ) → anyOf (eqb p) (pointersOf (recordsFrom s b e)) ≡ false → (q : ℕ) → q < e
+      → eqb p (pointerOf (placeAt s (b + q))) ≡ false
+  unfolding pointersOf
+  not-pointed p none q h =
+      let n = records-count s b e fits in
+      rw (record-pointer s b e fits q h) at
+      (any-none (eqb p) _ 0 (length (recordsFrom s b e) / 81) none q (omega arith) (omega arith))
+
+-- ---- what a text record adds
+
+module _ (c : Context) (r : List ℕ) (role : roleOf c r ≡ TEXT) where
+  bib-joined : behind c r .seen .bib ≡ c .seen .bib ++ r
+  unfolding contextAfter seenAfter partAfter bibChange
+  bib-joined = rw role
+
+  under-begun : blankTo 10 (getD (fieldsOf r) 0 []) ≡ false → behind c r .seen .under ≡ r
+  unfolding contextAfter seenAfter partAfter underChange
+  under-begun e = rw (role, e)
+
+  under-joined : blankTo 10 (getD (fieldsOf r) 0 []) ≡ true → behind c r .seen .under ≡ c .seen .under ++ r
+  unfolding contextAfter seenAfter partAfter underChange
+  under-joined e = rw (role, e)
+
+bib-emptied : (c : Context) (r : List ℕ) → roleOf c r ≡ BIB → behind c r .seen .bib ≡ []
+unfolding contextAfter seenAfter partAfter bibChange
+bib-emptied c r role = rw role
+
+-- ---- rules 10 and 11 on a record without fault
+
+none-when : (t : Bool) (k : ℕ) → leftmost (when t (suc k)) ≡ 0 → t ≡ false
+none-when true k e = absurd (omega arith)
+none-when false k e = refl
+
+module _ (t : Track) (seen : Seen) (role : ℕ) (fs : List (List ℕ)) (r : List ℕ)
+    (fine : faultOf t seen role fs r ≡ Fine) (text : role ≡ TEXT) where
+  abbrev f : List ℕ
+  f = getD fs 0 []
+
+  -- 10: its keyword is none of the section so far
+  fine-keyword : blankTo 10 f ≡ false → anyOf (equalTo 10 f) (placesOf (seen .bib)) ≡ false
+  unfolding rule10
+  fine-keyword e =
+      let found = none-found t seen role fs r fine .1 .1 .1 .1 .1 .1 .1 .1 .0 in
+      let none : keywordFault (seen .bib) t f ≡ false = none-when (keywordFault (seen .bib) t f) 0 (rw text at found) in
+      or-right (not (isWord 10 f)) (anyOf (equalTo 10 f) (placesOf (seen .bib))) (rw e at none)
+
+  -- 11: its pointer is none of those under its keyword
+  fine-pointer : blankTo 10 f ≡ true → isBlank (pointerOf f) ≡ false
+      → anyOf (eqb (pointerOf f)) (pointersOf (seen .under)) ≡ false
+  unfolding rule11Text
+  fine-pointer e p =
+      let found = none-found t seen role fs r fine .1 .1 .1 .1 .1 .1 .1 .1 .1 .0 in
+      let none =
+      or-right (badPointer f) (pointerRepeated (seen .under) f)
+      (none-when (badPointer f || pointerRepeated (seen .under) f) 10 (rw text at found)) in
+      rw (p, e) at none
+
+-- ---- in an accepted entry
+
+context-next : (s : List ℕ) (i : ℕ) → contextAt s (suc i) ≡ behind (contextAt s i) (blockAt 81 s i)
+unfolding contextAt
+context-next s i = refl
+
+not-blank : (b : Bool) → not b ≡ true → b ≡ false
+not-blank true e = differ (sym e)
+not-blank false e = refl
+
+is-blank : (b : Bool) → not b ≡ false → b ≡ true
+is-blank true e = refl
+is-blank false e = differ e
+
+module _ (s : List ℕ) (accepted : Accepted s) where
+  fine-at : (i : ℕ) → i < length s / 81
+      → faultOf (contextAt s i .track) (contextAt s i .seen) (roleAt s i) (fieldsOf (blockAt 81 s i)) (blockAt 81 s i)
+      ≡ Fine
+  fine-at i h = go-fine (contextAt s i) i (blockAt 81 s i) (contextAt s (suc i)) (walked s accepted .turns i h) .0
+
+  fits : (i : ℕ) → i ≤ length s / 81 → i * 81 ≤ length s
+  fits i h = omega arith
+
+  -- the section so far
+  bib-seen : (n a : ℕ) → Opening s n bib a → (m : ℕ) → m ≤ textsOf s a
+      → contextAt s (suc a + m) .seen .bib ≡ recordsFrom s (suc a) m
+  bib-seen n a o zero h =
+      let e : suc a + 0 ≡ suc a = omega arith in
+      rw (e, context-next s a, records-none s (suc a)) (bib-emptied (contextAt s a) (blockAt 81 s a) (o .role))
+  bib-seen n a o (suc m) h =
+      let i = suc a + m in
+      let e : suc a + suc m ≡ suc i = omega arith in
+      let t = text-laid s accepted n a o m (omega arith) in
+      rw (e, context-next s i)
+      (bib-joined (contextAt s i) (blockAt 81 s i) (t .role)
+      ∙ ap (λ (x : List ℕ). x ++ blockAt 81 s i) (bib-seen n a o m (omega arith)) ∙ records-next s (suc a) m)
+
+  -- "No keyword occurs twice in a section"
+  pub keyword-once : (n i j : ℕ) → TextOf s n i → TextOf s n j → j < i → hasKeyword (placeAt s i) ≡ true
+      → equalTo 10 (placeAt s i) (placeAt s j) ≡ false
+  keyword-once n i j t u l k =
+      let b = text-placed s accepted n i t in
+      let a = b .at in
+      let m = b .place in
+      let x = text-behind s accepted n a (b .opening) j u .0 in
+      let c = contextAt s i in
+      let r = blockAt 81 s i in
+      let f = placeAt s i in
+      let h = b .here in
+      let none =
+      fine-keyword (c .track) (c .seen) (roleAt s i) (fieldsOf r) r (fine-at i (t .there)) (t .role)
+      (not-blank (blankTo 10 f) k) in
+      let seen : c .seen .bib ≡ recordsFrom s (suc a) m =
+      rw (← h) at (bib-seen n a (b .opening) m (b .few)) in
+      let room : (suc a + m) * 81 ≤ length s = fits (suc a + m) (omega (arith, t .there)) in
+      let z : suc a + (j - suc a) ≡ j = omega arith in
+      rw z at
+      (not-among s (suc a) m room f (rw seen at none) (j - suc a) (omega arith))
+
+  -- the records under a keyword
+  under-seen : (n k e : ℕ) → TextOf s n k → hasKeyword (placeAt s k) ≡ true
+      → ((j : ℕ) → k < j → j ≤ k + e → TextOf s n j × (hasKeyword (placeAt s j) ≡ false))
+      → contextAt s (suc k + e) .seen .under ≡ recordsFrom s k (suc e)
+  under-seen n k zero t h rest =
+      let e : suc k + 0 ≡ suc k = omega arith in
+      rw (e, context-next s k)
+      (under-begun (contextAt s k) (blockAt 81 s k) (t .role) (not-blank (blankTo 10 (placeAt s k)) h))
+  under-seen n k (suc e) t h rest =
+      let i = suc k + e in
+      let x : suc k + suc e ≡ suc i = omega arith in
+      let y : k + suc e ≡ i = omega arith in
+      let (u, b) = rest i (omega arith) (omega arith) in
+      rw (x, context-next s i)
+      (under-joined (contextAt s i) (blockAt 81 s i) (u .role) (is-blank (blankTo 10 (placeAt s i)) b)
+      ∙ ap (λ (p : List ℕ). p ++ blockAt 81 s i)
+      (under-seen n k e t h (λ j p q. rest j p (omega arith)))
+      ∙ rw y at (records-next s k (suc e)))
+
+  -- "no pointer twice under one keyword"
+  pub pointer-once : (n k i j : ℕ) → Under s n k i → TextOf s n i → k ≤ j → j < i
+      → isBlank (pointerOf (placeAt s i)) ≡ false → eqb (pointerOf (placeAt s i)) (pointerOf (placeAt s j)) ≡ false
+  pointer-once n k i j u t p l q =
+      let e = i - suc k in
+      let x : suc k + e ≡ i = omega arith in
+      let c = contextAt s i in
+      let r = blockAt 81 s i in
+      let f = placeAt s i in
+      let none =
+      fine-pointer (c .track) (c .seen) (roleAt s i) (fieldsOf r) r (fine-at i (t .there)) (t .role)
+      (is-blank (blankTo 10 f) (u .last i (omega arith) (omega arith))) q in
+      let seen : c .seen .under ≡ recordsFrom s k (suc e) =
+      rw x at
+      (under-seen n k e (u .text) (u .keyword)
+      (λ m a b.
+      (texts-between s accepted n k i (u .text) t m (omega arith) (omega arith), u .last m a (omega arith)))) in
+      let room : (k + suc e) * 81 ≤ length s = fits (k + suc e) (omega (arith, t .there)) in
+      let z : k + (j - k) ≡ j = omega arith in
+      rw z at (not-pointed s k (suc e) room (pointerOf f) (rw seen at none) (j - k) (omega arith))
