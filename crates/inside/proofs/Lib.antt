@@ -6,4 +6,5 @@ pub mod RowFound
 pub mod TextLaid
 pub mod TextPlaced
 pub mod TextsSeen
+pub mod PassageAnswered
 pub mod Answered

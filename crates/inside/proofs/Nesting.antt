@@ -212,7 +212,7 @@ pub record Nested (c : Context) (role number : ℕ) (d : Context) : Type 0 where
   pub «data» : role ≡ DATA → rank (c .phase) ≡ 5
   pub behind : d .phase ≡ phaseAfter role
 
-or-right : (a b : Bool) → (a || b) ≡ true → a ≡ false → b ≡ true
+pub or-right : (a b : Bool) → (a || b) ≡ true → a ≡ false → b ≡ true
 or-right true b h e = let z : _≡_ {A = ℕ} 0 1 = cc in absurd (omega arith)
 or-right false b h e = h
 

@@ -8,11 +8,12 @@ use mathlib.Core.Bool.{Bool, true, false, not, _||_}
 use mathlib.Core.List.{List, [], _++_}
 use native.Mathlib.Omega.{arith}
 use lib.Dec.{eqb}
+use borrow.Author.Tests.{not-true, not-false}
 use lib.ListN.{length, take, drop, getD, length-drop}
 use lib.Seq.{length-take-le, take-add, take-take, drop-drop, drop-at, getD-take, getD-drop}
 use Rattle.laws.specs.Blocks.{blockAt}
 use Rattle.laws.specs.Members.{anyOf}
-use Rattle.laws.proofs.Booleans.{differ, or-right}
+use Rattle.laws.proofs.Booleans.{or-right}
 use Rattle.laws.proofs.Listing.{any-none}
 use Rattle.record.specs.Columns.{columnsAt}
 use Rattle.record.specs.Fields.{fieldsOf}
@@ -158,14 +159,6 @@ context-next : (s : List ℕ) (i : ℕ) → contextAt s (suc i) ≡ behind (cont
 unfolding contextAt
 context-next s i = refl
 
-not-blank : (b : Bool) → not b ≡ true → b ≡ false
-not-blank true e = differ (sym e)
-not-blank false e = refl
-
-is-blank : (b : Bool) → not b ≡ false → b ≡ true
-is-blank true e = refl
-is-blank false e = differ e
-
 module _ (s : List ℕ) (accepted : Accepted s) where
   fine-at : (i : ℕ) → i < length s / 81
       → faultOf (contextAt s i .track) (contextAt s i .seen) (roleAt s i) (fieldsOf (blockAt 81 s i)) (blockAt 81 s i)
@@ -203,7 +196,7 @@ module _ (s : List ℕ) (accepted : Accepted s) where
       let h = b .here in
       let none =
       fine-keyword (c .track) (c .seen) (roleAt s i) (fieldsOf r) r (fine-at i (t .there)) (t .role)
-      (not-blank (blankTo 10 f) k) in
+      (not-true (blankTo 10 f) k) in
       let seen : c .seen .bib ≡ recordsFrom s (suc a) m =
       rw (← h) at (bib-seen n a (b .opening) m (b .few)) in
       let room : (suc a + m) * 81 ≤ length s = fits (suc a + m) (omega (arith, t .there)) in
@@ -218,14 +211,14 @@ module _ (s : List ℕ) (accepted : Accepted s) where
   under-seen n k zero t h rest =
       let e : suc k + 0 ≡ suc k = omega arith in
       rw (e, context-next s k)
-      (under-begun (contextAt s k) (blockAt 81 s k) (t .role) (not-blank (blankTo 10 (placeAt s k)) h))
+      (under-begun (contextAt s k) (blockAt 81 s k) (t .role) (not-true (blankTo 10 (placeAt s k)) h))
   under-seen n k (suc e) t h rest =
       let i = suc k + e in
       let x : suc k + suc e ≡ suc i = omega arith in
       let y : k + suc e ≡ i = omega arith in
       let (u, b) = rest i (omega arith) (omega arith) in
       rw (x, context-next s i)
-      (under-joined (contextAt s i) (blockAt 81 s i) (u .role) (is-blank (blankTo 10 (placeAt s i)) b)
+      (under-joined (contextAt s i) (blockAt 81 s i) (u .role) (not-false (blankTo 10 (placeAt s i)) b)
       ∙ ap (λ (p : List ℕ). p ++ blockAt 81 s i)
       (under-seen n k e t h (λ j p q. rest j p (omega arith)))
       ∙ rw y at (records-next s k (suc e)))
@@ -241,7 +234,7 @@ module _ (s : List ℕ) (accepted : Accepted s) where
       let f = placeAt s i in
       let none =
       fine-pointer (c .track) (c .seen) (roleAt s i) (fieldsOf r) r (fine-at i (t .there)) (t .role)
-      (is-blank (blankTo 10 f) (u .last i (omega arith) (omega arith))) q in
+      (not-false (blankTo 10 f) (u .last i (omega arith) (omega arith))) q in
       let seen : c .seen .under ≡ recordsFrom s k (suc e) =
       rw x at
       (under-seen n k e (u .text) (u .keyword)
