@@ -5,6 +5,8 @@ pub mod Nesting
 pub mod RowFound
 pub mod TextLaid
 pub mod TextPlaced
+pub mod RecordsFrom
 pub mod TextsSeen
+pub mod FoundFirst
 pub mod PassageAnswered
 pub mod Answered

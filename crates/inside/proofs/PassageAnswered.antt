@@ -1,20 +1,20 @@
 -- Demand 3, its first half, for passages: every passage inside an accepted entry is answered with its own records, and
 -- a keyword and a pointer have one passage only.
 -- Assumes nothing.
-use Prim.Native.Nat.{ℕ, zero, suc, _+_, _*_, _-_, _<_, _≤_}
+use Prim.Native.Nat.{ℕ, suc, _+_, _*_, _-_, _<_, _≤_}
 use mathlib.Core.Path.{_≡_, refl, sym, _∙_, ap}
-use mathlib.Core.Bool.{Bool, true, false, cond, not, _&&_}
+use mathlib.Core.Bool.{Bool, true, false, not}
 use mathlib.Core.List.{List, [], _∷_}
 use native.Mathlib.Omega.{arith}
 use lib.Dec.{eqb}
 use lib.ListN.{length, getD}
-use borrow.Author.Tests.{eqb-true, eqb-false, eq-eqb, ne-eqb, le-leb, lt-ltb, not-true, not-false}
+use borrow.Author.Tests.{eqb-true, eqb-false, eq-eqb, ne-eqb, le-leb, lt-ltb, not-true}
 use Rattle.laws.specs.Search.{first}
 use Rattle.laws.proofs.Booleans.{differ, and-left, and-right}
-use Rattle.laws.proofs.Search.{either, first-from, first-to, first-pass, pass-first}
+use Rattle.laws.proofs.Search.{first-from, first-to}
 use Rattle.laws.proofs.Counting.{first-before, first-past}
 use Rattle.record.specs.Text.{isBlank}
-use Rattle.record.specs.Word.{differAt, equalTo, pointerOf}
+use Rattle.record.specs.Word.{equalTo, pointerOf}
 use Rattle.record.specs.declared.columns.RecordNo.{RecordNo}
 use Rattle.entry.specs.Verdict.{judgeOf}
 use Rattle.questions.specs.declared.row.Row.{Row}
@@ -28,57 +28,13 @@ use Rattle.questions.specs.Ask.{passageAnswer}
 use Rattle.questions.proofs.Refusals.{section-none}
 use Rattle.questions.proofs.RowChanges.{bib}
 use Rattle.inside.specs.Inside.{Accepted, TextOf, placeAt, InsidePassage, RunFrom, PassageAnswered}
-use Rattle.inside.specs.Inside.{OnePassage}
+use Rattle.inside.specs.Inside.{BegunInside, OnePassage}
+use Rattle.inside.proofs.FoundFirst.{first-holds, first-is, and-none, equal-both, equal-taken}
 use Rattle.inside.proofs.Nesting.{or-right}
 use Rattle.inside.proofs.RowFound.{Opening, row-names, row-subent, fields-at}
 use Rattle.inside.proofs.TextLaid.{textsOf, texts-there, text-laid, texts-number}
 use Rattle.inside.proofs.TextPlaced.{text-placed, text-behind}
-use Rattle.inside.proofs.TextsSeen.{keyword-once, pointer-once}
-
--- ---- the first place
-
-first-holds : (f : ℕ → Bool) (i n : ℕ) → first f i n < i + n → f (first f i n) ≡ true
-unfolding first
-first-holds f i zero h = absurd (omega arith)
-first-holds f i (suc n) h = by-test (f i) refl h (first-holds f (i + 1) n)
-  where
-    by-test : (t : Bool) → f i ≡ t → cond t i (first f (i + 1) n) < i + suc n
-        → (first f (i + 1) n < i + 1 + n → f (first f (i + 1) n) ≡ true) → f (cond t i (first f (i + 1) n)) ≡ true
-    by-test true q h rest = q
-    by-test false q h rest = rest (omega arith)
-
-first-is : (f : ℕ → Bool) (i n k : ℕ) → i ≤ k → k < i + n → f k ≡ true
-    → ((j : ℕ) → i ≤ j → j < k → f j ≡ false) → first f i n ≡ k
-first-is f i n k a b here before =
-    let l = first-past f i n k a (omega arith) before in
-    either k (first f i n) (λ h. differ (sym here ∙ first-before f i n k a h b)) (λ h. omega arith)
-
--- ---- tests
-
-and-none : (a b : Bool) → b ≡ false → (a && b) ≡ false
-and-none true b e = e
-and-none false b e = refl
-
--- ---- ten columns
-
-equal-at : (w : ℕ) (a b : List ℕ) → equalTo w a b ≡ true → (i : ℕ) → i < w → getD a i 0 ≡ getD b i 0
-unfolding equalTo
-equal-at w a b e i h =
-    eqb-true (getD a i 0) (getD b i 0)
-    (not-false (eqb (getD a i 0) (getD b i 0))
-    (first-pass (differAt a b) 0 w (eqb-true (first (differAt a b) 0 w) w e ∙ omega arith) i (omega arith) (omega arith)))
-
-at-equal : (w : ℕ) (a b : List ℕ) → ((i : ℕ) → i < w → getD a i 0 ≡ getD b i 0) → equalTo w a b ≡ true
-unfolding equalTo
-at-equal w a b h =
-    eq-eqb (first (differAt a b) 0 w) w
-    (pass-first (differAt a b) 0 w (λ k l m. rw (eq-eqb (getD a k 0) (getD b k 0) (h k (omega arith)))) ∙ omega arith)
-
--- two that are equal to a third
-equal-both : (w : ℕ) (a b c : List ℕ) → equalTo w a c ≡ true → equalTo w b c ≡ true → equalTo w a b ≡ true
-equal-both w a b c p q = at-equal w a b (λ i h. equal-at w a c p i h ∙ sym (equal-at w b c q i h))
-
--- ---- a passage in an accepted entry
+use Rattle.inside.proofs.TextsSeen.{keyword-once, pointer-once, text-under}
 
 module _ (s : List ℕ) (accepted : Accepted s) (n : ℕ) (keyword : List ℕ) (pointer : ℕ)
     (x : InsidePassage s n keyword pointer) where
@@ -257,7 +213,8 @@ module _ (s : List ℕ) (accepted : Accepted s) (n : ℕ) (keyword : List ℕ) (
       let m = j - suc a in
       let z : suc a + m ≡ j = omega arith in
       let none =
-      first-before (λ m. begins (textAt s section m)) (p + 1) (N - (p + 1)) m (omega arith) (omega arith) (omega arith) in
+      first-before (λ m. begins (textAt s section m)) (p + 1) (N - (p + 1)) m (omega arith) (omega arith)
+      (omega arith) in
       (rw z at (text-laid s accepted n a o m (omega arith)), rw (text-at m (omega arith), z) at none)
 
   -- the one behind it does
@@ -281,6 +238,24 @@ module _ (s : List ℕ) (accepted : Accepted s) (n : ℕ) (keyword : List ℕ) (
         inside = run-inside;
         ends = run-ends;
       }
+
+-- a record that begins a passage is inside, under its own keyword and pointer
+pub begun-inside : BegunInside
+begun-inside s n i accepted t e =
+    let (k, u) = text-under s accepted n i t in (
+      k,
+      (
+        record {
+          index = i;
+          text = t;
+          begun = rw (e, eq-eqb (pointerOf (placeAt s i)) (pointerOf (placeAt s i)) refl);
+          keyword-at = k;
+          under = u;
+          same = equal-taken 10 (placeAt s k);
+        },
+        refl,
+      ),
+    )
 
 -- THE THEOREM, for passages
 pub passage-answered : PassageAnswered

@@ -4,29 +4,26 @@
 -- Assumes nothing.
 use Prim.Native.Nat.{ℕ, zero, suc, _+_, _*_, _-_, _/_, _<_, _≤_}
 use mathlib.Core.Path.{_≡_, refl, sym, _∙_, ap}
-use mathlib.Core.Bool.{Bool, true, false, not, _||_}
+use mathlib.Core.Bool.{Bool, true, false, cond, not, _||_}
 use mathlib.Core.List.{List, [], _++_}
 use native.Mathlib.Omega.{arith}
 use lib.Dec.{eqb}
-use borrow.Author.Tests.{not-true, not-false}
-use lib.ListN.{length, take, drop, getD, length-drop}
-use lib.Seq.{length-take-le, take-add, take-take, drop-drop, drop-at, getD-take, getD-drop}
+use borrow.Author.Tests.{eq-eqb, not-true, not-false}
+use lib.ListN.{length, getD}
 use Rattle.laws.specs.Blocks.{blockAt}
 use Rattle.laws.specs.Members.{anyOf}
-use Rattle.laws.proofs.Booleans.{or-right}
-use Rattle.laws.proofs.Listing.{any-none}
-use Rattle.record.specs.Columns.{columnsAt}
+use Rattle.laws.proofs.Booleans.{differ, or-right}
+use Rattle.laws.proofs.Search.{either}
 use Rattle.record.specs.Fields.{fieldsOf}
 use Rattle.record.specs.Identifier.{BIB}
 use Rattle.record.specs.Text.{isBlank}
 use Rattle.record.specs.Word.{blankTo, equalTo, isWord, pointerOf, badPointer}
-use Rattle.record.proofs.ReadColumns.{field-of}
 use Rattle.rules.specs.declared.fault.Fault.the-variants.{Fine}
 use Rattle.rules.specs.declared.state.Track.{Track}
 use Rattle.rules.specs.State.{Seen, Context}
 use Rattle.rules.specs.Role.{TEXT}
 use Rattle.rules.specs.Fault.{when, leftmost}
-use Rattle.rules.specs.Text.{placesOf, pointersOf, pointerAt, keywordFault, rule10, pointerRepeated, rule11Text}
+use Rattle.rules.specs.Text.{placesOf, pointersOf, keywordFault, rule10, pointerRepeated, rule11Text}
 use Rattle.rules.specs.Order.{faultOf}
 use Rattle.rules.proofs.WithoutFault.{none-found}
 use Rattle.entry.specs.Next.{partAfter, bibChange, underChange, seenAfter, contextAfter}
@@ -36,73 +33,10 @@ use Rattle.questions.specs.Passage.{hasKeyword}
 use Rattle.questions.proofs.RowChanges.{bib}
 use Rattle.inside.specs.Inside.{Accepted, behind, contextAt, roleAt, TextOf, placeAt, Under}
 use Rattle.inside.proofs.Contexts.{walked}
+use Rattle.inside.proofs.RecordsFrom.{recordsFrom, records-none, records-next, not-among, not-pointed}
 use Rattle.inside.proofs.RowFound.{Opening}
-use Rattle.inside.proofs.TextLaid.{textsOf, text-laid}
+use Rattle.inside.proofs.TextLaid.{textsOf, texts-stand, text-laid}
 use Rattle.inside.proofs.TextPlaced.{text-placed, text-behind, texts-between}
-
--- ---- records one behind the other
-
--- e records from the index b on
-abbrev recordsFrom : List ℕ → ℕ → ℕ → List ℕ
-recordsFrom s b e = take (e * 81) (drop (b * 81) s)
-
-records-none : (s : List ℕ) (b : ℕ) → recordsFrom s b 0 ≡ []
-records-none s b = refl
-
-records-next : (s : List ℕ) (b e : ℕ) → recordsFrom s b e ++ blockAt 81 s (b + e) ≡ recordsFrom s b (suc e)
-records-next s b e =
-    let l = drop (b * 81) s in
-    let x : suc e * 81 ≡ e * 81 + 81 = omega arith in
-    let y : b * 81 + e * 81 ≡ (b + e) * 81 = omega arith in
-    rw x (sym (take-add (e * 81) 81 l ∙ rw (drop-drop (e * 81) (b * 81) s, y)))
-
-drop-taken : (q w : ℕ) (l : List ℕ) → q ≤ length l → drop q (take (q + w) l) ≡ take w (drop q l)
-drop-taken q w l h = rw (take-add q w l) (drop-at (take q l) (take w (drop q l)) q (length-take-le q l h))
-
-module _ (s : List ℕ) (b e : ℕ) (fits : (b + e) * 81 ≤ length s) where
-  records-count : length (recordsFrom s b e) / 81 ≡ e
-  records-count =
-      let z : length (recordsFrom s b e) ≡ e * 81 =
-      length-take-le (e * 81) (drop (b * 81) s) (simp length-drop (omega arith)) in
-      omega arith
-
-  -- columns 1 to 11 of the record q of them
-  record-place : (q : ℕ) → q < e → columnsAt (q * 81) 11 (recordsFrom s b e) ≡ placeAt s (b + q)
-  record-place q h =
-      let l = drop (b * 81) s in
-      let r = drop ((b + q) * 81) s in
-      let w = (e - q) * 81 in
-      let x : e * 81 ≡ q * 81 + w = omega arith in
-      let y : b * 81 + q * 81 ≡ (b + q) * 81 = omega arith in
-      let here : drop (q * 81) (recordsFrom s b e) ≡ take w r =
-      ap (λ (n : ℕ). drop (q * 81) (take n l)) x ∙ drop-taken (q * 81) w l (simp length-drop (omega arith))
-      ∙ ap (take w) (drop-drop (q * 81) (b * 81) s ∙ ap (λ (n : ℕ). drop n s) y) in
-      ap (take 11) here ∙ take-take 11 w r (omega arith)
-      ∙ sym (field-of (take 81 r) 0 (omega arith) ∙ take-take 11 81 r (omega arith))
-
-  record-pointer : (q : ℕ) → q < e → pointerAt (recordsFrom s b e) q ≡ pointerOf (placeAt s (b + q))
-  record-pointer q h =
-      let part = recordsFrom s b e in
-      sym (getD-take 11 (drop (q * 81) part) 10 0 (omega arith) ∙ getD-drop (q * 81) part 10 0)
-      ∙ ap pointerOf (record-place q h)
-
--- none of them has these ten columns, or this pointer
-module _ (s : List ℕ) (b e : ℕ) (fits : (b + e) * 81 ≤ length s) where
-  not-among : (f : List ℕ) → anyOf (equalTo 10 f) (placesOf (recordsFrom s b e)) ≡ false → (q : ℕ) → q < e
-      → equalTo 10 f (placeAt s (b + q)) ≡ false
-  unfolding placesOf
-  not-among f none q h =
-      let n = records-count s b e fits in
-      rw (record-place s b e fits q h) at
-      (any-none (equalTo 10 f) _ 0 (length (recordsFrom s b e) / 81) none q (omega arith) (omega arith))
-
-  not-pointed : (p : ℕ) → anyOf (eqb p) (pointersOf (recordsFrom s b e)) ≡ false → (q : ℕ) → q < e
-      → eqb p (pointerOf (placeAt s (b + q))) ≡ false
-  unfolding pointersOf
-  not-pointed p none q h =
-      let n = records-count s b e fits in
-      rw (record-pointer s b e fits q h) at
-      (any-none (eqb p) _ 0 (length (recordsFrom s b e) / 81) none q (omega arith) (omega arith))
 
 -- ---- what a text record adds
 
@@ -134,13 +68,25 @@ module _ (t : Track) (seen : Seen) (role : ℕ) (fs : List (List ℕ)) (r : List
   abbrev f : List ℕ
   f = getD fs 0 []
 
+  fine-10 : keywordFault (seen .bib) t f ≡ false
+  unfolding rule10
+  fine-10 =
+      let found = none-found t seen role fs r fine .1 .1 .1 .1 .1 .1 .1 .1 .0 in
+      none-when (keywordFault (seen .bib) t f) 0 (rw text at found)
+
   -- 10: its keyword is none of the section so far
   fine-keyword : blankTo 10 f ≡ false → anyOf (equalTo 10 f) (placesOf (seen .bib)) ≡ false
-  unfolding rule10
-  fine-keyword e =
-      let found = none-found t seen role fs r fine .1 .1 .1 .1 .1 .1 .1 .1 .0 in
-      let none : keywordFault (seen .bib) t f ≡ false = none-when (keywordFault (seen .bib) t f) 0 (rw text at found) in
-      or-right (not (isWord 10 f)) (anyOf (equalTo 10 f) (placesOf (seen .bib))) (rw e at none)
+  fine-keyword e = or-right (not (isWord 10 f)) (anyOf (equalTo 10 f) (placesOf (seen .bib))) (rw e at fine-10)
+
+  -- and the first of the section has one
+  fine-first : t .section ≡ 0 → hasKeyword f ≡ true
+  fine-first z = by-test (blankTo 10 f) fine-10
+    where
+      by-test : (b : Bool)
+          → cond b (eqb (t .section) 0) (not (isWord 10 f) || anyOf (equalTo 10 f) (placesOf (seen .bib))) ≡ false
+          → not b ≡ true
+      by-test true e = differ (sym (eq-eqb (t .section) 0 z) ∙ e)
+      by-test false e = refl
 
   -- 11: its pointer is none of those under its keyword
   fine-pointer : blankTo 10 f ≡ true → isBlank (pointerOf f) ≡ false
@@ -243,3 +189,43 @@ module _ (s : List ℕ) (accepted : Accepted s) where
       let room : (k + suc e) * 81 ≤ length s = fits (k + suc e) (omega (arith, t .there)) in
       let z : k + (j - k) ≡ j = omega arith in
       rw z at (not-pointed s k (suc e) room (pointerOf f) (rw seen at none) (j - k) (omega arith))
+
+  own : (n i : ℕ) → TextOf s n i → hasKeyword (placeAt s i) ≡ true → Under s n i i
+  own n i t e = record { text = t; keyword = e; before = omega arith; last = λ j p q. absurd (omega arith) }
+
+  -- "The first record has a keyword", and each of the others stands under its own or the last before it
+  under-at : (n a : ℕ) → Opening s n bib a → (m : ℕ) → m < textsOf s a → (k : ℕ) × Under s n k (suc a + m)
+  under-at n a o zero h =
+      let i = suc a + 0 in
+      let c = contextAt s i in
+      let r = blockAt 81 s i in
+      let t = text-laid s accepted n a o 0 h in
+      let z = texts-stand s accepted n a o 0 (omega arith) .before in
+      let k = fine-first (c .track) (c .seen) (roleAt s i) (fieldsOf r) r (fine-at i (t .there)) (t .role) z in
+      (i, own n i t k)
+  under-at n a o (suc m) h =
+      let i = suc a + suc m in
+      let (k, u) = under-at n a o m (omega arith) in
+      by-test (text-laid s accepted n a o (suc m) h) k u (hasKeyword (placeAt s i)) refl
+    where
+      by-test : TextOf s n (suc a + suc m) → (k : ℕ) → Under s n k (suc a + m) → (b : Bool)
+          → hasKeyword (placeAt s (suc a + suc m)) ≡ b → (k : ℕ) × Under s n k (suc a + suc m)
+      by-test t k u true e = (suc a + suc m, own n (suc a + suc m) t e)
+      by-test t k u false e = (
+        k,
+        record {
+          text = u .text;
+          keyword = u .keyword;
+          before = omega (arith, u .before);
+          last =
+              λ j p q.
+              either j (suc a + suc m) (λ l. u .last j p (omega arith))
+              (λ l. let z : j ≡ suc a + suc m = omega arith in rw z e);
+        },
+      )
+
+  pub text-under : (n i : ℕ) → TextOf s n i → (k : ℕ) × Under s n k i
+  text-under n i t =
+      let b = text-placed s accepted n i t in
+      let few = text-behind s accepted n (b .at) (b .opening) i t .1 in
+      rw (b .here) (under-at n (b .at) (b .opening) (b .place) (omega (arith, b .here)))

@@ -8,12 +8,12 @@ use mathlib.Core.Path.{_≡_}
 use mathlib.Core.Bool.{Bool, true, false, cond}
 use mathlib.Core.List.{List, []}
 use lib.Dec.{eqb}
-use lib.ListN.{length, getD}
+use lib.ListN.{length, take, getD}
 use Rattle.laws.specs.Blocks.{blockAt}
 use Rattle.number.specs.declared.value.Reading.{Reading}
 use Rattle.number.specs.declared.value.Reading.the-variants.{Blank, Number, Refused}
 use Rattle.record.specs.Fields.{fieldsOf}
-use Rattle.record.specs.Word.{equalTo}
+use Rattle.record.specs.Word.{equalTo, pointerOf}
 use Rattle.record.specs.Identifier.{COMMON, DATA}
 use Rattle.record.specs.declared.columns.LineNo.{LineNo}
 use Rattle.rules.specs.State.{Context, startContext}
@@ -88,7 +88,7 @@ pub record TextOf (s : List ℕ) (n i : ℕ) : Type 0 where
 abbrev pub placeAt : List ℕ → ℕ → List ℕ
 placeAt s i = getD (fieldsOf (blockAt 81 s i)) 0 []
 
--- the record i stands under the keyword of the text record k: that is itself, or the last before it that has one
+-- the record i stands under the keyword of the text record k: its own, or that of the last before it that has one
 pub record Under (s : List ℕ) (n k i : ℕ) : Type 0 where
   pub text : TextOf s n k
   pub keyword : hasKeyword (placeAt s k) ≡ true
@@ -137,6 +137,12 @@ abbrev pub UnitAnswered : Type 0
 UnitAnswered =
     (s : List ℕ) (n section column : ℕ) → Accepted s → InsideColumn s n section column
     → (unitOf s n section column .answer .number ≡ 0) × (unitOf s n section column .length ≡ 10)
+
+-- "The first record has a keyword": a text record that begins a passage does so under the keyword of some record k
+abbrev pub BegunInside : Type 0
+BegunInside =
+    (s : List ℕ) (n i : ℕ) → Accepted s → TextOf s n i → begins (placeAt s i) ≡ true
+    → (k : ℕ) × ((x : InsidePassage s n (take 10 (placeAt s k)) (pointerOf (placeAt s i))) × (x .index ≡ i))
 
 -- a passage is its whole records
 abbrev pub PassageAnswered : Type 0
