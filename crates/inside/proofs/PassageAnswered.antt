@@ -16,6 +16,7 @@ use Rattle.laws.proofs.Counting.{first-before, first-past}
 use Rattle.record.specs.Text.{isBlank}
 use Rattle.record.specs.Word.{equalTo, pointerOf}
 use Rattle.record.specs.declared.columns.RecordNo.{RecordNo}
+use Rattle.rules.specs.Text.{placeAt}
 use Rattle.entry.specs.Verdict.{judgeOf}
 use Rattle.questions.specs.declared.row.Row.{Row}
 use Rattle.questions.specs.declared.passage.Passage.{Passage}
@@ -27,10 +28,11 @@ use Rattle.questions.specs.Ask.{firstOf, refusal, noSection, noPassage, section
 use Rattle.questions.specs.Ask.{passageAnswer}
 use Rattle.questions.proofs.Refusals.{section-none}
 use Rattle.questions.proofs.RowChanges.{bib}
-use Rattle.inside.specs.Inside.{Accepted, TextOf, placeAt, InsidePassage, RunFrom, PassageAnswered}
+use Rattle.inside.specs.Inside.{Accepted, TextOf, InsidePassage, RunFrom, PassageAnswered}
 use Rattle.inside.specs.Inside.{BegunInside, OnePassage}
 use Rattle.inside.proofs.FoundFirst.{first-holds, first-is, and-none, equal-both, equal-taken}
 use Rattle.inside.proofs.Nesting.{or-right}
+use Rattle.inside.proofs.RecordsFrom.{place-field}
 use Rattle.inside.proofs.RowFound.{Opening, row-names, row-subent, fields-at}
 use Rattle.inside.proofs.TextLaid.{textsOf, texts-there, text-laid, texts-number}
 use Rattle.inside.proofs.TextPlaced.{text-placed, text-behind}
@@ -91,6 +93,7 @@ module _ (s : List ℕ) (accepted : Accepted s) (n : ℕ) (keyword : List ℕ) (
       let t = text-laid s accepted n a o m h .there in
       let e : textRecord section m .0 ≡ suc (suc a + m) = omega (arith, section-record) in
       ap (λ (fs : List (List ℕ)). getD fs 0 []) (fields-at s (suc a + m) (omega arith) (textRecord section m) e)
+      ∙ place-field s (suc a + m)
 
   -- the places of k and i among the text records
   abbrev q : ℕ

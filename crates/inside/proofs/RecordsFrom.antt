@@ -6,16 +6,21 @@ use mathlib.Core.Bool.{false}
 use mathlib.Core.List.{List, [], _++_}
 use native.Mathlib.Omega.{arith}
 use lib.Dec.{eqb}
-use lib.ListN.{length, take, drop, length-drop}
+use lib.ListN.{length, take, drop, getD, length-drop}
 use lib.Seq.{length-take-le, take-add, take-take, drop-drop, drop-at, getD-take, getD-drop}
 use Rattle.laws.specs.Blocks.{blockAt}
 use Rattle.laws.specs.Members.{anyOf}
 use Rattle.laws.proofs.Listing.{any-none}
-use Rattle.record.specs.Columns.{columnsAt}
+use Rattle.record.specs.Fields.{fieldsOf}
 use Rattle.record.specs.Word.{equalTo, pointerOf}
 use Rattle.record.proofs.ReadColumns.{field-of}
-use Rattle.rules.specs.Text.{placesOf, pointersOf, pointerAt}
-use Rattle.inside.specs.Inside.{placeAt}
+use Rattle.rules.specs.Text.{placeAt, placesOf, pointersOf, pointerAt}
+
+-- columns 1 to 11 are the first field
+pub place-field : (s : List ℕ) (i : ℕ) → getD (fieldsOf (blockAt 81 s i)) 0 [] ≡ placeAt s i
+place-field s i =
+    let r = drop (i * 81) s in
+    field-of (take 81 r) 0 (omega arith) ∙ take-take 11 81 r (omega arith)
 
 -- e records from the index b on
 abbrev pub recordsFrom : List ℕ → ℕ → ℕ → List ℕ
@@ -42,7 +47,7 @@ module _ (s : List ℕ) (b e : ℕ) (fits : (b + e) * 81 ≤ length s) where
       omega arith
 
   -- columns 1 to 11 of the record q of them
-  record-place : (q : ℕ) → q < e → columnsAt (q * 81) 11 (recordsFrom s b e) ≡ placeAt s (b + q)
+  record-place : (q : ℕ) → q < e → placeAt (recordsFrom s b e) q ≡ placeAt s (b + q)
   record-place q h =
       let l = drop (b * 81) s in
       let r = drop ((b + q) * 81) s in
@@ -53,7 +58,6 @@ module _ (s : List ℕ) (b e : ℕ) (fits : (b + e) * 81 ≤ length s) where
       ap (λ (n : ℕ). drop (q * 81) (take n l)) x ∙ drop-taken (q * 81) w l (simp length-drop (omega arith))
       ∙ ap (take w) (drop-drop (q * 81) (b * 81) s ∙ ap (λ (n : ℕ). drop n s) y) in
       ap (take 11) here ∙ take-take 11 w r (omega arith)
-      ∙ sym (field-of (take 81 r) 0 (omega arith) ∙ take-take 11 81 r (omega arith))
 
   record-pointer : (q : ℕ) → q < e → pointerAt (recordsFrom s b e) q ≡ pointerOf (placeAt s (b + q))
   record-pointer q h =

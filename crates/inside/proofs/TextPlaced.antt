@@ -3,12 +3,14 @@
 use Prim.Native.Nat.{ℕ, zero, suc, _+_, _-_, _/_, _<_, _≤_}
 use mathlib.Core.Path.{_≡_, refl, sym}
 use mathlib.Core.Bool.{Bool, true, false, cond}
-use mathlib.Core.List.{List}
+use mathlib.Core.List.{List, []}
 use native.Mathlib.Omega.{arith}
 use lib.Dec.{eqb}
-use lib.ListN.{length}
+use lib.ListN.{length, getD}
 use borrow.Author.Tests.{eqb-true, eqb-false, eq-eqb}
+use Rattle.laws.specs.Blocks.{blockAt}
 use Rattle.laws.proofs.Booleans.{differ}
+use Rattle.record.specs.Fields.{fieldsOf}
 use Rattle.record.specs.Identifier.{BIB, ENDBIB, OTHER, identifierOf}
 use Rattle.rules.specs.State.{Context}
 use Rattle.rules.specs.Role.{TEXT, NOT-DUE, only, bibRole, roleIn, inBib}
@@ -16,7 +18,7 @@ use Rattle.rules.proofs.RolePlaces.{text-in-bib}
 use Rattle.entry.specs.Next.{phaseAfter, contextAfter}
 use Rattle.entry.proofs.Following.{bib-led, one-of}
 use Rattle.questions.proofs.RowChanges.{bib}
-use Rattle.inside.specs.Inside.{Accepted, contextAt, roleAt, TextOf, placeAt}
+use Rattle.inside.specs.Inside.{Accepted, contextAt, roleAt, TextOf}
 use Rattle.inside.proofs.Nesting.{either-as}
 use Rattle.inside.proofs.RowFound.{Opening, row-names}
 use Rattle.inside.proofs.TextLaid.{InTexts, textsOf, texts-stand, text-laid}
@@ -58,16 +60,19 @@ module _ (s : List ℕ) (accepted : Accepted s) where
   abbrev Found : ℕ → Type 0
   Found i = inBib (contextAt s i .phase) ≡ true → BehindBib s (numberAt i) i
 
+  abbrev identifierIn : ℕ → ℕ
+  identifierIn i = identifierOf (getD (fieldsOf (blockAt 81 s i)) 0 [])
+
   in-bib : (i : ℕ) → roleAt s i ≡ TEXT → inBib (contextAt s i .phase) ≡ true
   in-bib i e =
       let c = contextAt s i in
-      text-in-bib (c .phase) (c .track) (identifierOf (placeAt s i)) (eq-eqb (roleAt s i) TEXT e)
+      text-in-bib (c .phase) (c .track) (identifierIn i) (eq-eqb (roleAt s i) TEXT e)
 
   text-few : (n i : ℕ) → roleAt s i ≡ TEXT → (b : BehindBib s n i) → b .place < textsOf s (b .at)
   text-few n i e b =
       let l : InTexts n (textsOf s (b .at)) (b .place) (contextAt s i) =
       rw (← b .here) at (texts-stand s accepted n (b .at) (b .opening) (b .place) (b .few)) in
-      text-more n (textsOf s (b .at)) (b .place) (contextAt s i) (identifierOf (placeAt s i)) l e (b .few)
+      text-more n (textsOf s (b .at)) (b .place) (contextAt s i) (identifierIn i) l e (b .few)
 
   -- behind BIB
   found-first : (i : ℕ) → i < length s / 81 → roleAt s i ≡ BIB → BehindBib s (numberAt (suc i)) (suc i)

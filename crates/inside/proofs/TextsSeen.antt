@@ -23,7 +23,7 @@ use Rattle.rules.specs.declared.state.Track.{Track}
 use Rattle.rules.specs.State.{Seen, Context}
 use Rattle.rules.specs.Role.{TEXT}
 use Rattle.rules.specs.Fault.{when, leftmost}
-use Rattle.rules.specs.Text.{placesOf, pointersOf, keywordFault, rule10, pointerRepeated, rule11Text}
+use Rattle.rules.specs.Text.{placeAt, placesOf, pointersOf, keywordFault, rule10, pointerRepeated, rule11Text}
 use Rattle.rules.specs.Order.{faultOf}
 use Rattle.rules.proofs.WithoutFault.{none-found}
 use Rattle.entry.specs.Next.{partAfter, bibChange, underChange, seenAfter, contextAfter}
@@ -31,27 +31,28 @@ use Rattle.entry.specs.Verdict.{roleOf}
 use Rattle.entry.proofs.GoingOn.{go-fine}
 use Rattle.questions.specs.Passage.{hasKeyword}
 use Rattle.questions.proofs.RowChanges.{bib}
-use Rattle.inside.specs.Inside.{Accepted, behind, contextAt, roleAt, TextOf, placeAt, Under}
+use Rattle.inside.specs.Inside.{Accepted, behind, contextAt, roleAt, TextOf, Under}
 use Rattle.inside.proofs.Contexts.{walked}
-use Rattle.inside.proofs.RecordsFrom.{recordsFrom, records-none, records-next, not-among, not-pointed}
+use Rattle.inside.proofs.RecordsFrom.{place-field, recordsFrom, records-none, records-next}
+use Rattle.inside.proofs.RecordsFrom.{not-among, not-pointed}
 use Rattle.inside.proofs.RowFound.{Opening}
 use Rattle.inside.proofs.TextLaid.{textsOf, texts-stand, text-laid}
 use Rattle.inside.proofs.TextPlaced.{text-placed, text-behind, texts-between}
 
 -- ---- what a text record adds
 
-module _ (c : Context) (r : List ℕ) (role : roleOf c r ≡ TEXT) where
+module _ (c : Context) (r : List ℕ) (role : roleOf c r ≡ TEXT) (f : List ℕ) (own : getD (fieldsOf r) 0 [] ≡ f) where
   bib-joined : behind c r .seen .bib ≡ c .seen .bib ++ r
   unfolding contextAfter seenAfter partAfter bibChange
   bib-joined = rw role
 
-  under-begun : blankTo 10 (getD (fieldsOf r) 0 []) ≡ false → behind c r .seen .under ≡ r
+  under-begun : blankTo 10 f ≡ false → behind c r .seen .under ≡ r
   unfolding contextAfter seenAfter partAfter underChange
-  under-begun e = rw (role, e)
+  under-begun e = rw (role, own, e)
 
-  under-joined : blankTo 10 (getD (fieldsOf r) 0 []) ≡ true → behind c r .seen .under ≡ c .seen .under ++ r
+  under-joined : blankTo 10 f ≡ true → behind c r .seen .under ≡ c .seen .under ++ r
   unfolding contextAfter seenAfter partAfter underChange
-  under-joined e = rw (role, e)
+  under-joined e = rw (role, own, e)
 
 bib-emptied : (c : Context) (r : List ℕ) → roleOf c r ≡ BIB → behind c r .seen .bib ≡ []
 unfolding contextAfter seenAfter partAfter bibChange
@@ -64,15 +65,12 @@ none-when true k e = absurd (omega arith)
 none-when false k e = refl
 
 module _ (t : Track) (seen : Seen) (role : ℕ) (fs : List (List ℕ)) (r : List ℕ)
-    (fine : faultOf t seen role fs r ≡ Fine) (text : role ≡ TEXT) where
-  abbrev f : List ℕ
-  f = getD fs 0 []
-
+    (fine : faultOf t seen role fs r ≡ Fine) (text : role ≡ TEXT) (f : List ℕ) (own : getD fs 0 [] ≡ f) where
   fine-10 : keywordFault (seen .bib) t f ≡ false
   unfolding rule10
   fine-10 =
       let found = none-found t seen role fs r fine .1 .1 .1 .1 .1 .1 .1 .1 .0 in
-      none-when (keywordFault (seen .bib) t f) 0 (rw text at found)
+      none-when (keywordFault (seen .bib) t f) 0 (rw (text, own) at found)
 
   -- 10: its keyword is none of the section so far
   fine-keyword : blankTo 10 f ≡ false → anyOf (equalTo 10 f) (placesOf (seen .bib)) ≡ false
@@ -96,7 +94,7 @@ module _ (t : Track) (seen : Seen) (role : ℕ) (fs : List (List ℕ)) (r : List
       let found = none-found t seen role fs r fine .1 .1 .1 .1 .1 .1 .1 .1 .1 .0 in
       let none =
       or-right (badPointer f) (pointerRepeated (seen .under) f)
-      (none-when (badPointer f || pointerRepeated (seen .under) f) 10 (rw text at found)) in
+      (none-when (badPointer f || pointerRepeated (seen .under) f) 10 (rw (text, own) at found)) in
       rw (p, e) at none
 
 -- ---- in an accepted entry
@@ -125,7 +123,7 @@ module _ (s : List ℕ) (accepted : Accepted s) where
       let e : suc a + suc m ≡ suc i = omega arith in
       let t = text-laid s accepted n a o m (omega arith) in
       rw (e, context-next s i)
-      (bib-joined (contextAt s i) (blockAt 81 s i) (t .role)
+      (bib-joined (contextAt s i) (blockAt 81 s i) (t .role) (placeAt s i) (place-field s i)
       ∙ ap (λ (x : List ℕ). x ++ blockAt 81 s i) (bib-seen n a o m (omega arith)) ∙ records-next s (suc a) m)
 
   -- "No keyword occurs twice in a section"
@@ -141,8 +139,8 @@ module _ (s : List ℕ) (accepted : Accepted s) where
       let f = placeAt s i in
       let h = b .here in
       let none =
-      fine-keyword (c .track) (c .seen) (roleAt s i) (fieldsOf r) r (fine-at i (t .there)) (t .role)
-      (not-true (blankTo 10 f) k) in
+      fine-keyword (c .track) (c .seen) (roleAt s i) (fieldsOf r) r (fine-at i (t .there)) (t .role) f
+      (place-field s i) (not-true (blankTo 10 f) k) in
       let seen : c .seen .bib ≡ recordsFrom s (suc a) m =
       rw (← h) at (bib-seen n a (b .opening) m (b .few)) in
       let room : (suc a + m) * 81 ≤ length s = fits (suc a + m) (omega (arith, t .there)) in
@@ -157,14 +155,16 @@ module _ (s : List ℕ) (accepted : Accepted s) where
   under-seen n k zero t h rest =
       let e : suc k + 0 ≡ suc k = omega arith in
       rw (e, context-next s k)
-      (under-begun (contextAt s k) (blockAt 81 s k) (t .role) (not-true (blankTo 10 (placeAt s k)) h))
+      (under-begun (contextAt s k) (blockAt 81 s k) (t .role) (placeAt s k) (place-field s k)
+      (not-true (blankTo 10 (placeAt s k)) h))
   under-seen n k (suc e) t h rest =
       let i = suc k + e in
       let x : suc k + suc e ≡ suc i = omega arith in
       let y : k + suc e ≡ i = omega arith in
       let (u, b) = rest i (omega arith) (omega arith) in
       rw (x, context-next s i)
-      (under-joined (contextAt s i) (blockAt 81 s i) (u .role) (not-false (blankTo 10 (placeAt s i)) b)
+      (under-joined (contextAt s i) (blockAt 81 s i) (u .role) (placeAt s i) (place-field s i)
+      (not-false (blankTo 10 (placeAt s i)) b)
       ∙ ap (λ (p : List ℕ). p ++ blockAt 81 s i)
       (under-seen n k e t h (λ j p q. rest j p (omega arith)))
       ∙ rw y at (records-next s k (suc e)))
@@ -179,8 +179,8 @@ module _ (s : List ℕ) (accepted : Accepted s) where
       let r = blockAt 81 s i in
       let f = placeAt s i in
       let none =
-      fine-pointer (c .track) (c .seen) (roleAt s i) (fieldsOf r) r (fine-at i (t .there)) (t .role)
-      (not-false (blankTo 10 f) (u .last i (omega arith) (omega arith))) q in
+      fine-pointer (c .track) (c .seen) (roleAt s i) (fieldsOf r) r (fine-at i (t .there)) (t .role) f
+      (place-field s i) (not-false (blankTo 10 f) (u .last i (omega arith) (omega arith))) q in
       let seen : c .seen .under ≡ recordsFrom s k (suc e) =
       rw x at
       (under-seen n k e (u .text) (u .keyword)
@@ -201,7 +201,9 @@ module _ (s : List ℕ) (accepted : Accepted s) where
       let r = blockAt 81 s i in
       let t = text-laid s accepted n a o 0 h in
       let z = texts-stand s accepted n a o 0 (omega arith) .before in
-      let k = fine-first (c .track) (c .seen) (roleAt s i) (fieldsOf r) r (fine-at i (t .there)) (t .role) z in
+      let k =
+      fine-first (c .track) (c .seen) (roleAt s i) (fieldsOf r) r (fine-at i (t .there)) (t .role) (placeAt s i)
+      (place-field s i) z in
       (i, own n i t k)
   under-at n a o (suc m) h =
       let i = suc a + suc m in

@@ -6,9 +6,9 @@
 use Prim.Native.Nat.{ℕ, zero, suc, _*_, _-_, _/_, _<_, _≤_}
 use mathlib.Core.Path.{_≡_}
 use mathlib.Core.Bool.{Bool, true, false, cond}
-use mathlib.Core.List.{List, []}
+use mathlib.Core.List.{List}
 use lib.Dec.{eqb}
-use lib.ListN.{length, take, getD}
+use lib.ListN.{length, take}
 use Rattle.laws.specs.Blocks.{blockAt}
 use Rattle.number.specs.declared.value.Reading.{Reading}
 use Rattle.number.specs.declared.value.Reading.the-variants.{Blank, Number, Refused}
@@ -18,6 +18,7 @@ use Rattle.record.specs.Identifier.{COMMON, DATA}
 use Rattle.record.specs.declared.columns.LineNo.{LineNo}
 use Rattle.rules.specs.State.{Context, startContext}
 use Rattle.rules.specs.System.{countN1, countN2}
+use Rattle.rules.specs.Text.{placeAt}
 use Rattle.rules.specs.Role.{TEXT, NOT-DUE}
 use Rattle.entry.specs.Next.{contextAfter}
 use Rattle.entry.specs.Verdict.{roleOf, judgeOf}
@@ -84,9 +85,8 @@ pub record TextOf (s : List ℕ) (n i : ℕ) : Type 0 where
 
 -- ---- passages
 
--- columns 1 to 11 of the record with the index i: the keyword's place and the pointer's
-abbrev pub placeAt : List ℕ → ℕ → List ℕ
-placeAt s i = getD (fieldsOf (blockAt 81 s i)) 0 []
+-- "BIB: columns 1-10 a keyword (word) or blank, 11 a pointer or blank": `placeAt s i` are these columns of the record
+-- with the index i
 
 -- the record i stands under the keyword of the text record k: its own, or that of the last before it that has one
 pub record Under (s : List ℕ) (n k i : ℕ) : Type 0 where
