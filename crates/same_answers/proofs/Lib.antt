@@ -1,3 +1,4 @@
 pub mod CopiedRecords
 pub mod CopiedRows
+pub mod RowOpened
 pub mod Values
