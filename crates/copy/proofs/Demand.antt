@@ -111,7 +111,7 @@ abbrev masks : ℕ → List ℕ → List (List Bool)
 masks n s = marks turnOf maskOf startContext 0 (blocks 81 n s)
 
 -- a byte of the entry is one of its record
-byte-of : (s : List ℕ) (p : ℕ) → getD (blockAt 81 s (p / 81)) (p % 81) 0 ≡ getD s p 0
+pub byte-of : (s : List ℕ) (p : ℕ) → getD (blockAt 81 s (p / 81)) (p % 81) 0 ≡ getD s p 0
 byte-of s p =
     let e : p / 81 * 81 + p % 81 ≡ p = omega arith in
     getD-take 81 (drop (p / 81 * 81) s) (p % 81) 0 (omega arith)

@@ -51,11 +51,11 @@ use Rattle.inside.proofs.RowFound.{Opening, row-names, row-subent, row-
 -- ---- the section that is asked for
 
 -- DATA where b is true, else COMMON, by the section's number in a question
-abbrev sectionNo : Bool → ℕ
+abbrev pub sectionNo : Bool → ℕ
 sectionNo true = DATA-SECTION
 sectionNo false = COMMON-SECTION
 
-abbrev sectionOf : Bool → Section
+abbrev pub sectionOf : Bool → Section
 sectionOf true = table
 sectionOf false = common
 
@@ -109,7 +109,7 @@ module _ (s : List ℕ) (accepted : Accepted s) (n : ℕ) (b : Bool) (a : ℕ) (
       by-section true = refl
       by-section false = refl
 
-  at-record : at .0 ≡ suc a
+  pub at-record : at .0 ≡ suc a
   at-record = rw at-named (row-names s accepted n (sectionOf b) a o)
 
   begun : Opened b s a
@@ -151,7 +151,7 @@ module _ (s : List ℕ) (accepted : Accepted s) (n : ℕ) (b : Bool) (a : ℕ) (
   abbrev index : ℕ → ℕ → ℕ
   index q m = suc a + q * k + m
 
-  laid-at : (q m : ℕ) → q ≤ linesOf b fs + 1 → m < k → (index q m < length s / 81) × (roleAt s (index q m) ≡ rowRole b q)
+  pub laid-at : (q m : ℕ) → q ≤ linesOf b fs + 1 → m < k → (index q m < length s / 81) × (roleAt s (index q m) ≡ rowRole b q)
   laid-at q m h l =
       let (x, y) =
       table-laid s (length s / 81) (walked s accepted) b (contextAt s a .track .subentry .number) (countN1 fs)

@@ -1,14 +1,16 @@
 -- Demand 3 of the mission, the questions: the canonical copy of an accepted entry "answers every such question with the
--- same values and words at the same places". A value, wherever it is asked for, inside the entry's shape or not, is
--- answered or refused alike.
+-- same values and words at the same places". A question, inside the entry's shape or not, is answered or refused alike.
 use Prim.Native.Nat.{ℕ}
 use mathlib.Core.Path.{_≡_}
 use mathlib.Core.List.{List}
 use Rattle.record.specs.declared.columns.LineNo.{LineNo}
 use Rattle.questions.specs.declared.ask.ValueAnswer.{ValueAnswer}
-use Rattle.questions.specs.Ask.{valueOf}
+use Rattle.questions.specs.declared.ask.PartAnswer.{PartAnswer}
+use Rattle.questions.specs.Ask.{valueOf, bytesIn, headingOf, unitOf, passageAnswer}
 use Rattle.copy.specs.Copy.{copyOf}
 use Rattle.copy.specs.Demand.{Accepted, Alike}
+
+-- ---- values
 
 -- two answers to a question about a value: the same numbers, and values that are alike
 pub record AlikeAnswer (a b : ValueAnswer) : Type 0 where
@@ -19,3 +21,26 @@ abbrev pub SameValues : Type 0
 SameValues =
     (s : List ℕ) → Accepted s → (n section : ℕ) (line : LineNo) (column : ℕ)
     → AlikeAnswer (valueOf (copyOf s) n section line column) (valueOf s n section line column)
+
+-- ---- words: headings, units and passages
+
+-- two answers that hand back a part, a of the entry s and b of the entry t: the same numbers, place and pointer, and the
+-- same bytes there
+pub record SamePart (s t : List ℕ) (a b : PartAnswer) : Type 0 where
+  pub places : a ≡ b
+  pub words : bytesIn s a ≡ bytesIn t b
+
+abbrev pub SameHeadings : Type 0
+SameHeadings =
+    (s : List ℕ) → Accepted s → (n section column : ℕ)
+    → SamePart (copyOf s) s (headingOf (copyOf s) n section column) (headingOf s n section column)
+
+abbrev pub SameUnits : Type 0
+SameUnits =
+    (s : List ℕ) → Accepted s → (n section column : ℕ)
+    → SamePart (copyOf s) s (unitOf (copyOf s) n section column) (unitOf s n section column)
+
+abbrev pub SamePassages : Type 0
+SamePassages =
+    (s : List ℕ) → Accepted s → (n : ℕ) (keyword : List ℕ) (pointer : ℕ)
+    → SamePart (copyOf s) s (passageAnswer (copyOf s) n keyword pointer) (passageAnswer s n keyword pointer)

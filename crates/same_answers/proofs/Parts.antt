@@ -1,0 +1,87 @@
+-- A part of an accepted entry that has no byte of a value record is handed back alike from the copy.
+-- Assumes nothing.
+use Prim.Native.Nat.{ℕ, suc, _+_, _*_, _-_, _/_, _%_, _<_, _≤_}
+use mathlib.Core.Path.{_≡_, refl, sym, _∙_, ap}
+use mathlib.Core.Bool.{Bool, true, false, cond}
+use mathlib.Core.List.{List}
+use native.Mathlib.Omega.{arith}
+use lib.Dec.{eqb, leb}
+use lib.ListN.{length, take, drop, getD, length-drop}
+use lib.Seq.{length-take-le, getD-take, getD-drop, ext-getD}
+use borrow.Author.Tests.{eqb-true, leb-true}
+use Rattle.laws.specs.Blocks.{blockAt}
+use Rattle.rules.specs.Role.{isValue}
+use Rattle.record.specs.declared.columns.RecordNo.{RecordNo}
+use Rattle.entry.specs.declared.verdict.Verdict.{Verdict}
+use Rattle.questions.specs.declared.ask.PartAnswer.{PartAnswer}
+use Rattle.questions.specs.Place.{fieldsAt}
+use Rattle.questions.specs.Ask.{answer, answerFor, noPart, partFrom, partWith, bytesIn}
+use Rattle.inside.specs.Inside.{roleAt}
+use Rattle.copy.specs.Copy.{copyOf}
+use Rattle.copy.specs.Demand.{Accepted}
+use Rattle.copy.proofs.Demand.{passed, copy-long, byte-of}
+use Rattle.same_answers.specs.Same.{SamePart}
+use Rattle.same_answers.proofs.CopiedRecords.{block-kept, fields-kept}
+
+-- a record of the entry that is no value record
+pub record NoValues (s : List ℕ) (at : RecordNo) : Type 0 where
+  pub from : 1 ≤ at .0
+  pub to : at .0 ≤ length s / 81
+  pub role : isValue (roleAt s (at .0 - 1)) ≡ false
+
+-- so many bytes from a byte on, all of them of such records
+abbrev pub Words : List ℕ → ℕ → ℕ → Type 0
+Words s from bytes = (p : ℕ) → from ≤ p → p < from + bytes → isValue (roleAt s (p / 81)) ≡ false
+
+module _ (s : List ℕ) (accepted : Accepted s) where
+  pub fields-same : (at : RecordNo) → NoValues s at → fieldsAt (copyOf s) at ≡ fieldsAt s at
+  fields-same at h =
+      let a = h .from in
+      let b = h .to in
+      fields-kept s accepted (at .0 - 1) (omega arith) (h .role) at (omega arith)
+
+  byte-kept : (p : ℕ) → p < length s → isValue (roleAt s (p / 81)) ≡ false → getD (copyOf s) p 0 ≡ getD s p 0
+  byte-kept p l e =
+      let whole = passed s accepted .whole in
+      sym (byte-of (copyOf s) p)
+      ∙ ap (λ (r : List ℕ). getD r (p % 81) 0) (block-kept s accepted (p / 81) (omega arith) e)
+      ∙ byte-of s p
+
+  words-kept : (at n : ℕ) → at + n ≤ length s → Words s at n → take n (drop at (copyOf s)) ≡ take n (drop at s)
+  words-kept at n room h =
+      let long = copy-long s (passed s accepted) in
+      let x : length (take n (drop at (copyOf s))) ≡ n = length-take-le n (drop at (copyOf s)) (simp length-drop (omega arith)) in
+      let y : length (take n (drop at s)) ≡ n = length-take-le n (drop at s) (simp length-drop (omega arith)) in
+      ext-getD 0 (take n (drop at (copyOf s))) (take n (drop at s)) (x ∙ sym y)
+      (λ i l.
+      let m : i < n = rw x at l in
+      rw (getD-take n (drop at (copyOf s)) i 0 m, getD-take n (drop at s) i 0 m)
+      (rw (getD-drop at (copyOf s) i 0, getD-drop at s i 0)
+      (byte-kept (at + i) (omega arith) (h (at + i) (omega arith) (omega arith)))))
+
+  -- what is handed back, with this pointer beside it in the entry and that one in the copy
+  pub part-same : (v : Verdict) (number from bytes pointer that : ℕ) → (number ≡ 0 → that ≡ pointer)
+      → (number ≡ 0 → Words s from bytes)
+      → SamePart (copyOf s) s (partWith (copyOf s) v number from bytes that) (partWith s v number from bytes pointer)
+  part-same v number from bytes pointer that same h =
+      rw (copy-long s (passed s accepted)) (by-number (eqb number 0) refl)
+    where
+      part : Bool → ℕ → PartAnswer
+      part b mark =
+          cond b (record { answer = answer 0; first = from; length = bytes; pointer = mark }) (noPart (answer 0))
+
+      by-length : (b : Bool) → leb (from + bytes) (length s) ≡ b → number ≡ 0
+          → SamePart (copyOf s) s (part b that) (part b pointer)
+      by-length true l e =
+          record {
+            places = rw (same e);
+            words = words-kept from bytes (leb-true (from + bytes) (length s) l) (h e);
+          }
+      by-length false l e = record { places = refl; words = refl }
+
+      handed : Bool → ℕ → PartAnswer
+      handed b mark = cond b (part (leb (from + bytes) (length s)) mark) (noPart (answerFor v number))
+
+      by-number : (b : Bool) → eqb number 0 ≡ b → SamePart (copyOf s) s (handed b that) (handed b pointer)
+      by-number true e = by-length (leb (from + bytes) (length s)) refl (eqb-true number 0 e)
+      by-number false e = record { places = refl; words = refl }
