@@ -22,9 +22,8 @@ use Rattle.rules.proofs.WithoutFault.{of-values}
 use Rattle.entry.specs.Verdict.{roleOf, turnOf}
 use Rattle.questions.specs.declared.row.Row.{Row}
 use Rattle.questions.specs.Row.{NONE, emptyRow, withFirst, withBib, withCommon, withData, noted, subentryIn, notedAs, noteOf, rowOf}
-use Rattle.questions.specs.Place.{fieldsAt}
+use Rattle.questions.specs.Place.{COMMON-SECTION, DATA-SECTION, fieldsAt, shapeOf}
 use Rattle.questions.specs.Ask.{sectionIn}
-use Rattle.questions.specs.Place.{COMMON-SECTION, DATA-SECTION}
 use Rattle.inside.specs.Inside.{contextAt, roleAt}
 use Rattle.inside.proofs.Contexts.{walked}
 use Rattle.inside.proofs.RowFound.{rowAt, found-row, records-at}
@@ -133,3 +132,9 @@ module _ (s : List ℕ) (accepted : Accepted s) where
       by-test true b = row-kept number .common
       by-test false true = row-kept number .«data»
       by-test false false = none-kept
+
+  pub shape-kept : (number section : ℕ)
+      → shapeOf (copyOf s) section (sectionIn (rowOf s number) section)
+      ≡ shapeOf s section (sectionIn (rowOf s number) section)
+  unfolding shapeOf
+  shape-kept number section = rw (section-kept number section)

@@ -3,3 +3,4 @@ pub mod CopiedRows
 pub mod RowOpened
 pub mod Parts
 pub mod Values
+pub mod Headings

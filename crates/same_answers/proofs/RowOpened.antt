@@ -2,8 +2,8 @@
 -- Assumes nothing.
 use Prim.Native.Nat.{ℕ, zero, suc, _+_, _/_, _<_, _≤_}
 use mathlib.Core.Path.{_≡_, refl, sym, _∙_, ap}
-use mathlib.Core.Bool.{Bool, true, false}
-use mathlib.Core.List.{List}
+use mathlib.Core.Bool.{Bool, true, false, not}
+use mathlib.Core.List.{List, _∷_, _++_}
 use native.Mathlib.Omega.{arith}
 use native.Mathlib.Numerals.{add-one}
 use lib.Dec.{eqb}
@@ -13,8 +13,10 @@ use Rattle.laws.specs.Blocks.{blockAt}
 use Rattle.record.specs.Fields.{fieldsOf}
 use Rattle.record.specs.declared.columns.RecordNo.{RecordNo}
 use Rattle.rules.specs.State.{Context}
+use Rattle.entry.specs.declared.verdict.Verdict.{Verdict}
 use Rattle.questions.specs.declared.row.Row.{Row}
-use Rattle.questions.specs.Row.{emptyRow, notedAs, rowOf}
+use Rattle.questions.specs.Row.{rowOf}
+use Rattle.questions.specs.Ask.{Refusal, refusal, firstOf, isRefused, isSubent, noSection, sectionRefusals}
 use Rattle.questions.proofs.RowChanges.{Section, bib, common, table, opener, named, section-stays, section-set}
 use Rattle.inside.specs.Inside.{Accepted, contextAt, roleAt}
 use Rattle.inside.proofs.RowFound.{rowAt, found-row, records-at, number-of, row-next, Opening}
@@ -77,3 +79,15 @@ module _ (s : List ℕ) (number : ℕ) (k : Section) where
   row-opened accepted h =
       let e = found-row s number accepted in
       rw e (opener-at (length s / 81) (omega arith) (rw e at h))
+
+-- a question that is not refused has its section
+pub section-there : (s : List ℕ) (v : Verdict) (x : Row) (at : RecordNo) (ys : List Refusal)
+    → firstOf (sectionRefusals s v x at ++ ys) ≡ 0 → 1 ≤ at .0
+section-there s v x at ys = by-tests (isRefused v) (not (isSubent s x)) (noSection at) refl
+  where
+    by-tests : (a b c : Bool) → eqb (at .0) 0 ≡ c
+        → firstOf (refusal 31 a ∷ refusal 32 b ∷ refusal 33 c ∷ ys) ≡ 0 → 1 ≤ at .0
+    by-tests true b c p e = absurd (omega arith)
+    by-tests false true c p e = absurd (omega arith)
+    by-tests false false true p e = absurd (omega arith)
+    by-tests false false false p e = let z = eqb-false (at .0) 0 p in omega (arith, z)

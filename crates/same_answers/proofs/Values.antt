@@ -11,18 +11,14 @@ use Rattle.questions.specs.declared.row.Row.{Row}
 use Rattle.questions.specs.declared.place.Shape.{Shape}
 use Rattle.questions.specs.declared.ask.ValueAnswer.{ValueAnswer}
 use Rattle.questions.specs.Row.{rowOf}
-use Rattle.questions.specs.Place.{fieldsAt, shapeOf}
+use Rattle.questions.specs.Place.{shapeOf}
 use Rattle.questions.specs.Ask.{sectionIn, valueRefusal, valueBy, valueOf}
 use Rattle.copy.specs.Copy.{copyOf}
 use Rattle.copy.specs.Demand.{Accepted}
 use Rattle.copy.proofs.Demand.{copy-accepted}
 use Rattle.same_answers.specs.Same.{AlikeAnswer, SameValues}
 use Rattle.same_answers.proofs.CopiedRecords.{copied-identifiers, copied-places}
-use Rattle.same_answers.proofs.CopiedRows.{copied-row, section-kept}
-
-shape-same : (s t : List ℕ) (section : ℕ) (at : RecordNo) → fieldsAt t at ≡ fieldsAt s at → shapeOf t section at ≡ shapeOf s section at
-unfolding shapeOf
-shape-same s t section at e = rw e
+use Rattle.same_answers.proofs.CopiedRows.{copied-row, shape-kept}
 
 module _ (s : List ℕ) (accepted : Accepted s) where
   refusal-same : (v : Verdict) (x : Row) (at : RecordNo) (shape : Shape) (line : LineNo) (column : ℕ)
@@ -38,7 +34,7 @@ module _ (s : List ℕ) (accepted : Accepted s) where
       let at = sectionIn x section in
       let shape = shapeOf s section at in
       rw (
-        shape-same s (copyOf s) section at (section-kept s accepted number section),
+        shape-kept s accepted number section,
         refusal-same v x at shape line column,
         copied-places s accepted (placeOf at (shape .columns) line column),
       )
