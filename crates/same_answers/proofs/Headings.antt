@@ -24,7 +24,7 @@ use Rattle.questions.specs.Row.{NONE, rowOf}
 use Rattle.questions.specs.Place.{COMMON-SECTION, DATA-SECTION, shapeOf, headingPlace, unitPlace, fieldOf, byteOf}
 use Rattle.questions.specs.Ask.{refusal, noColumn, sectionIn, columnRefusal, headingBy, headingOf, unitBy, unitOf}
 use Rattle.questions.proofs.Refusals.{column-inside}
-use Rattle.questions.proofs.RowChanges.{named}
+use Rattle.questions.proofs.RowChanges.{common, table}
 use Rattle.inside.specs.Inside.{roleAt}
 use Rattle.inside.proofs.Laid.{rowRole}
 use Rattle.inside.proofs.RowFound.{Opening}
@@ -48,6 +48,11 @@ head-role false zero h = refl
 head-role false (suc zero) h = refl
 head-role false (suc (suc q)) h = absurd (omega arith)
 
+-- a place in a record that is no value record
+record InWords (s : List ℕ) (p : Place) : Type 0 where
+  own : NoValues s (p .at)
+  field : p .field ≤ 5
+
 module _ (s : List ℕ) (accepted : Accepted s) (n : ℕ) (b : Bool) (a : ℕ) (o : Opening s n (sectionOf b) a)
     (column : ℕ) (from : 1 ≤ column) (to : column ≤ countN1 (fieldsOf (blockAt 81 s a))) where
   abbrev at : RecordNo
@@ -56,25 +61,129 @@ module _ (s : List ℕ) (accepted : Accepted s) (n : ℕ) (b : Bool) (a : ℕ) (
   abbrev columns : ℕ
   columns = countN1 (fieldsOf (blockAt 81 s a))
 
-  head-record : (q : ℕ) → q ≤ 1 → (r : RecordNo)
-      → r .0 ≡ suc (suc a + q * recordsFor columns + (column - 1) / 6) → NoValues s r
-  head-record q h r e =
+  -- the place in the row q, which is that of the headings or that of the units
+  head-place : (q : ℕ) → q ≤ 1 → (p : Place) → p .at .0 ≡ suc (suc a + q * recordsFor columns + (column - 1) / 6)
+      → p .field ≤ 5 → InWords s p
+  head-place q h p e f =
       let i = suc a + q * recordsFor columns + (column - 1) / 6 in
       let (l, x) = laid-at s accepted n b a o q ((column - 1) / 6) (omega arith) (omega arith) in
-      let z : r .0 - 1 ≡ i = omega arith in
-      record { from = omega arith; to = omega arith; role = rw (z, x) (head-role b q h) }
+      let z : p .at .0 - 1 ≡ i = omega arith in
+      record { own = record { from = omega arith; to = omega arith; role = rw (z, x) (head-role b q h) }; field = f }
 
-  heading-record : NoValues s (headingPlace at column .at)
+  heading-place : InWords s (headingPlace at column)
   unfolding headingPlace
-  heading-record =
+  heading-place =
       let r = at-record s accepted n b a o in
       let z = zero-mul (recordsFor columns) in
-      head-record 0 (omega arith) (headingPlace at column .at) (omega arith)
+      head-place 0 (omega arith) (headingPlace at column) (omega arith) (omega arith)
 
-  unit-record : NoValues s (unitPlace at columns column .at)
+  unit-place : InWords s (unitPlace at columns column)
   unfolding unitPlace
-  unit-record =
+  unit-place =
       let r = at-record s accepted n b a o in
       let y = zero-mul (recordsFor columns) in
       let z = suc-mul 0 (recordsFor columns) in
-      head-record 1 (omega arith) (unitPlace at columns column .at) (omega arith)
+      head-place 1 (omega arith) (unitPlace at columns column) (omega arith) (omega arith)
+
+-- ---- the column that is asked for
+
+-- both places of a column
+record Headed (s : List ℕ) (section : RecordNo) (columns column : ℕ) : Type 0 where
+  heading : InWords s (headingPlace section column)
+  unit : InWords s (unitPlace section columns column)
+
+headed-in : (s : List ℕ) (accepted : Accepted s) (n : ℕ) (b : Bool) (a : ℕ) → Opening s n (sectionOf b) a
+    → (column : ℕ) → 1 ≤ column → column ≤ shapeOf s (sectionNo b) (sectionIn (rowOf s n) (sectionNo b)) .columns
+    → Headed s (sectionIn (rowOf s n) (sectionNo b))
+    (shapeOf s (sectionNo b) (sectionIn (rowOf s n) (sectionNo b)) .columns) column
+headed-in s accepted n b a o column from to =
+    let e = shape-columns s accepted n b a o in
+    let few = rw e at to in
+    rw e
+    (record {
+      heading = heading-place s accepted n b a o column from few;
+      unit = unit-place s accepted n b a o column from few;
+    })
+
+module _ (s : List ℕ) (accepted : Accepted s) (n section column : ℕ) where
+  abbrev asked : RecordNo
+  asked = sectionIn (rowOf s n) section
+
+  abbrev shape : Shape
+  shape = shapeOf s section asked
+
+  -- a section that is there is one of the two, and its own record opens it
+  which : 1 ≤ asked .0 → (b : Bool) × ((section ≡ sectionNo b) × Opener s n (sectionOf b) asked)
+  which = by-tests (eqb section COMMON-SECTION) refl (eqb section DATA-SECTION) refl
+    where
+      by-tests : (p : Bool) → eqb section COMMON-SECTION ≡ p → (q : Bool) → eqb section DATA-SECTION ≡ q
+          → 1 ≤ (cond p (rowOf s n .common) (cond q (rowOf s n .«data») NONE)) .0
+          → (b : Bool)
+          × ((section ≡ sectionNo b)
+          × Opener s n (sectionOf b) (cond p (rowOf s n .common) (cond q (rowOf s n .«data») NONE)))
+      by-tests true p q u h = (false, (eqb-true section COMMON-SECTION p, row-opened s n common accepted h))
+      by-tests false p true u h = (true, (eqb-true section DATA-SECTION u, row-opened s n table accepted h))
+      by-tests false p false u h = absurd (omega arith)
+
+  section-of : (v : Verdict) → columnRefusal s v (rowOf s n) asked shape column ≡ 0 → 1 ≤ asked .0
+  unfolding columnRefusal
+  section-of v e = section-there s v (rowOf s n) asked (refusal 35 (noColumn shape column) ∷ []) e
+
+  headed : (v : Verdict) → columnRefusal s v (rowOf s n) asked shape column ≡ 0
+      → Headed s asked (shape .columns) column
+  headed v e =
+      let (b, (q, o)) = which (section-of v e) in
+      let (from, to) = column-inside s v (rowOf s n) asked shape column e in
+      rw q (headed-in s accepted n b (o .index) (o .opening) column from (rw q at to))
+
+  refusal-same : (v : Verdict)
+      → columnRefusal (copyOf s) v (rowOf s n) asked shape column ≡ columnRefusal s v (rowOf s n) asked shape column
+  unfolding columnRefusal
+  refusal-same v = rw (copied-identifiers s accepted (rowOf s n .first))
+
+  ten-columns : (p : Place) → InWords s p → Words s (byteOf p) 10
+  ten-columns p h i a b =
+      let l = h .own .from in
+      let f = h .field in
+      let e : i / 81 ≡ p .at .0 - 1 = omega arith in
+      rw e (h .own .role)
+
+  pointer-same : (p : Place) → InWords s p → pointerOf (fieldOf (copyOf s) p) ≡ pointerOf (fieldOf s p)
+  pointer-same p h = rw (fields-same s accepted (p .at) (h .own))
+
+  heading-same : (v : Verdict)
+      → SamePart (copyOf s) s (headingBy (copyOf s) v (rowOf s n) section column)
+      (headingBy s v (rowOf s n) section column)
+  unfolding headingBy
+  heading-same v =
+      let heading = headingPlace asked column in
+      rw (shape-kept s accepted n section, refusal-same v)
+      (part-same s accepted v (columnRefusal s v (rowOf s n) asked shape column) (byteOf heading) 10
+      (pointerOf (fieldOf s heading)) (pointerOf (fieldOf (copyOf s) heading))
+      (λ e. pointer-same heading (headed v e .heading))
+      (λ e. ten-columns heading (headed v e .heading)))
+
+  unit-same : (v : Verdict)
+      → SamePart (copyOf s) s (unitBy (copyOf s) v (rowOf s n) section column)
+      (unitBy s v (rowOf s n) section column)
+  unfolding unitBy
+  unit-same v =
+      let heading = headingPlace asked column in
+      let unit = unitPlace asked (shape .columns) column in
+      rw (shape-kept s accepted n section, refusal-same v)
+      (part-same s accepted v (columnRefusal s v (rowOf s n) asked shape column) (byteOf unit) 10
+      (pointerOf (fieldOf s heading)) (pointerOf (fieldOf (copyOf s) heading))
+      (λ e. pointer-same heading (headed v e .heading))
+      (λ e. ten-columns unit (headed v e .unit)))
+
+-- ---- "and words at the same places"
+
+pub same-headings : SameHeadings
+unfolding headingOf
+same-headings s accepted n section column =
+    rw (copy-accepted s accepted, copied-row s accepted n) (heading-same s accepted n section column _)
+
+pub same-units : SameUnits
+unfolding unitOf
+same-units s accepted n section column =
+    rw (copy-accepted s accepted, copied-row s accepted n) (unit-same s accepted n section column _)
