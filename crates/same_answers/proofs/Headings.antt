@@ -2,13 +2,13 @@
 -- Assumes nothing.
 use Prim.Native.Nat.{ℕ, zero, suc, _+_, _*_, _-_, _/_, _%_, _<_, _≤_}
 use mathlib.Core.Path.{_≡_, refl, sym, _∙_, ap}
-use mathlib.Core.Bool.{Bool, true, false, cond}
-use mathlib.Core.List.{List, [], _∷_}
+use mathlib.Core.Bool.{Bool, true, false, cond, not}
+use mathlib.Core.List.{List, [], _∷_, _++_}
 use native.Mathlib.Omega.{arith}
 use native.Mathlib.Nat.{suc-mul, zero-mul}
 use lib.Dec.{eqb}
 use lib.ListN.{length, getD}
-use borrow.Author.Tests.{eqb-true}
+use borrow.Author.Tests.{eqb-true, eqb-false}
 use Rattle.laws.specs.Blocks.{blockAt}
 use Rattle.record.specs.Columns.{recordsFor}
 use Rattle.record.specs.Fields.{fieldsOf}
@@ -22,12 +22,14 @@ use Rattle.questions.specs.declared.row.Row.{Row}
 use Rattle.questions.specs.declared.place.Shape.{Shape}
 use Rattle.questions.specs.Row.{NONE, rowOf}
 use Rattle.questions.specs.Place.{COMMON-SECTION, DATA-SECTION, shapeOf, headingPlace, unitPlace, fieldOf, byteOf}
-use Rattle.questions.specs.Ask.{refusal, noColumn, sectionIn, columnRefusal, headingBy, headingOf, unitBy, unitOf}
+use Rattle.questions.specs.Ask.{Refusal, refusal, firstOf, isRefused, isSubent, sectionIn, noSection, sectionRefusals}
+use Rattle.questions.specs.Ask.{noColumn, columnRefusal, headingBy, headingOf, unitBy, unitOf}
 use Rattle.questions.proofs.Refusals.{column-inside}
 use Rattle.questions.proofs.RowChanges.{common, table}
 use Rattle.inside.specs.Inside.{roleAt}
 use Rattle.inside.proofs.Laid.{rowRole}
 use Rattle.inside.proofs.RowFound.{Opening}
+use Rattle.inside.proofs.TextLaid.{row-opening}
 use Rattle.inside.proofs.Answered.{sectionNo, sectionOf, at-record, shape-columns, laid-at}
 use Rattle.copy.specs.Copy.{copyOf}
 use Rattle.copy.specs.Demand.{Accepted}
@@ -35,7 +37,6 @@ use Rattle.copy.proofs.Demand.{copy-accepted}
 use Rattle.same_answers.specs.Same.{SamePart, SameHeadings, SameUnits}
 use Rattle.same_answers.proofs.CopiedRecords.{copied-identifiers}
 use Rattle.same_answers.proofs.CopiedRows.{copied-row, shape-kept}
-use Rattle.same_answers.proofs.RowOpened.{Opener, row-opened, section-there}
 use Rattle.same_answers.proofs.Parts.{NoValues, Words, fields-same, part-same}
 
 -- ---- the heading and the unit of a column that is there
@@ -87,6 +88,18 @@ module _ (s : List ℕ) (accepted : Accepted s) (n : ℕ) (b : Bool) (a : ℕ) (
 
 -- ---- the column that is asked for
 
+-- a question that is not refused has its section
+section-there : (s : List ℕ) (v : Verdict) (x : Row) (at : RecordNo) (ys : List Refusal)
+    → firstOf (sectionRefusals s v x at ++ ys) ≡ 0 → at .0 ≡ 0 → ⊥
+section-there s v x at ys = by-tests (isRefused v) (not (isSubent s x)) (noSection at) refl
+  where
+    by-tests : (a b c : Bool) → eqb (at .0) 0 ≡ c
+        → firstOf (refusal 31 a ∷ refusal 32 b ∷ refusal 33 c ∷ ys) ≡ 0 → at .0 ≡ 0 → ⊥
+    by-tests true b c p e = absurd (omega arith)
+    by-tests false true c p e = absurd (omega arith)
+    by-tests false false true p e = absurd (omega arith)
+    by-tests false false false p e = eqb-false (at .0) 0 p
+
 -- both places of a column
 record Headed (s : List ℕ) (section : RecordNo) (columns column : ℕ) : Type 0 where
   heading : InWords s (headingPlace section column)
@@ -113,19 +126,20 @@ module _ (s : List ℕ) (accepted : Accepted s) (n section column : ℕ) where
   shape = shapeOf s section asked
 
   -- a section that is there is one of the two, and its own record opens it
-  which : 1 ≤ asked .0 → (b : Bool) × ((section ≡ sectionNo b) × Opener s n (sectionOf b) asked)
+  which : (asked .0 ≡ 0 → ⊥) → (b : Bool) × ((section ≡ sectionNo b) × Opening s n (sectionOf b) (asked .0 - 1))
   which = by-tests (eqb section COMMON-SECTION) refl (eqb section DATA-SECTION) refl
     where
-      by-tests : (p : Bool) → eqb section COMMON-SECTION ≡ p → (q : Bool) → eqb section DATA-SECTION ≡ q
-          → 1 ≤ (cond p (rowOf s n .common) (cond q (rowOf s n .«data») NONE)) .0
-          → (b : Bool)
-          × ((section ≡ sectionNo b)
-          × Opener s n (sectionOf b) (cond p (rowOf s n .common) (cond q (rowOf s n .«data») NONE)))
-      by-tests true p q u h = (false, (eqb-true section COMMON-SECTION p, row-opened s n common accepted h))
-      by-tests false p true u h = (true, (eqb-true section DATA-SECTION u, row-opened s n table accepted h))
-      by-tests false p false u h = absurd (omega arith)
+      found : Bool → Bool → RecordNo
+      found p q = cond p (rowOf s n .common) (cond q (rowOf s n .«data») NONE)
 
-  section-of : (v : Verdict) → columnRefusal s v (rowOf s n) asked shape column ≡ 0 → 1 ≤ asked .0
+      by-tests : (p : Bool) → eqb section COMMON-SECTION ≡ p → (q : Bool) → eqb section DATA-SECTION ≡ q
+          → (found p q .0 ≡ 0 → ⊥)
+          → (b : Bool) × ((section ≡ sectionNo b) × Opening s n (sectionOf b) (found p q .0 - 1))
+      by-tests true p q u some = (false, (eqb-true section COMMON-SECTION p, row-opening s n accepted common some))
+      by-tests false p true u some = (true, (eqb-true section DATA-SECTION u, row-opening s n accepted table some))
+      by-tests false p false u some = absurd (some refl)
+
+  section-of : (v : Verdict) → columnRefusal s v (rowOf s n) asked shape column ≡ 0 → asked .0 ≡ 0 → ⊥
   unfolding columnRefusal
   section-of v e = section-there s v (rowOf s n) asked (refusal 35 (noColumn shape column) ∷ []) e
 
@@ -134,7 +148,7 @@ module _ (s : List ℕ) (accepted : Accepted s) (n section column : ℕ) where
   headed v e =
       let (b, (q, o)) = which (section-of v e) in
       let (from, to) = column-inside s v (rowOf s n) asked shape column e in
-      rw q (headed-in s accepted n b (o .index) (o .opening) column from (rw q at to))
+      rw q (headed-in s accepted n b (asked .0 - 1) o column from (rw q at to))
 
   refusal-same : (v : Verdict)
       → columnRefusal (copyOf s) v (rowOf s n) asked shape column ≡ columnRefusal s v (rowOf s n) asked shape column
