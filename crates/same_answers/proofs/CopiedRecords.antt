@@ -1,39 +1,36 @@
 -- The copy of an accepted entry, record by record: the same contexts, and each record as it is copied in its context.
 -- Assumes nothing.
-use Prim.Native.Nat.{ℕ, zero, suc, _+_, _*_, _-_, _/_, _%_, _<_, _≤_}
+use Prim.Native.Nat.{ℕ, zero, suc, _+_, _*_, _-_, _/_, _<_, _≤_}
 use mathlib.Core.Path.{_≡_, refl, sym, _∙_, ap}
-use mathlib.Core.Bool.{Bool, true, false, cond, not, _&&_}
-use mathlib.Core.List.{List, [], _∷_}
+use mathlib.Core.Bool.{Bool, true, false, cond}
+use mathlib.Core.List.{List, []}
 use native.Mathlib.Omega.{arith}
 use native.Mathlib.Nat.{zero-mul}
 use native.Mathlib.Numerals.{add-one}
-use lib.Dec.{eqb, leb}
-use lib.ListN.{length, take, drop, getD, replicate, List·getD-eq-default}
-use Rattle.laws.specs.Turns.{go}
+use lib.ListN.{length, drop, getD, replicate, List·getD-eq-default}
 use Rattle.laws.specs.Blocks.{blocks, blockAt}
 use Rattle.laws.specs.Copies.{Passing, copies}
 use Rattle.laws.proofs.Search.{either}
 use Rattle.laws.proofs.Blocks.{block-at, next-block}
 use Rattle.number.specs.Reading.{readField}
-use Rattle.record.specs.Fields.{fieldAt, fieldsOf}
+use Rattle.record.specs.Fields.{fieldsOf}
 use Rattle.record.specs.Identifier.{identifierOf}
 use Rattle.record.specs.declared.columns.RecordNo.{RecordNo}
 use Rattle.record.specs.declared.columns.Place.{Place}
 use Rattle.record.proofs.ReadColumns.{field-of}
 use Rattle.rules.specs.State.{Context, startContext}
 use Rattle.rules.specs.Role.{isValue}
-use Rattle.entry.specs.Next.{contextAfter}
-use Rattle.entry.specs.Verdict.{roleOf, turnOf}
+use Rattle.entry.specs.Verdict.{turnOf}
 use Rattle.entry.proofs.GoingOn.{go-fine}
 use Rattle.questions.specs.Place.{hasRecord, fieldsAt, identifierAt, fieldOf}
 use Rattle.inside.specs.Inside.{contextAt, roleAt, behind}
 use Rattle.inside.proofs.Contexts.{Walked, walked}
 use Rattle.questions.proofs.Records.{record-there}
 use Rattle.inside.proofs.RowFound.{fields-at}
-use Rattle.copy.specs.Copy.{copyRecord, recordsOf, fieldIn, copyOf}
+use Rattle.copy.specs.Copy.{copyRecord, recordsOf, copyOf}
 use Rattle.copy.specs.Demand.{Accepted}
-use Rattle.copy.proofs.FaithfulRecords.{role-kept, identifier-kept, not-copied, faithful}
-use Rattle.copy.proofs.Demand.{Passed, passed, copy-long, copy-records}
+use Rattle.copy.proofs.FaithfulRecords.{identifier-kept, not-copied, faithful}
+use Rattle.copy.proofs.Demand.{passed, copy-long, copy-records}
 use Rattle.copy.proofs.Unchanged.{copy-reads}
 
 behind-kept : Passing turnOf (λ c i r d. behind c (copyRecord c r) ≡ behind c r)

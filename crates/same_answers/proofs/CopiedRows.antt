@@ -1,6 +1,6 @@
 -- The row of a subentry is the same in the copy, and the records that it names are unchanged.
 -- Assumes nothing.
-use Prim.Native.Nat.{ℕ, zero, suc, _+_, _*_, _/_, _<_, _≤_}
+use Prim.Native.Nat.{ℕ, zero, suc, _+_, _/_, _<_, _≤_}
 use mathlib.Core.Path.{_≡_, refl, sym, _∙_, ap}
 use mathlib.Core.Bool.{Bool, true, false, cond}
 use mathlib.Core.List.{List}
@@ -8,7 +8,6 @@ use native.Mathlib.Omega.{arith}
 use native.Mathlib.Numerals.{add-one}
 use lib.Dec.{eqb}
 use lib.ListN.{length}
-use Rattle.laws.specs.Turns.{go}
 use Rattle.laws.specs.Blocks.{blockAt}
 use Rattle.laws.specs.Copies.{Passing}
 use Rattle.record.specs.Columns.{recordOf}
@@ -16,12 +15,12 @@ use Rattle.record.specs.Fields.{fieldsOf}
 use Rattle.record.specs.Identifier.{BIB, COMMON, DATA}
 use Rattle.record.specs.declared.columns.RecordNo.{RecordNo}
 use Rattle.rules.specs.declared.state.Track.{Track}
-use Rattle.rules.specs.State.{Context}
 use Rattle.rules.specs.Role.{opensSubentry, isValue}
 use Rattle.rules.proofs.WithoutFault.{of-values}
 use Rattle.entry.specs.Verdict.{roleOf, turnOf}
 use Rattle.questions.specs.declared.row.Row.{Row}
-use Rattle.questions.specs.Row.{NONE, emptyRow, withFirst, withBib, withCommon, withData, noted, subentryIn, notedAs, noteOf, rowOf}
+use Rattle.questions.specs.Row.{NONE, withFirst, withBib, withCommon, withData, noted, subentryIn, notedAs}
+use Rattle.questions.specs.Row.{noteOf, rowOf}
 use Rattle.questions.specs.Place.{COMMON-SECTION, DATA-SECTION, fieldsAt, shapeOf}
 use Rattle.questions.specs.Ask.{sectionIn}
 use Rattle.inside.specs.Inside.{contextAt, roleAt}
@@ -64,7 +63,11 @@ module _ (s : List ℕ) (accepted : Accepted s) where
   rows-same number (suc i) l =
       let c = contextAt s i in
       let r = blockAt 81 s i in
-      rw (rows-same number i (omega arith), copied-context s accepted i (omega arith), copied-block s accepted i (omega arith))
+      rw (
+        rows-same number i (omega arith),
+        copied-context s accepted i (omega arith),
+        copied-block s accepted i (omega arith),
+      )
       (note-kept c i r (contextAt s (suc i)) (walked s accepted .turns i (omega arith)) (rowAt s number i))
 
   pub copied-row : (number : ℕ) → rowOf (copyOf s) number ≡ rowOf s number

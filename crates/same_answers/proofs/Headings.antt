@@ -1,13 +1,12 @@
 -- Every question about a heading or a unit has the same answer in the copy.
 -- Assumes nothing.
-use Prim.Native.Nat.{ℕ, zero, suc, _+_, _*_, _-_, _/_, _%_, _<_, _≤_}
-use mathlib.Core.Path.{_≡_, refl, sym, _∙_, ap}
+use Prim.Native.Nat.{ℕ, zero, suc, _+_, _*_, _-_, _/_, _≤_}
+use mathlib.Core.Path.{_≡_, refl}
 use mathlib.Core.Bool.{Bool, true, false, cond, not}
 use mathlib.Core.List.{List, [], _∷_, _++_}
 use native.Mathlib.Omega.{arith}
 use native.Mathlib.Nat.{suc-mul, zero-mul}
 use lib.Dec.{eqb}
-use lib.ListN.{length, getD}
 use borrow.Author.Tests.{eqb-true, eqb-false}
 use Rattle.laws.specs.Blocks.{blockAt}
 use Rattle.record.specs.Columns.{recordsFor}
@@ -26,7 +25,6 @@ use Rattle.questions.specs.Ask.{Refusal, refusal, firstOf, isRefused, isSubent,
 use Rattle.questions.specs.Ask.{noColumn, columnRefusal, headingBy, headingOf, unitBy, unitOf}
 use Rattle.questions.proofs.Refusals.{column-inside}
 use Rattle.questions.proofs.RowChanges.{common, table}
-use Rattle.inside.specs.Inside.{roleAt}
 use Rattle.inside.proofs.Laid.{rowRole}
 use Rattle.inside.proofs.RowFound.{Opening}
 use Rattle.inside.proofs.TextLaid.{row-opening}

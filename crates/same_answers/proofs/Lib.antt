@@ -3,3 +3,4 @@ pub mod CopiedRows
 pub mod Parts
 pub mod Values
 pub mod Headings
+pub mod Passages

@@ -1,6 +1,6 @@
 -- A part of an accepted entry that has no byte of a value record is handed back alike from the copy.
 -- Assumes nothing.
-use Prim.Native.Nat.{ℕ, suc, _+_, _*_, _-_, _/_, _%_, _<_, _≤_}
+use Prim.Native.Nat.{ℕ, _+_, _-_, _/_, _%_, _<_, _≤_}
 use mathlib.Core.Path.{_≡_, refl, sym, _∙_, ap}
 use mathlib.Core.Bool.{Bool, true, false, cond}
 use mathlib.Core.List.{List}
@@ -9,13 +9,12 @@ use lib.Dec.{eqb, leb}
 use lib.ListN.{length, take, drop, getD, length-drop}
 use lib.Seq.{length-take-le, getD-take, getD-drop, ext-getD}
 use borrow.Author.Tests.{eqb-true, leb-true}
-use Rattle.laws.specs.Blocks.{blockAt}
 use Rattle.rules.specs.Role.{isValue}
 use Rattle.record.specs.declared.columns.RecordNo.{RecordNo}
 use Rattle.entry.specs.declared.verdict.Verdict.{Verdict}
 use Rattle.questions.specs.declared.ask.PartAnswer.{PartAnswer}
 use Rattle.questions.specs.Place.{fieldsAt}
-use Rattle.questions.specs.Ask.{answer, answerFor, noPart, partFrom, partWith, bytesIn}
+use Rattle.questions.specs.Ask.{answer, answerFor, noPart, partWith}
 use Rattle.inside.specs.Inside.{roleAt}
 use Rattle.copy.specs.Copy.{copyOf}
 use Rattle.copy.specs.Demand.{Accepted}
@@ -50,7 +49,8 @@ module _ (s : List ℕ) (accepted : Accepted s) where
   words-kept : (at n : ℕ) → at + n ≤ length s → Words s at n → take n (drop at (copyOf s)) ≡ take n (drop at s)
   words-kept at n room h =
       let long = copy-long s (passed s accepted) in
-      let x : length (take n (drop at (copyOf s))) ≡ n = length-take-le n (drop at (copyOf s)) (simp length-drop (omega arith)) in
+      let x : length (take n (drop at (copyOf s))) ≡ n =
+      length-take-le n (drop at (copyOf s)) (simp length-drop (omega arith)) in
       let y : length (take n (drop at s)) ≡ n = length-take-le n (drop at s) (simp length-drop (omega arith)) in
       ext-getD 0 (take n (drop at (copyOf s))) (take n (drop at s)) (x ∙ sym y)
       (λ i l.

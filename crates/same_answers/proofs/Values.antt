@@ -1,7 +1,7 @@
 -- Every question about a value has the same answer in the copy.
 -- Assumes nothing.
 use Prim.Native.Nat.{ℕ}
-use mathlib.Core.Path.{_≡_, refl, sym, _∙_, ap}
+use mathlib.Core.Path.{_≡_, ap}
 use mathlib.Core.List.{List}
 use Rattle.record.specs.Columns.{placeOf}
 use Rattle.record.specs.declared.columns.LineNo.{LineNo}
@@ -16,7 +16,7 @@ use Rattle.questions.specs.Ask.{sectionIn, valueRefusal, valueBy, valueOf}
 use Rattle.copy.specs.Copy.{copyOf}
 use Rattle.copy.specs.Demand.{Accepted}
 use Rattle.copy.proofs.Demand.{copy-accepted}
-use Rattle.same_answers.specs.Same.{AlikeAnswer, SameValues}
+use Rattle.same_answers.specs.Same.{SameValues}
 use Rattle.same_answers.proofs.CopiedRecords.{copied-identifiers, copied-places}
 use Rattle.same_answers.proofs.CopiedRows.{copied-row, shape-kept}
 

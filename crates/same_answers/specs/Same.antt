@@ -24,8 +24,8 @@ SameValues =
 
 -- ---- words: headings, units and passages
 
--- two answers that hand back a part, a of the entry s and b of the entry t: the same numbers, place and pointer, and the
--- same bytes there
+-- two answers that hand back a part, a of the entry s and b of the entry t: the same numbers, place and pointer, and
+-- the same bytes there
 pub record SamePart (s t : List ℕ) (a b : PartAnswer) : Type 0 where
   pub places : a ≡ b
   pub words : bytesIn s a ≡ bytesIn t b
