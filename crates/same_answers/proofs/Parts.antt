@@ -59,11 +59,11 @@ module _ (s : List ℕ) (accepted : Accepted s) where
       (rw (getD-drop at (copyOf s) i 0, getD-drop at s i 0)
       (byte-kept (at + i) (omega arith) (h (at + i) (omega arith) (omega arith)))))
 
-  -- what is handed back, with this pointer beside it in the entry and that one in the copy
-  pub part-same : (v : Verdict) (number from bytes pointer that : ℕ) → (number ≡ 0 → that ≡ pointer)
+  -- what is handed back, with `pointer` beside it in the entry and `copied` in the copy
+  pub part-same : (v : Verdict) (number from bytes pointer copied : ℕ) → (number ≡ 0 → copied ≡ pointer)
       → (number ≡ 0 → Words s from bytes)
-      → SamePart (copyOf s) s (partWith (copyOf s) v number from bytes that) (partWith s v number from bytes pointer)
-  part-same v number from bytes pointer that same h =
+      → SamePart (copyOf s) s (partWith (copyOf s) v number from bytes copied) (partWith s v number from bytes pointer)
+  part-same v number from bytes pointer copied same h =
       rw (copy-long s (passed s accepted)) (by-number (eqb number 0) refl)
     where
       part : Bool → ℕ → PartAnswer
@@ -71,7 +71,7 @@ module _ (s : List ℕ) (accepted : Accepted s) where
           cond b (record { answer = answer 0; first = from; length = bytes; pointer = mark }) (noPart (answer 0))
 
       by-length : (b : Bool) → leb (from + bytes) (length s) ≡ b → number ≡ 0
-          → SamePart (copyOf s) s (part b that) (part b pointer)
+          → SamePart (copyOf s) s (part b copied) (part b pointer)
       by-length true l e =
           record {
             places = rw (same e);
@@ -82,6 +82,6 @@ module _ (s : List ℕ) (accepted : Accepted s) where
       handed : Bool → ℕ → PartAnswer
       handed b mark = cond b (part (leb (from + bytes) (length s)) mark) (noPart (answerFor v number))
 
-      by-number : (b : Bool) → eqb number 0 ≡ b → SamePart (copyOf s) s (handed b that) (handed b pointer)
+      by-number : (b : Bool) → eqb number 0 ≡ b → SamePart (copyOf s) s (handed b copied) (handed b pointer)
       by-number true e = by-length (leb (from + bytes) (length s)) refl (eqb-true number 0 e)
       by-number false e = record { places = refl; words = refl }

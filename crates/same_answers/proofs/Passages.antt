@@ -100,19 +100,19 @@ module _ (s : List ℕ) (accepted : Accepted s) (n : ℕ) where
 
   -- ---- its records
 
-  abbrev InTexts : Passage → Type 0
-  InTexts p = Words s (firstByte (p .first)) (p .records * 81)
+  abbrev TextOnly : Passage → Type 0
+  TextOnly p = Words s (firstByte (p .first)) (p .records * 81)
 
-  none-asked : InTexts NO-PASSAGE
-  none-asked i a b = absurd (omega arith)
+  no-words : TextOnly NO-PASSAGE
+  no-words i a b = absurd (omega arith)
 
-  run-words : (p e : ℕ) → e ≤ texts → InTexts (record { first = textRecord bib p; records = e - p })
+  run-words : (p e : ℕ) → e ≤ texts → TextOnly (record { first = textRecord bib p; records = e - p })
   run-words p e h i a b =
       let m = i / 81 - bib .0 in
       let z : bib .0 + (m + 1) - 1 ≡ i / 81 = omega arith in
       rw z at (text-record m (omega arith) .role)
 
-  under-words : (pointer k : ℕ) → k < texts → InTexts (passageUnder s bib pointer k texts)
+  under-words : (pointer k : ℕ) → k < texts → TextOnly (passageUnder s bib pointer k texts)
   unfolding passageUnder
   under-words pointer k h = by-test (ltb p u) refl
     where
@@ -123,24 +123,24 @@ module _ (s : List ℕ) (accepted : Accepted s) (n : ℕ) where
       p = firstText s bib (beginsWith pointer) k u
 
       by-test : (b : Bool) → ltb p u ≡ b
-          → InTexts
+          → TextOnly
           (cond b (record { first = textRecord bib p; records = firstText s bib begins (p + 1) texts - p }) NO-PASSAGE)
       by-test true e =
           let l = found-to hasKeyword (k + 1) texts (omega arith) in
           let m = ltb-true p u e in
           run-words p (firstText s bib begins (p + 1) texts) (found-to begins (p + 1) texts (omega arith))
-      by-test false e = none-asked
+      by-test false e = no-words
 
-  passage-words : (keyword : List ℕ) (pointer : ℕ) → InTexts (passageOf s bib keyword pointer)
+  passage-words : (keyword : List ℕ) (pointer : ℕ) → TextOnly (passageOf s bib keyword pointer)
   unfolding passageOf
   passage-words keyword pointer = by-test (ltb k texts) refl
     where
       k : ℕ
       k = firstText s bib (isKeyword keyword) 0 texts
 
-      by-test : (b : Bool) → ltb k texts ≡ b → InTexts (cond b (passageUnder s bib pointer k texts) NO-PASSAGE)
+      by-test : (b : Bool) → ltb k texts ≡ b → TextOnly (cond b (passageUnder s bib pointer k texts) NO-PASSAGE)
       by-test true e = under-words pointer k (ltb-true k texts e)
-      by-test false e = none-asked
+      by-test false e = no-words
 
   -- ---- the answer
 
