@@ -67,14 +67,19 @@ copy-numbers s f = one-fields s (copyOf s) f (rw (copy-accepted s f) f) .0 (sym 
 pub copy-fields : CopyFields
 copy-fields s f i k = sym (copy-numbers s f .fields i k)
 
-pub copy-part : CopyPart
-copy-part s f a n room h =
-    let long : length (copyOf s) ≡ length s = copy-long s (passed s f) in
-    let x : length (take n (drop a (copyOf s))) ≡ n = length-take-le n (drop a (copyOf s)) (simp length-drop (omega arith)) in
+-- two entries of one length: a part is equal where its bytes are
+pub part-of-bytes : (s t : List ℕ) → length t ≡ length s → (a n : ℕ) → a + n ≤ length s
+    → ((p : ℕ) → a ≤ p → p < a + n → getD t p 0 ≡ getD s p 0) → take n (drop a t) ≡ take n (drop a s)
+part-of-bytes s t long a n room h =
+    let x : length (take n (drop a t)) ≡ n = length-take-le n (drop a t) (simp length-drop (omega arith)) in
     let y : length (take n (drop a s)) ≡ n = length-take-le n (drop a s) (simp length-drop (omega arith)) in
-    ext-getD 0 (take n (drop a (copyOf s))) (take n (drop a s)) (x ∙ sym y)
+    ext-getD 0 (take n (drop a t)) (take n (drop a s)) (x ∙ sym y)
     (λ i l.
     let m : i < n = rw x at l in
-    rw (getD-take n (drop a (copyOf s)) i 0 m, getD-take n (drop a s) i 0 m)
-    (rw (getD-drop a (copyOf s) i 0, getD-drop a s i 0)
-    (sym (copy-numbers s f .outside (a + i) (omega arith) (h (a + i) (omega arith) (omega arith))))))
+    rw (getD-take n (drop a t) i 0 m, getD-take n (drop a s) i 0 m)
+    (rw (getD-drop a t i 0, getD-drop a s i 0) (h (a + i) (omega arith) (omega arith))))
+
+pub copy-part : CopyPart
+copy-part s f a n room h =
+    part-of-bytes s (copyOf s) (copy-long s (passed s f)) a n room
+    (λ p l m. sym (copy-numbers s f .outside p (omega arith) (h p l m)))

@@ -6,8 +6,7 @@ use mathlib.Core.Bool.{Bool, true, false, cond}
 use mathlib.Core.List.{List}
 use native.Mathlib.Omega.{arith}
 use lib.Dec.{eqb, leb}
-use lib.ListN.{length, take, drop, getD, length-drop}
-use lib.Seq.{length-take-le, getD-take, getD-drop, ext-getD}
+use lib.ListN.{length, take, drop, getD}
 use borrow.Author.Tests.{eqb-true, leb-true}
 use Rattle.rules.specs.Role.{isValue}
 use Rattle.record.specs.declared.columns.RecordNo.{RecordNo}
@@ -19,6 +18,7 @@ use Rattle.inside.specs.Inside.{roleAt}
 use Rattle.copy.specs.Copy.{copyOf}
 use Rattle.copy.specs.Demand.{Accepted}
 use Rattle.copy.proofs.Demand.{passed, copy-long, byte-of}
+use Rattle.copy.proofs.Unchanged.{part-of-bytes}
 use Rattle.same_answers.specs.Same.{SamePart}
 use Rattle.same_answers.proofs.CopiedRecords.{block-kept, fields-kept}
 
@@ -48,16 +48,8 @@ module _ (s : List ℕ) (accepted : Accepted s) where
 
   words-kept : (at n : ℕ) → at + n ≤ length s → Words s at n → take n (drop at (copyOf s)) ≡ take n (drop at s)
   words-kept at n room h =
-      let long = copy-long s (passed s accepted) in
-      let x : length (take n (drop at (copyOf s))) ≡ n =
-      length-take-le n (drop at (copyOf s)) (simp length-drop (omega arith)) in
-      let y : length (take n (drop at s)) ≡ n = length-take-le n (drop at s) (simp length-drop (omega arith)) in
-      ext-getD 0 (take n (drop at (copyOf s))) (take n (drop at s)) (x ∙ sym y)
-      (λ i l.
-      let m : i < n = rw x at l in
-      rw (getD-take n (drop at (copyOf s)) i 0 m, getD-take n (drop at s) i 0 m)
-      (rw (getD-drop at (copyOf s) i 0, getD-drop at s i 0)
-      (byte-kept (at + i) (omega arith) (h (at + i) (omega arith) (omega arith)))))
+      part-of-bytes s (copyOf s) (copy-long s (passed s accepted)) at n room
+      (λ p l m. byte-kept p (omega arith) (h p l m))
 
   -- what is handed back, with `pointer` beside it in the entry and `copied` in the copy
   pub part-same : (v : Verdict) (number from bytes pointer copied : ℕ) → (number ≡ 0 → copied ≡ pointer)
