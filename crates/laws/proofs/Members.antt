@@ -40,6 +40,23 @@ module _ {A : Type 0} {p : A → Bool} {f : ℕ → A} {whole : Bool} {i e : ℕ
       let u : anyOf p (listOf f i (e - i)) ≡ anyOf p (listOf f (i + 1) (e - (i + 1))) = rw (less i e h) (rw t refl) in
       record { low = omega arith; rest = l .rest ∙ u }
 
+-- where no member of one list meets its test, none of another does that would bring it about
+pub any-weaker : {A B : Type 0} (p : A → Bool) (q : B → Bool) (f : ℕ → A) (g : ℕ → B)
+    → ((i : ℕ) → p (f i) ≡ true → q (g i) ≡ true)
+    → (i n : ℕ) → anyOf q (listOf g i n) ≡ false → anyOf p (listOf f i n) ≡ false
+unfolding listOf anyOf
+any-weaker p q f g h i zero e = refl
+any-weaker p q f g h i (suc n) e = by-tests (p (f i)) (h i) (q (g i)) refl e (any-weaker p q f g h (i + 1) n)
+  where
+    by-tests : (a : Bool) → (a ≡ true → q (g i) ≡ true) → (b : Bool) → q (g i) ≡ b
+        → cond b true (anyOf q (listOf g (i + 1) n)) ≡ false
+        → (anyOf q (listOf g (i + 1) n) ≡ false → anyOf p (listOf f (i + 1) n) ≡ false)
+        → cond a true (anyOf p (listOf f (i + 1) n)) ≡ false
+    by-tests true k true w e r = e
+    by-tests true k false w e r = sym (k refl) ∙ w
+    by-tests false k true w e r = cc
+    by-tests false k false w e r = r e
+
 -- of two lists joined
 pub any-append : {A : Type 0} (p : A → Bool) (a b : List A) → anyOf p (a ++ b) ≡ cond (anyOf p a) true (anyOf p b)
 unfolding anyOf

@@ -7,3 +7,4 @@ pub mod Found
 pub mod NumberFields
 pub mod Readings
 pub mod WordsAndBlanks
+pub mod EightColumns

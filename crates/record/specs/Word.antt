@@ -1,5 +1,5 @@
 -- Words and pointers, headings and units (document 01, "Record, line and field" and "BIB, headings, pointers").
-use Prim.Native.Nat.{ℕ, _-_}
+use Prim.Native.Nat.{ℕ, _+_, _-_, _*_}
 use mathlib.Core.Bool.{Bool, cond, not, _&&_, _||_}
 use mathlib.Core.List.{List}
 use lib.Dec.{eqb, ltb}
@@ -29,6 +29,14 @@ differAt a b i = not (eqb (getD a i 0) (getD b i 0))
 -- the first w columns of both are equal
 unfoldable pub equalTo : ℕ → List ℕ → List ℕ → Bool
 equalTo w a b = eqb (first (differAt a b) 0 w) w
+
+-- eight columns as one number: equal columns have equal numbers (the law `eight-equal`)
+abbrev pub fourAt : List ℕ → ℕ → ℕ
+fourAt part at =
+    (getD part at 0 * 256 + getD part (at + 1) 0) * 65536 + (getD part (at + 2) 0 * 256 + getD part (at + 3) 0)
+
+unfoldable pub eightAt : List ℕ → ℕ → ℕ
+eightAt part at = fourAt part at * 4294967296 + fourAt part (at + 4)
 
 -- ---- "A word starts in the first column of its place, has no blank inside and is followed by blanks only."
 

@@ -1,10 +1,11 @@
 // Words and pointers, headings and units.
 ghost use mathlib.Core.Path.{_≡_};
-ghost use Prim.Native.Nat.{ℕ, _≤_};
+ghost use Prim.Native.Nat.{ℕ, _+_, _*_, _≤_};
 ghost use lib.ListN.{length};
 ghost use Rattle.record.specs.Text.{within};
 ghost use Rattle.record.specs.Fields.{firstField};
 ghost use Rattle.record.specs.Word.{blankTo, equalTo, wordEnd, filledFrom, isWord, isPointer};
+ghost use Rattle.record.specs.Word.{fourAt, eightAt};
 ghost use Rattle.record.specs.Word.{badPointer, isUnit, pointerFault, headingFault, unitFault};
 
 // The first filled one of the columns of a field from `from` up to `w`, or `w`.
@@ -67,6 +68,37 @@ pub fn same_keyword(a: [u8; 11], b: [u8; 11]) -> bool
     ensures { λ r. ⌜ r ≡ equalTo 10 a b ⌝ }
 {
     equal_to(&a, &b, 10)
+}
+
+// Two columns as one number.
+fn two(high: u8, low: u8) -> u64
+    ensures { λ r. ⌜ r ≡ high * 256 + low ⌝ }
+    ensures { λ r. ⌜ r ≤ 65535 ⌝ }
+{
+    let a = high as u64;
+    let b = low as u64;
+    a * 256 + b
+}
+
+// Four columns of a part.
+fn four(part: &[u8], at: usize) -> u64
+    requires { ⌜ at + 4 ≤ length (now part) ⌝ }
+    ensures { λ r. ⌜ r ≡ fourAt (now (part .entry)) at ⌝ }
+    ensures { λ r. ⌜ r ≤ 4294967295 ⌝ }
+{
+    let high = two(part[at], part[at + 1]);
+    let low = two(part[at + 2], part[at + 3]);
+    high * 65536 + low
+}
+
+// Eight columns of a part.
+pub fn eight_columns(part: &[u8], at: usize) -> u64
+    requires { ⌜ at + 8 ≤ length (now part) ⌝ }
+    ensures { λ r. ⌜ r ≡ eightAt (now (part .entry)) at ⌝ }
+{
+    let high = four(part, at);
+    let low = four(part, at + 4);
+    high * 4294967296 + low
 }
 
 // Whether two headings are equal, each with its pointer.

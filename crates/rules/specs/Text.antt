@@ -7,7 +7,7 @@ use lib.ListN.{length, getD}
 use Rattle.laws.specs.Members.{listOf, anyOf}
 use Rattle.record.specs.Columns.{columnsAt}
 use Rattle.record.specs.Text.{isBlank}
-use Rattle.record.specs.Word.{blankTo, equalTo, isWord, pointerOf, badPointer}
+use Rattle.record.specs.Word.{blankTo, equalTo, eightAt, isWord, pointerOf, badPointer}
 use Rattle.rules.specs.declared.state.Track.{Track}
 use Rattle.rules.specs.Fault.{when}
 
@@ -19,6 +19,10 @@ placeAt part i = columnsAt (i * 81) 11 part
 
 unfoldable pub placesOf : List ℕ → List (List ℕ)
 placesOf part = listOf (placeAt part) 0 (length part / 81)
+
+-- their first eight columns as numbers
+unfoldable pub eightsOf : List ℕ → List ℕ
+eightsOf part = listOf (λ i. eightAt part (i * 81)) 0 (length part / 81)
 
 abbrev pub pointerAt : List ℕ → ℕ → ℕ
 pointerAt part i = getD part (i * 81 + 10) 0

@@ -9,19 +9,38 @@ ghost use Rattle.record.specs.Word.{equalTo};
 ghost use Rattle.rules.specs.State.{Stands, bytesOf};
 ghost use Rattle.rules.specs.Role.{TEXT};
 ghost use Rattle.rules.specs.Fault.{leftmost, on};
-ghost use Rattle.rules.specs.Text.{placesOf, pointersOf, keywordFault, rule10, pointerRepeated, rule11Text};
+ghost use Rattle.rules.specs.Text.{placesOf, eightsOf, pointersOf, keywordFault, rule10, pointerRepeated, rule11Text};
 use crate::role::TEXT;
 use crate::state::Ranges;
 use crate::state::Track;
 use crate::state::part;
 use record::fields::field;
 use record::word::bad_pointer;
+use record::word::eight_columns;
 use record::word::is_keyword_blank;
 use record::word::is_word;
 use record::word::same_keyword;
 
-// Whether one of the records of a part has the keyword.
-fn keyword_in(part: &[u8], f: [u8; 11]) -> bool
+// Whether one of the records of a part begins with columns of that number. The loop holds nothing else, so that eight
+// columns are compared in one step.
+fn eight_in(part: &[u8], number: u64) -> bool
+    ensures { λ r. ⌜ r ≡ anyOf (eqb number) (eightsOf (now (part .entry))) ⌝ }
+{
+    let n = part.len() / 81;
+    let mut i = 0;
+    while i < n {
+        let at = i * 81;
+        let here = eight_columns(part, at);
+        if number == here {
+            return true;
+        }
+        i += 1;
+    }
+    false
+}
+
+// Whether one of the records of a part has the keyword, by all ten columns.
+fn keyword_among(part: &[u8], f: [u8; 11]) -> bool
     ensures { λ r. ⌜ r ≡ anyOf (equalTo 10 f) (placesOf (now (part .entry))) ⌝ }
 {
     let n = part.len() / 81;
@@ -33,6 +52,17 @@ fn keyword_in(part: &[u8], f: [u8; 11]) -> bool
             return true;
         }
         i += 1;
+    }
+    false
+}
+
+// The same. Most keywords differ from all others in their first eight columns.
+fn keyword_in(part: &[u8], f: [u8; 11]) -> bool
+    ensures { λ r. ⌜ r ≡ anyOf (equalTo 10 f) (placesOf (now (part .entry))) ⌝ }
+{
+    let number = eight_columns(&f, 0);
+    if eight_in(part, number) {
+        return keyword_among(part, f);
     }
     false
 }

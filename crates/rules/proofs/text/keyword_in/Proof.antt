@@ -1,75 +1,66 @@
-use Rattle.laws.proofs.Members.{look-done, look-found, look-next}
-use Prim.Native.Nat.{_-_, _/_}
-use Rattle.laws.proofs.Members.{Look, look-all}
-use Rattle.laws.specs.Members.{anyOf}
-use Rattle.record.specs.Word.{equalTo}
-use Rattle.rules.specs.Text.{placeAt, placesOf}
+use Prim.Native.Nat.{ℕ, _*_, _/_}
+use mathlib.Core.Path.{_≡_, _∙_, sym}
+use mathlib.Core.Bool.{false}
+use mathlib.Core.List.{List}
+use lib.Dec.{eqb}
 use lib.ListN.{length}
-use mathlib.Core.Path.{_∙_, _≡_, sym}
-use native.Mathlib.Omega.{arith}
+use borrow.Author.Tests.{eq-eqb}
+use Rattle.laws.specs.Members.{anyOf}
+use Rattle.laws.proofs.Members.{any-weaker}
+use Rattle.record.specs.Word.{equalTo, eightAt}
+use Rattle.record.proofs.EightColumns.{eight-equal}
+use Rattle.rules.specs.Text.{placeAt, placesOf, eightsOf}
 use borrow.Author.Needs.{needs}
 use Rattle.rules.proofs.text.keyword_in.Statement.{statement}
 use Rattle.rules.proofs.text.keyword_in.Tie as tie
 use Rattle.rules.proofs.text.keyword_in.Reads as reads
 use Rattle.rules.proofs.text.keyword_in.Lts as lts
-use Rattle.record.proofs.fields.field.Reads as field-reads
-use Rattle.record.proofs.word.same_keyword.Reads as same-keyword-reads
+use Rattle.record.proofs.word.eight_columns.Reads as eight-columns-reads
+use Rattle.rules.proofs.text.eight_in.Reads as eight-in-reads
+use Rattle.rules.proofs.text.keyword_among.Reads as keyword-among-reads
 
-abbrev Inv-loop : tie.InvT-loop
-Inv-loop part f n i₀ i = (n ≡ length part / 81) × Look (equalTo 10 f) (placeAt part) (anyOf (equalTo 10 f) (placesOf part)) i n
+-- src/text.rt:63:32
+slice-aggregate-eight-columns : tie.Need-slice-aggregate-eight-columns
+slice-aggregate-eight-columns c = search needs
 
-abbrev μ-loop : tie.MeasureT-loop
-μ-loop part f n i₀ i = n - i
+-- src/text.rt:63:9
+eight-columns-requires : tie.Need-eight-columns-requires
+eight-columns-requires c κs = search needs
 
--- src/text.rt:28:5
-loop-holds : tie.Need-loop-holds Inv-loop μ-loop
-unfolding placesOf
-loop-holds c = (search needs, look-all _)
+-- src/text.rt:64:8
+eight-in-requires : tie.Need-eight-in-requires
+eight-in-requires c κs = search needs
 
--- src/text.rt:29:18
-mul-at : tie.Need-mul-at Inv-loop μ-loop
-mul-at c = search needs
+-- src/text.rt:65:9
+keyword-among-requires : tie.Need-keyword-among-requires
+keyword-among-requires c κs = search needs
 
--- src/text.rt:30:13
-field-requires : tie.Need-field-requires Inv-loop μ-loop
-field-requires c κs = search needs
+-- src/text.rt:65:9
+returns : tie.Need-returns
+returns c = search needs
 
--- src/text.rt:31:12
-same-keyword-requires : tie.Need-same-keyword-requires Inv-loop μ-loop
-same-keyword-requires c κs = search needs
+-- a keyword whose number is nowhere is nowhere
+nowhere : (part f : List ℕ) (number : ℕ) → number ≡ eightAt f 0 → anyOf (eqb number) (eightsOf part) ≡ false
+    → false ≡ anyOf (equalTo 10 f) (placesOf part)
+unfolding eightsOf placesOf
+nowhere part f number w e =
+    sym
+    (any-weaker (equalTo 10 f) (eqb number) (placeAt part) (λ i. eightAt part (i * 81))
+    (λ i h. eq-eqb number (eightAt part (i * 81)) (w ∙ eight-equal f part (i * 81) h))
+    0 (length part / 81) e)
 
--- src/text.rt:32:13
-returns : tie.Need-returns Inv-loop μ-loop
-returns c = look-found (c .before .before .before .before .loop .inv .1) (omega arith) (rw (← c .before .before .field .ensures) (sym (c .before .same-keyword .ensures) ∙ c .if1 .taken))
-
--- src/text.rt:34:9
-add-i : tie.Need-add-i Inv-loop μ-loop
-add-i c = search needs
-
--- src/text.rt:28:5
-loop-less : tie.Need-loop-less Inv-loop μ-loop
-loop-less c = search needs
-
--- src/text.rt:28:5
-loop-again : tie.Need-loop-again Inv-loop μ-loop
-loop-again c = (search needs, look-next (c .before .before .before .before .loop .inv .1) (omega arith) (rw (← c .before .before .field .ensures) (sym (c .before .same-keyword .ensures) ∙ c .if1 .left)))
-
--- src/text.rt:23:1
-returns-2 : tie.Need-returns-2 Inv-loop μ-loop
-returns-2 c = look-done (c .before .loop .inv .1) (omega arith)
+-- src/text.rt:60:1
+returns-2 : tie.Need-returns-2
+returns-2 c =
+    nowhere _ _ _ (c .before .before .eight-columns .ensures) (sym (c .before .eight-in .ensures) ∙ c .if1 .left)
 
 pub keyword-in-spec : {M : Type 1} → statement M
 keyword-in-spec =
     tie.close
     (tie.spec
-    Inv-loop
-    μ-loop
-    loop-holds
-    mul-at
-    field-requires
-    same-keyword-requires
+    slice-aggregate-eight-columns
+    eight-columns-requires
+    eight-in-requires
+    keyword-among-requires
     returns
-    add-i
-    loop-less
-    loop-again
     returns-2)
