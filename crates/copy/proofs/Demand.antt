@@ -27,9 +27,9 @@ use Rattle.number.specs.Reading.{readField}
 use Rattle.record.specs.Fields.{fieldAt}
 use Rattle.record.specs.Numbers.{noValue}
 use Rattle.rules.specs.State.{Context, startContext, MOST-RECORDS}
-use Rattle.entry.specs.Verdict.{turnOf, endOf, lengthGood, refused, judgeOf}
+use Rattle.entry.specs.Verdict.{turnOf, endOf, lengthGood, refused, judgeOf, Accepted}
 use Rattle.copy.specs.Copy.{maskOf, copyRecord, recordsOf, numberField, fieldIn, copyOf}
-use Rattle.copy.specs.Demand.{Accepted, AlikeField, inNumber, SameNumbers, CopyAccepted, CopyAgain, OneCopy}
+use Rattle.copy.specs.Demand.{AlikeField, inNumber, SameNumbers, CopyAccepted, CopyAgain, OneCopy}
 use Rattle.entry.proofs.GoingOn.{out-refused}
 use Rattle.copy.proofs.CanonicalFields.{Fit, alike-byte, alike-reads, bytes-alike}
 use Rattle.copy.proofs.FaithfulRecords.{length-mask-of, fits, faithful}

@@ -11,10 +11,10 @@ use lib.Dec.{eqb, ltb}
 use lib.ListN.{length, take, drop}
 use lib.Seq.{take-at, drop-at}
 use Rattle.entry.specs.declared.verdict.Verdict.{Verdict}
-use Rattle.entry.specs.Verdict.{judgeOf}
+use Rattle.entry.specs.Verdict.{judgeOf, Accepted}
 use Rattle.copy.specs.Copy.{copyOf}
 use Rattle.copy.specs.Answer.{plainly, entryRefused, copied, stored}
-use Rattle.copy.specs.Demand.{Accepted, CopyMade}
+use Rattle.copy.specs.Demand.{CopyMade}
 use Rattle.copy.specs.Storing.{Room, copiedInto}
 use Rattle.copy.proofs.Demand.{passed, copy-long}
 use Rattle.copy.proofs.NumberedCopy.{numbers-copy}

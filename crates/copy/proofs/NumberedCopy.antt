@@ -15,11 +15,10 @@ use Rattle.laws.proofs.Pasting.{copy-pasted}
 use Rattle.rules.specs.State.{Context, startContext, MOST-RECORDS}
 use Rattle.entry.specs.declared.step.Judge.{Judge}
 use Rattle.entry.specs.declared.verdict.Verdict.{Verdict}
-use Rattle.entry.specs.Verdict.{turnOf}
+use Rattle.entry.specs.Verdict.{turnOf, Accepted}
 use Rattle.entry.specs.Numbers.{contextOf, startJudge, stepTurn}
 use Rattle.entry.proofs.Numbered.{Standing, turns, starts, whole-records}
 use Rattle.copy.specs.Copy.{copyRecord, recordsOf, copyOf}
-use Rattle.copy.specs.Demand.{Accepted}
 use Rattle.copy.specs.Storing.{copyStep, startCopying, copiedInto}
 use Rattle.copy.proofs.FaithfulRecords.{faithful}
 use Rattle.copy.proofs.Demand.{Passed, passed}

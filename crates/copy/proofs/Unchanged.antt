@@ -16,9 +16,9 @@ use Rattle.laws.proofs.Copies.{copies-marks, copies-at}
 use Rattle.number.specs.Reading.{readField}
 use Rattle.record.specs.Fields.{fieldAt}
 use Rattle.rules.specs.State.{startContext}
-use Rattle.entry.specs.Verdict.{roleOf, turnOf, judgeOf}
+use Rattle.entry.specs.Verdict.{roleOf, turnOf, judgeOf, Accepted}
 use Rattle.copy.specs.Copy.{copyRecord, recordsOf, numberField, fieldIn, copyOf}
-use Rattle.copy.specs.Demand.{Accepted, inNumber, CopyFields, CopyReads, CopyPart, CopyContexts, CopyRoles}
+use Rattle.copy.specs.Demand.{inNumber, CopyFields, CopyReads, CopyPart, CopyContexts, CopyRoles}
 use Rattle.copy.proofs.FaithfulRecords.{role-kept, reads-kept, faithful}
 use Rattle.copy.proofs.Demand.{Passed, passed, copy-long, copy-records, copy-accepted, copy-again, SameFields, one-fields}
 

@@ -1,10 +1,9 @@
--- Demand 3 of the mission, sentence by sentence. Each statement is a type; the law that proves it has its name in small
--- letters (proofs/Demand.antt).
+-- Demand 3 of the mission, as far as it speaks of the copy itself. Each statement is a type; the law that proves it has
+-- its name in small letters (proofs/Demand, Made and Unchanged).
 --
---   "For an accepted entry, every question inside its own shape is answered. Its canonical copy, made in a buffer long
---   enough, is accepted, answers every such question with the same values and words at the same places, and is its own
---   copy. Two accepted entries have the same copy exactly when they have the same number fields, equal bytes outside
---   them, blanks in the same ones, and equal decimals in the rest."
+--   "Its canonical copy, made in a buffer long enough, is accepted, answers every such question with the same values and
+--   words at the same places, and is its own copy. Two accepted entries have the same copy exactly when they have the
+--   same number fields, equal bytes outside them, blanks in the same ones, and equal decimals in the rest."
 use Prim.Native.Nat.{ℕ, _+_, _/_, _%_, _<_, _≤_}
 use mathlib.Core.Path.{_≡_}
 use mathlib.Core.Logic.{_↔_}
@@ -17,13 +16,9 @@ use Rattle.number.specs.declared.value.Reading.{Reading}
 use Rattle.number.specs.declared.value.Reading.the-variants.{Blank, Number}
 use Rattle.number.specs.Reading.{readField}
 use Rattle.rules.specs.State.{Context, startContext}
-use Rattle.entry.specs.Verdict.{roleOf, turnOf, judgeOf}
+use Rattle.entry.specs.Verdict.{roleOf, turnOf, judgeOf, Accepted}
 use Rattle.copy.specs.Answer.{plainly, copied, stored}
 use Rattle.copy.specs.Copy.{recordsOf, numberField, fieldIn, copyOf}
-
--- "an accepted entry"
-abbrev pub Accepted : List ℕ → Type 0
-Accepted s = judgeOf s .refusal ≡ 0
 
 -- how two answers about a value are compared: in all that they say
 abbrev pub Alike : Reading → Reading → Type 0

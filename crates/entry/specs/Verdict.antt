@@ -6,6 +6,7 @@
 --   refusal
 --   the totals are 0."
 use Prim.Native.Nat.{ℕ, _+_, _*_, _/_, _%_}
+use mathlib.Core.Path.{_≡_}
 use mathlib.Core.Bool.{Bool, true, false, cond, not, _&&_}
 use mathlib.Core.List.{List, []}
 use lib.Dec.{eqb, leb}
@@ -84,3 +85,7 @@ unfoldable pub judgeOf : List ℕ → Verdict
 judgeOf s =
     cond (lengthGood (length s)) (walk turnOf endOf startContext 0 (blocks 81 (length s / 81) s))
     (refused 1 (record { 0 = 0 }) 0)
+
+-- "an accepted entry"
+abbrev pub Accepted : List ℕ → Type 0
+Accepted s = judgeOf s .refusal ≡ 0

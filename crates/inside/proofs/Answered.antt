@@ -27,7 +27,7 @@ use Rattle.rules.specs.State.{Context}
 use Rattle.rules.specs.System.{countN1, countN2}
 use Rattle.rules.specs.Role.{NOT-DUE, isValue}
 use Rattle.entry.specs.declared.verdict.Verdict.{Verdict}
-use Rattle.entry.specs.Verdict.{roleOf, judgeOf}
+use Rattle.entry.specs.Verdict.{roleOf, judgeOf, Accepted}
 use Rattle.rules.proofs.DueRecords.{fine-due}
 use Rattle.rules.proofs.WithoutFault.{fine-reads}
 use Rattle.entry.proofs.GoingOn.{go-fine}
@@ -39,7 +39,7 @@ use Rattle.questions.specs.Place.{fieldOf, byteOf}
 use Rattle.questions.specs.Ask.{firstOf, refusal, isRefused, isSubent, sectionIn, noSection, noLine, noColumn}
 use Rattle.questions.specs.Ask.{sectionRefusals, valueRefusal, valueBy, valueOf, columnRefusal, headingBy}
 use Rattle.questions.specs.Ask.{headingOf, unitBy, unitOf}
-use Rattle.inside.specs.Inside.{Accepted, contextAt, roleAt, openedBy, Opens, InsideColumn, linesIn}
+use Rattle.inside.specs.Inside.{contextAt, roleAt, openedBy, Opens, InsideColumn, linesIn}
 use Rattle.inside.specs.Inside.{InsideValue, isSaid, ValueAnswered, HeadingAnswered, UnitAnswered}
 use Rattle.questions.proofs.Refusals.{section-none}
 use Rattle.inside.proofs.Contexts.{Walked, walked}

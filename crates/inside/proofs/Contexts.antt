@@ -18,9 +18,9 @@ use Rattle.record.specs.Columns.{recordOf}
 use Rattle.rules.specs.declared.state.Totals.{Totals}
 use Rattle.rules.specs.State.{Context, startContext}
 use Rattle.entry.specs.declared.verdict.Verdict.{Verdict}
-use Rattle.entry.specs.Verdict.{refused, accepted, turnOf, endOf, isDone, lengthGood, judgeOf}
+use Rattle.entry.specs.Verdict.{refused, accepted, turnOf, endOf, isDone, lengthGood, judgeOf, Accepted}
 use Rattle.entry.proofs.GoingOn.{go-fine, out-refused}
-use Rattle.inside.specs.Inside.{Accepted, behind, contextAt}
+use Rattle.inside.specs.Inside.{behind, contextAt}
 
 -- one block more
 one-turn : (m : ℕ) (c : Context) (i : ℕ) (t : List ℕ) (last : Context) → Goes turnOf c i (blocks 81 (suc m) t) last

@@ -17,7 +17,7 @@ use Rattle.record.specs.Text.{isBlank}
 use Rattle.record.specs.Word.{equalTo, pointerOf}
 use Rattle.record.specs.declared.columns.RecordNo.{RecordNo}
 use Rattle.rules.specs.Text.{placeAt}
-use Rattle.entry.specs.Verdict.{judgeOf}
+use Rattle.entry.specs.Verdict.{judgeOf, Accepted}
 use Rattle.questions.specs.declared.row.Row.{Row}
 use Rattle.questions.specs.declared.passage.Passage.{Passage}
 use Rattle.questions.specs.Row.{rowOf}
@@ -28,7 +28,7 @@ use Rattle.questions.specs.Ask.{firstOf, refusal, noSection, noPassage, section
 use Rattle.questions.specs.Ask.{passageAnswer}
 use Rattle.questions.proofs.Refusals.{section-none}
 use Rattle.questions.proofs.RowChanges.{bib}
-use Rattle.inside.specs.Inside.{Accepted, TextOf, InsidePassage, RunFrom, PassageAnswered}
+use Rattle.inside.specs.Inside.{TextOf, InsidePassage, RunFrom, PassageAnswered}
 use Rattle.inside.specs.Inside.{BegunInside, OnePassage}
 use Rattle.inside.proofs.FoundFirst.{first-holds, first-is, and-none, equal-both, equal-taken}
 use Rattle.inside.proofs.Nesting.{or-right}

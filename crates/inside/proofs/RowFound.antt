@@ -32,7 +32,7 @@ use Rattle.rules.specs.Role.{TEXT, NOT-DUE, isSystem, opensSubentry, isHeading,
 use Rattle.rules.specs.Role.{tableRole, dataRole, roleIn}
 use Rattle.rules.specs.Every.{n1}
 use Rattle.entry.specs.Next.{phaseAfter, textRead, afterSystem, afterInside, trackAfter, contextAfter}
-use Rattle.entry.specs.Verdict.{roleOf, refused, turnOf, endOf, lengthGood, judgeOf}
+use Rattle.entry.specs.Verdict.{roleOf, refused, turnOf, endOf, lengthGood, judgeOf, Accepted}
 use Rattle.entry.proofs.GoingOn.{go-fine}
 use Rattle.questions.specs.declared.row.Row.{Row}
 use Rattle.questions.specs.declared.row.Located.{Located}
@@ -41,7 +41,7 @@ use Rattle.questions.specs.Row.{notedAs, noteOf, leaving, locating, located, st
 use Rattle.questions.specs.Place.{hasRecord, fieldsAt, identifierAt}
 use Rattle.questions.proofs.RowChanges.{Section, bib, common, table, opener, named, level, number-stays, first-stays}
 use Rattle.questions.proofs.RowChanges.{first-set, section-stays, section-set}
-use Rattle.inside.specs.Inside.{Accepted, behind, contextAt, roleAt}
+use Rattle.inside.specs.Inside.{behind, contextAt, roleAt}
 use Rattle.inside.proofs.Contexts.{Walked, walked}
 use Rattle.inside.proofs.Nesting.{rank, either-as, Unnumbered, unnumbered-turn, key, Nested, nested-turn}
 

@@ -26,14 +26,14 @@ use Rattle.rules.specs.System.{countN2}
 use Rattle.rules.specs.Role.{TEXT, NOT-DUE, isValue, bibRole, roleIn}
 use Rattle.rules.proofs.DueRecords.{fine-due}
 use Rattle.entry.specs.Next.{phaseAfter, textRead, afterSystem, afterInside, trackAfter, contextAfter}
-use Rattle.entry.specs.Verdict.{roleOf, isDone, turnOf, endOf, lengthGood, judgeOf, refused}
+use Rattle.entry.specs.Verdict.{roleOf, isDone, turnOf, endOf, lengthGood, judgeOf, refused, Accepted}
 use Rattle.entry.proofs.GoingOn.{go-fine}
 use Rattle.entry.proofs.Numbered.{whole-records}
 use Rattle.questions.specs.declared.row.Row.{Row}
 use Rattle.questions.specs.Row.{NONE, notedAs, rowOf}
 use Rattle.questions.specs.Passage.{textRecords}
 use Rattle.questions.proofs.RowChanges.{Section, bib, common, table, opener, named, section-stays, section-set}
-use Rattle.inside.specs.Inside.{Accepted, behind, contextAt, roleAt, TextOf}
+use Rattle.inside.specs.Inside.{behind, contextAt, roleAt, TextOf}
 use Rattle.inside.proofs.Contexts.{walked}
 use Rattle.inside.proofs.Nesting.{either-as}
 use Rattle.inside.proofs.RowFound.{rowAt, found-row, records-at, number-of, row-next, Opening, row-fields}

@@ -17,8 +17,9 @@ use Rattle.rules.specs.Role.{TEXT, NOT-DUE, only, bibRole, roleIn, inBib}
 use Rattle.rules.proofs.RolePlaces.{text-in-bib}
 use Rattle.entry.specs.Next.{phaseAfter, contextAfter}
 use Rattle.entry.proofs.Following.{bib-led, one-of}
+use Rattle.entry.specs.Verdict.{Accepted}
 use Rattle.questions.proofs.RowChanges.{bib}
-use Rattle.inside.specs.Inside.{Accepted, contextAt, roleAt, TextOf}
+use Rattle.inside.specs.Inside.{contextAt, roleAt, TextOf}
 use Rattle.inside.proofs.Nesting.{either-as}
 use Rattle.inside.proofs.RowFound.{Opening, row-names}
 use Rattle.inside.proofs.TextLaid.{InTexts, textsOf, texts-stand, text-laid}

@@ -27,11 +27,11 @@ use Rattle.rules.specs.Text.{placeAt, placesOf, pointersOf, keywordFault, rule1
 use Rattle.rules.specs.Order.{faultOf}
 use Rattle.rules.proofs.WithoutFault.{none-found}
 use Rattle.entry.specs.Next.{partAfter, bibChange, underChange, seenAfter, contextAfter}
-use Rattle.entry.specs.Verdict.{roleOf}
+use Rattle.entry.specs.Verdict.{roleOf, Accepted}
 use Rattle.entry.proofs.GoingOn.{go-fine}
 use Rattle.questions.specs.Passage.{hasKeyword}
 use Rattle.questions.proofs.RowChanges.{bib}
-use Rattle.inside.specs.Inside.{Accepted, behind, contextAt, roleAt, TextOf, Under}
+use Rattle.inside.specs.Inside.{behind, contextAt, roleAt, TextOf, Under}
 use Rattle.inside.proofs.Contexts.{walked}
 use Rattle.inside.proofs.RecordsFrom.{place-field, recordsFrom, records-none, records-next}
 use Rattle.inside.proofs.RecordsFrom.{not-among, not-pointed}

@@ -21,14 +21,11 @@ use Rattle.rules.specs.System.{countN1, countN2}
 use Rattle.rules.specs.Text.{placeAt}
 use Rattle.rules.specs.Role.{TEXT, NOT-DUE}
 use Rattle.entry.specs.Next.{contextAfter}
-use Rattle.entry.specs.Verdict.{roleOf, judgeOf}
+use Rattle.entry.specs.Verdict.{roleOf, Accepted}
 use Rattle.questions.specs.Place.{COMMON-SECTION, DATA-SECTION}
 use Rattle.questions.specs.declared.ask.PartAnswer.{PartAnswer}
 use Rattle.questions.specs.Passage.{hasKeyword, begins, beginsWith}
 use Rattle.questions.specs.Ask.{valueOf, headingOf, unitOf, passageAnswer}
-
-abbrev pub Accepted : List ℕ → Type 0
-Accepted s = judgeOf s .refusal ≡ 0
 
 -- ---- the records of an entry, by their index
 

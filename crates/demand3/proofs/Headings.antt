@@ -17,6 +17,7 @@ use Rattle.record.specs.declared.columns.Place.{Place}
 use Rattle.rules.specs.Role.{isValue}
 use Rattle.rules.specs.System.{countN1}
 use Rattle.entry.specs.declared.verdict.Verdict.{Verdict}
+use Rattle.entry.specs.Verdict.{Accepted}
 use Rattle.questions.specs.declared.row.Row.{Row}
 use Rattle.questions.specs.declared.place.Shape.{Shape}
 use Rattle.questions.specs.Row.{NONE, rowOf}
@@ -30,12 +31,11 @@ use Rattle.inside.proofs.RowFound.{Opening}
 use Rattle.inside.proofs.TextLaid.{row-opening}
 use Rattle.inside.proofs.Answered.{sectionNo, sectionOf, at-record, shape-columns, laid-at}
 use Rattle.copy.specs.Copy.{copyOf}
-use Rattle.copy.specs.Demand.{Accepted}
 use Rattle.copy.proofs.Demand.{copy-accepted}
-use Rattle.same_answers.specs.Same.{SamePart, SameHeadings, SameUnits}
-use Rattle.same_answers.proofs.CopiedRecords.{copied-identifiers}
-use Rattle.same_answers.proofs.CopiedRows.{copied-row, shape-kept}
-use Rattle.same_answers.proofs.Parts.{NoValues, Words, fields-same, part-same}
+use Rattle.demand3.specs.Same.{SamePart, SameHeadings, SameUnits}
+use Rattle.demand3.proofs.CopiedRecords.{copied-identifiers}
+use Rattle.demand3.proofs.CopiedRows.{copied-row, shape-kept}
+use Rattle.demand3.proofs.Parts.{NoValues, Words, fields-same, part-same}
 
 -- ---- the heading and the unit of a column that is there
 

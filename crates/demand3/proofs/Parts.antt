@@ -11,16 +11,16 @@ use borrow.Author.Tests.{eqb-true, leb-true}
 use Rattle.rules.specs.Role.{isValue}
 use Rattle.record.specs.declared.columns.RecordNo.{RecordNo}
 use Rattle.entry.specs.declared.verdict.Verdict.{Verdict}
+use Rattle.entry.specs.Verdict.{Accepted}
 use Rattle.questions.specs.declared.ask.PartAnswer.{PartAnswer}
 use Rattle.questions.specs.Place.{fieldsAt}
 use Rattle.questions.specs.Ask.{answer, answerFor, noPart, partWith}
 use Rattle.inside.specs.Inside.{roleAt}
 use Rattle.copy.specs.Copy.{copyOf}
-use Rattle.copy.specs.Demand.{Accepted}
 use Rattle.copy.proofs.Demand.{passed, copy-long, byte-of}
 use Rattle.copy.proofs.Unchanged.{part-of-bytes}
-use Rattle.same_answers.specs.Same.{SamePart}
-use Rattle.same_answers.proofs.CopiedRecords.{block-kept, fields-kept}
+use Rattle.demand3.specs.Same.{SamePart}
+use Rattle.demand3.proofs.CopiedRecords.{block-kept, fields-kept}
 
 -- a record of the entry that is no value record
 pub record NoValues (s : List ℕ) (at : RecordNo) : Type 0 where

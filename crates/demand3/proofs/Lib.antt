@@ -4,3 +4,4 @@ pub mod Parts
 pub mod Values
 pub mod Headings
 pub mod Passages
+pub mod Demand3

@@ -7,6 +7,7 @@ use Rattle.record.specs.Columns.{placeOf}
 use Rattle.record.specs.declared.columns.LineNo.{LineNo}
 use Rattle.record.specs.declared.columns.RecordNo.{RecordNo}
 use Rattle.entry.specs.declared.verdict.Verdict.{Verdict}
+use Rattle.entry.specs.Verdict.{Accepted}
 use Rattle.questions.specs.declared.row.Row.{Row}
 use Rattle.questions.specs.declared.place.Shape.{Shape}
 use Rattle.questions.specs.declared.ask.ValueAnswer.{ValueAnswer}
@@ -14,11 +15,10 @@ use Rattle.questions.specs.Row.{rowOf}
 use Rattle.questions.specs.Place.{shapeOf}
 use Rattle.questions.specs.Ask.{sectionIn, valueRefusal, valueBy, valueOf}
 use Rattle.copy.specs.Copy.{copyOf}
-use Rattle.copy.specs.Demand.{Accepted}
 use Rattle.copy.proofs.Demand.{copy-accepted}
-use Rattle.same_answers.specs.Same.{SameValues}
-use Rattle.same_answers.proofs.CopiedRecords.{copied-identifiers, copied-places}
-use Rattle.same_answers.proofs.CopiedRows.{copied-row, shape-kept}
+use Rattle.demand3.specs.Same.{SameValues}
+use Rattle.demand3.proofs.CopiedRecords.{copied-identifiers, copied-places}
+use Rattle.demand3.proofs.CopiedRows.{copied-row, shape-kept}
 
 module _ (s : List ℕ) (accepted : Accepted s) where
   refusal-same : (v : Verdict) (x : Row) (at : RecordNo) (shape : Shape) (line : LineNo) (column : ℕ)

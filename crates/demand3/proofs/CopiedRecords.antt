@@ -20,7 +20,7 @@ use Rattle.record.specs.declared.columns.Place.{Place}
 use Rattle.record.proofs.ReadColumns.{field-of}
 use Rattle.rules.specs.State.{Context, startContext}
 use Rattle.rules.specs.Role.{isValue}
-use Rattle.entry.specs.Verdict.{turnOf}
+use Rattle.entry.specs.Verdict.{turnOf, Accepted}
 use Rattle.entry.proofs.GoingOn.{go-fine}
 use Rattle.questions.specs.Place.{hasRecord, fieldsAt, identifierAt, fieldOf}
 use Rattle.inside.specs.Inside.{contextAt, roleAt, behind}
@@ -28,7 +28,6 @@ use Rattle.inside.proofs.Contexts.{Walked, walked}
 use Rattle.questions.proofs.Records.{record-there}
 use Rattle.inside.proofs.RowFound.{fields-at}
 use Rattle.copy.specs.Copy.{copyRecord, recordsOf, copyOf}
-use Rattle.copy.specs.Demand.{Accepted}
 use Rattle.copy.proofs.FaithfulRecords.{identifier-kept, not-copied, faithful}
 use Rattle.copy.proofs.Demand.{passed, copy-long, copy-records}
 use Rattle.copy.proofs.Unchanged.{copy-reads}

@@ -14,6 +14,7 @@ use Rattle.record.specs.System.{integerOf}
 use Rattle.record.specs.declared.columns.RecordNo.{RecordNo}
 use Rattle.rules.specs.System.{countN2}
 use Rattle.entry.specs.declared.verdict.Verdict.{Verdict}
+use Rattle.entry.specs.Verdict.{Accepted}
 use Rattle.questions.specs.declared.passage.Passage.{Passage}
 use Rattle.questions.specs.Row.{rowOf}
 use Rattle.questions.specs.Place.{fieldsAt, firstByte}
@@ -22,12 +23,11 @@ use Rattle.questions.specs.Passage.{firstText, NO-PASSAGE, passageUnder, passag
 use Rattle.questions.specs.Ask.{passageRefusal, passageBy, passageAnswer}
 use Rattle.inside.proofs.TextLaid.{row-texts}
 use Rattle.copy.specs.Copy.{copyOf}
-use Rattle.copy.specs.Demand.{Accepted}
 use Rattle.copy.proofs.Demand.{copy-accepted}
-use Rattle.same_answers.specs.Same.{SamePart, SamePassages}
-use Rattle.same_answers.proofs.CopiedRecords.{copied-identifiers}
-use Rattle.same_answers.proofs.CopiedRows.{copied-row, row-kept}
-use Rattle.same_answers.proofs.Parts.{NoValues, Words, fields-same, part-same}
+use Rattle.demand3.specs.Same.{SamePart, SamePassages}
+use Rattle.demand3.proofs.CopiedRecords.{copied-identifiers}
+use Rattle.demand3.proofs.CopiedRows.{copied-row, row-kept}
+use Rattle.demand3.proofs.Parts.{NoValues, Words, fields-same, part-same}
 
 -- without a BIB section there are no text records
 no-count : countN2 (replicate 6 (replicate 11 32)) ≡ 0

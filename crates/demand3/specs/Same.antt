@@ -4,11 +4,12 @@ use Prim.Native.Nat.{ℕ}
 use mathlib.Core.Path.{_≡_}
 use mathlib.Core.List.{List}
 use Rattle.record.specs.declared.columns.LineNo.{LineNo}
+use Rattle.entry.specs.Verdict.{Accepted}
 use Rattle.questions.specs.declared.ask.ValueAnswer.{ValueAnswer}
 use Rattle.questions.specs.declared.ask.PartAnswer.{PartAnswer}
 use Rattle.questions.specs.Ask.{valueOf, bytesIn, headingOf, unitOf, passageAnswer}
 use Rattle.copy.specs.Copy.{copyOf}
-use Rattle.copy.specs.Demand.{Accepted, Alike}
+use Rattle.copy.specs.Demand.{Alike}
 
 -- ---- values
 

@@ -17,7 +17,7 @@ use Rattle.record.specs.declared.columns.RecordNo.{RecordNo}
 use Rattle.rules.specs.declared.state.Track.{Track}
 use Rattle.rules.specs.Role.{opensSubentry, isValue}
 use Rattle.rules.proofs.WithoutFault.{of-values}
-use Rattle.entry.specs.Verdict.{roleOf, turnOf}
+use Rattle.entry.specs.Verdict.{roleOf, turnOf, Accepted}
 use Rattle.questions.specs.declared.row.Row.{Row}
 use Rattle.questions.specs.Row.{NONE, withFirst, withBib, withCommon, withData, noted, subentryIn, notedAs}
 use Rattle.questions.specs.Row.{noteOf, rowOf}
@@ -27,10 +27,9 @@ use Rattle.inside.specs.Inside.{contextAt, roleAt}
 use Rattle.inside.proofs.Contexts.{walked}
 use Rattle.inside.proofs.RowFound.{rowAt, found-row, records-at}
 use Rattle.copy.specs.Copy.{copyRecord, copyOf}
-use Rattle.copy.specs.Demand.{Accepted}
 use Rattle.copy.proofs.FaithfulRecords.{role-kept, not-copied}
 use Rattle.copy.proofs.Demand.{passed, copy-long, copy-accepted}
-use Rattle.same_answers.proofs.CopiedRecords.{copied-block, copied-context, fields-kept}
+use Rattle.demand3.proofs.CopiedRecords.{copied-block, copied-context, fields-kept}
 
 -- a value record leaves nothing in a row
 value-noted : (x : Row) (at : RecordNo) (role : ℕ) → isValue role ≡ true → noted x role at ≡ x

@@ -1,0 +1,29 @@
+-- Demand 3 holds.
+-- Assumes nothing.
+use Rattle.inside.proofs.Answered.{value-answered, heading-answered, unit-answered}
+use Rattle.inside.proofs.PassageAnswered.{passage-answered, one-passage, begun-inside}
+use Rattle.copy.proofs.Made.{copy-made}
+use Rattle.copy.proofs.Demand.{copy-accepted, copy-again, one-copy}
+use Rattle.demand3.specs.Demand3.{Demand3}
+use Rattle.demand3.proofs.Values.{same-values}
+use Rattle.demand3.proofs.Headings.{same-headings, same-units}
+use Rattle.demand3.proofs.Passages.{same-passages}
+
+pub demand3 : Demand3
+demand3 =
+    record {
+      values = value-answered;
+      headings = heading-answered;
+      units = unit-answered;
+      passages = passage-answered;
+      one-passage = one-passage;
+      each-passage = begun-inside;
+      made = copy-made;
+      accepted = copy-accepted;
+      same-values = same-values;
+      same-headings = same-headings;
+      same-units = same-units;
+      same-passages = same-passages;
+      again = copy-again;
+      one-copy = one-copy;
+    }

@@ -1,0 +1,30 @@
+-- Demand 3 of the mission, whole, sentence by sentence. Each statement has its place below: what is inside the shape in
+-- `inside` (specs/Inside), the copy in `copy` (specs/Demand), the questions asked of both here (specs/Same). `judgeOf`,
+-- `valueOf`, `headingOf`, `unitOf`, `passageAnswer`, `copied` and `stored` are what the calls promise to answer.
+use Rattle.inside.specs.Inside.{ValueAnswered, HeadingAnswered, UnitAnswered, PassageAnswered, OnePassage, BegunInside}
+use Rattle.copy.specs.Demand.{CopyMade, CopyAccepted, CopyAgain, OneCopy}
+use Rattle.demand3.specs.Same.{SameValues, SameHeadings, SameUnits, SamePassages}
+
+pub record Demand3 : Type 0 where
+  -- "For an accepted entry, every question inside its own shape is answered."
+  pub values : ValueAnswered
+  pub headings : HeadingAnswered
+  pub units : UnitAnswered
+  pub passages : PassageAnswered
+  -- a keyword and a pointer have one passage, and no passage is left out
+  pub one-passage : OnePassage
+  pub each-passage : BegunInside
+  -- "Its canonical copy, made in a buffer long enough,"
+  pub made : CopyMade
+  -- "is accepted,"
+  pub accepted : CopyAccepted
+  -- "answers every such question with the same values and words at the same places,"
+  pub same-values : SameValues
+  pub same-headings : SameHeadings
+  pub same-units : SameUnits
+  pub same-passages : SamePassages
+  -- "and is its own copy."
+  pub again : CopyAgain
+  -- "Two accepted entries have the same copy exactly when they have the same number fields, equal bytes outside them,
+  -- blanks in the same ones, and equal decimals in the rest."
+  pub one-copy : OneCopy

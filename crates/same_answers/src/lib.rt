@@ -1,1 +1,0 @@
-// Questions asked of an entry and of its canonical copy.
