@@ -1,0 +1,110 @@
+use Prim.Native.Nat.{_+_, _-_, _≤_}
+use lib.ListN.{length, length-set}
+use mathlib.Core.Path.{_≡_, refl}
+use native.Mathlib.Omega.{arith}
+use borrow.Author.Needs.{needs}
+use Rattle.answers.proofs.add_record.Statement.{statement}
+use Rattle.answers.proofs.add_record.Tie as tie
+use Rattle.answers.proofs.add_record.Reads as reads
+use Rattle.answers.proofs.add_record.Lts as lts
+
+abbrev Inv-loop : tie.InvT-loop
+Inv-loop entry₀ used line i₀ entry i =
+    (i ≤ 80) × (used + 81 ≤ length entry₀) × (length line ≡ 81) × (length entry ≡ length entry₀)
+
+abbrev μ-loop : tie.MeasureT-loop
+μ-loop entry₀ used line i₀ entry i = 80 - i
+
+-- src/main.rt:184:9
+returns : tie.Need-returns Inv-loop μ-loop
+returns c = tt
+
+-- src/main.rt:187:9
+returns-2 : tie.Need-returns-2 Inv-loop μ-loop
+returns-2 c = tt
+
+-- src/main.rt:189:8
+sub-if3 : tie.Need-sub-if3 Inv-loop μ-loop
+sub-if3 c = search needs
+
+-- src/main.rt:190:9
+returns-3 : tie.Need-returns-3 Inv-loop μ-loop
+returns-3 c = tt
+
+-- src/main.rt:193:5
+loop-holds : tie.Need-loop-holds Inv-loop μ-loop
+loop-holds c = (omega arith, omega arith, omega arith, refl)
+
+-- src/main.rt:194:32
+add-entry : tie.Need-add-entry Inv-loop μ-loop
+add-entry c = search needs
+
+-- src/main.rt:194:27
+shared-slice-read-entry : tie.Need-shared-slice-read-entry Inv-loop μ-loop
+shared-slice-read-entry c = search needs
+
+-- src/main.rt:194:15
+add-entry-2 : tie.Need-add-entry-2 Inv-loop μ-loop
+add-entry-2 c = search needs
+
+-- src/main.rt:194:9
+slice-write-entry : tie.Need-slice-write-entry Inv-loop μ-loop
+slice-write-entry c = search needs
+
+-- src/main.rt:195:9
+add-i : tie.Need-add-i Inv-loop μ-loop
+add-i c = search needs
+
+-- src/main.rt:193:5
+loop-less : tie.Need-loop-less Inv-loop μ-loop
+loop-less c = search needs
+
+-- src/main.rt:193:5
+loop-again : tie.Need-loop-again Inv-loop μ-loop
+loop-again c =
+    let inv = c .before .before .loop .inv in
+    (omega arith, inv .1, inv .2, simp length-set (inv .3))
+
+-- src/main.rt:197:11
+add-entry-3 : tie.Need-add-entry-3 Inv-loop μ-loop
+add-entry-3 c = search needs
+
+-- src/main.rt:197:5
+slice-write-entry-2 : tie.Need-slice-write-entry-2 Inv-loop μ-loop
+slice-write-entry-2 c = search needs
+
+-- src/main.rt:198:5
+add-result : tie.Need-add-result Inv-loop μ-loop
+add-result c = search needs
+
+-- src/main.rt:182:1
+same-length : tie.Need-same-length Inv-loop μ-loop
+same-length c = simp length-set (c .before .loop .inv .3)
+
+-- src/main.rt:182:1
+returns-4 : tie.Need-returns-4 Inv-loop μ-loop
+returns-4 c = tt
+
+pub add-record-spec : {M : Type 1} → statement M
+add-record-spec =
+    tie.close
+    (tie.spec
+    Inv-loop
+    μ-loop
+    returns
+    returns-2
+    sub-if3
+    returns-3
+    loop-holds
+    add-entry
+    shared-slice-read-entry
+    add-entry-2
+    slice-write-entry
+    add-i
+    loop-less
+    loop-again
+    add-entry-3
+    slice-write-entry-2
+    add-result
+    same-length
+    returns-4)
