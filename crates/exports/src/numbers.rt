@@ -6,23 +6,17 @@ ghost use Rattle.number.specs.Value.{valueOf};
 ghost use Rattle.number.specs.Reading.{readNumber};
 ghost use Rattle.canonical.specs.Writing.{bytes, refusalOf};
 ghost use Rattle.exports.specs.Words.{readingWord};
-use crate::words::number_word;
-use crate::words::refused_word;
+use crate::words::reading_word;
 use canonical::write::Written;
 use canonical::write::write_number;
 use number::read::read_number;
-use number::value::Reading;
 
 // What a number field says.
 #[no_mangle]
 pub extern "C" fn x4_read_number(field: &[u8]) -> u64
     ensures { λ r. ⌜ r ≡ readingWord (readNumber (now (field .entry))) ⌝ }
 {
-    match read_number(field) {
-        Reading::Blank => refused_word(0, 0, 0, 0),
-        Reading::Number(v) => number_word(v),
-        Reading::Refused(n) => refused_word(n as u64, 0, 0, 0),
-    }
+    reading_word(read_number(field))
 }
 
 // Writes the canonical field of a value, below zero where `negative` is not 0: 0 done, 40 buffer not eleven bytes, 41 no
