@@ -15,15 +15,16 @@ use Rattle.number.specs.declared.value.Reading.the-variants.{Blank, Number, Ref
 use Rattle.number.specs.Value.{Says, blank, number, malformed}
 use Rattle.number.specs.Reading.{readField, readNumber}
 use Rattle.number.proofs.Laws.{read-bounds-eleven, reads-exactly, says-exactly}
-use Rattle.exports.specs.Words.{numberRooms, refusedRooms, bit, lifted, fromZero}
+use Rattle.exports.specs.Words.{unpacked, numberRooms, refusedRooms, bit, lifted, fromZero}
 use Rattle.exports.specs.Words.{numberWord, refusedWord, readingWord, numberIn, refusalIn, readingIn}
 use Rattle.record.specs.declared.columns.RecordNo.{RecordNo}
 use Rattle.rules.specs.declared.state.Totals.{Totals}
 use Rattle.entry.specs.declared.verdict.Verdict.{Verdict}
-use Rattle.entry.specs.Verdict.{refused, accepted}
+use Rattle.entry.specs.Verdict.{refused, accepted, judgeOf}
 use Rattle.exports.specs.Verdicts.{totalsRooms, totalsWord, verdictWord, acceptedIn, refusedIn, verdictIn}
 use Rattle.exports.specs.Verdicts.{FewTotals, NearRefusal, Fitting, accepting, refusing}
 use Rattle.exports.proofs.Packing.{unpacked-packed}
+use Rattle.exports.proofs.Sizes.{judge-fits}
 
 -- ---- a power counted from -n
 
@@ -58,29 +59,34 @@ bit-back false = refl
 -- ---- readings
 
 -- a number's word has no highest bit
-number-low : (c p s : ℕ) → c < 17179869184 → p < 268435456 → s < 2
+pub number-low : (c p s : ℕ) → c < 17179869184 → p < 268435456 → s < 2
     → c + 17179869184 * (p + 268435456 * (s + 0)) < 9223372036854775808
 number-low c p s h i j = omega arith
 
 -- a refusal's word has it
-refused-high : (a b c d : ℕ) → 2 ^ 63 ≤ refusedWord a b c d
+pub refused-high : (a b c d : ℕ) → 2 ^ 63 ≤ refusedWord a b c d
 unfolding refusedWord
 refused-high a b c d = omega arith
 
+-- its numbers come back
+pub rooms-back : (a b c d : ℕ) → a < 2 ^ 8 → b < 2 ^ 8 → c < 2 ^ 16 → d < 2 ^ 8
+    → unpacked refusedRooms (refusedWord a b c d) ≡ a ∷ b ∷ c ∷ d ∷ 0 ∷ 1 ∷ []
+unfolding refusedWord
+rooms-back a b c d h i j k =
+    unpacked-packed refusedRooms (a ∷ b ∷ c ∷ d ∷ 0 ∷ 1 ∷ []) (h, (i, (j, (k, (omega arith, (omega arith, tt))))))
+
 -- what a word can hold
-abbrev Held : Reading → Type 0
+abbrev pub Held : Reading → Type 0
 Held Blank = Unit {0}
 Held (Number v) = (v .coefficient < 2 ^ 34) × (negℤ (pos 100000000) ≤ℤ v .power) × (v .power ≤ℤ pos 99999999)
 Held (Refused n) = (0 < n) × (n < 2 ^ 8)
 
-held-back : (r : Reading) → Held r → readingIn (readingWord r) ≡ r
+pub held-back : (r : Reading) → Held r → readingIn (readingWord r) ≡ r
 unfolding readingIn readingWord refusedWord numberWord
 held-back Blank h = refl
 held-back (Refused n) h =
     rw (le-leb (2 ^ 63) (n % 256 + 9223372036854775808) (omega arith))
-    (ap refusalIn
-    (unpacked-packed refusedRooms (n ∷ 0 ∷ 0 ∷ 0 ∷ 0 ∷ 1 ∷ [])
-    (h .1, (omega arith, (omega arith, (omega arith, (omega arith, (omega arith, tt)))))))
+    (ap refusalIn (rooms-back n 0 0 0 (h .1) (omega arith) (omega arith) (omega arith))
     ∙ rw (ne-eqb n 0 (λ e. omega arith)) refl)
 held-back (Number v) h =
     let c = v .coefficient in
@@ -94,7 +100,7 @@ held-back (Number v) h =
     ∙ rw (bit-back (v .negative), lifted-back (v .power) 100000000 (h .1)) refl)
 
 -- every reading of eleven columns is held
-held : (l : List ℕ) → length l ≡ 11 → (r : Reading) → Says l r → Held r
+pub held : (l : List ℕ) → length l ≡ 11 → (r : Reading) → Says l r → Held r
 held l w Blank x = tt
 held l w (Number v) (number x) =
     let b = read-bounds-eleven l v w (reads-exactly l v .1 x) in
@@ -135,18 +141,19 @@ unfolding verdictWord
 refused-word n at k z = rw (ne-eqb n 0 (λ e. omega arith)) refl
 
 refused-in : (n : ℕ) (at : RecordNo) (k : ℕ) → NearRefusal n at k → verdictIn (refusedWord n n (at .0) k) ≡ refused n at k
-unfolding verdictIn refusedWord
+unfolding verdictIn
 refused-in n at k h =
     rw (le-leb (2 ^ 63) (refusedWord n n (at .0) k) (refused-high n n (at .0) k))
-    (ap refusedIn
-    (unpacked-packed refusedRooms (n ∷ n ∷ at .0 ∷ k ∷ 0 ∷ 1 ∷ [])
-    (h .number, (h .number, (h .«record», (h .column, (omega arith, (omega arith, tt))))))))
+    (ap refusedIn (rooms-back n n (at .0) k (h .number) (h .number) (h .«record») (h .column)))
 
 refused-back : (n : ℕ) (at : RecordNo) (k : ℕ) → 0 < n → NearRefusal n at k
     → verdictIn (verdictWord (refused n at k)) ≡ refused n at k
 refused-back n at k z h = ap verdictIn (refused-word n at k z) ∙ refused-in n at k h
 
--- the word of a verdict that fits says that verdict
-pub verdict-back : {v : Verdict} → Fitting v → verdictIn (verdictWord v) ≡ v
-verdict-back (accepting t h) = accepted-back t h
-verdict-back (refusing n at k z h) = refused-back n at k z h
+fitting-back : {v : Verdict} → Fitting v → verdictIn (verdictWord v) ≡ v
+fitting-back (accepting t h) = accepted-back t h
+fitting-back (refusing n at k z h) = refused-back n at k z h
+
+-- the word of an entry's verdict says that verdict
+pub verdict-back : (s : List ℕ) → verdictIn (verdictWord (judgeOf s)) ≡ judgeOf s
+verdict-back s = fitting-back (judge-fits s)

@@ -1,3 +1,5 @@
 pub mod Lifting
 pub mod Packing
+pub mod NearFaults
+pub mod Sizes
 pub mod Laws

@@ -5,8 +5,9 @@
 --   heading's pointer beside either; a passage likewise, whole records. A refused part is empty, its pointer blank; a
 --   refused value is blank beside its number."
 --
--- That no answer about an entry is lost in its word are the laws `value-back`, `part-back` and `copied-back`.
-use mathlib.Core.Bool.{Bool, cond}
+-- That no answer about an entry is lost in its word are the laws `value-back`, `heading-back`, `unit-back`,
+-- `passage-back` and `copied-back`.
+use mathlib.Core.Bool.{Bool, cond, _&&_}
 use mathlib.Core.List.{List, [], _∷_}
 use Prim.Native.Nat.{ℕ, _^_, _<_}
 use lib.Dec.{eqb, leb}
@@ -50,3 +51,32 @@ keywordPlace k = cond (eqb (length k) 10) k (blanks 10)
 
 unfoldable pub copiedWord : Copied → ℕ
 copiedWord c = cond (eqb (c .number) 0) 0 (refusedWord (c .number) (c .refusal) (c .«record» .0) (c .column))
+
+-- ---- the answers that words say: what a host does with them
+
+-- of the numbers in the rooms of a refusal
+abbrev pub answerIn : List ℕ → Answer
+answerIn xs =
+    record { number = getD xs 0 0; refusal = getD xs 1 0; «record» = record { 0 = getD xs 2 0 }; column = getD xs 3 0 }
+
+-- a question is refused by 31 and up; any other word is that of a reading
+abbrev pub refuses : ℕ → Bool
+refuses w = leb (2 ^ 63) w && leb 31 (getD (unpacked refusedRooms w) 0 0)
+
+unfoldable pub valueIn : ℕ → ValueAnswer
+valueIn w =
+    cond (refuses w) (record { answer = answerIn (unpacked refusedRooms w); value = Blank })
+    (record { answer = answer 0; value = readingIn w })
+
+abbrev pub partAt : List ℕ → PartAnswer
+partAt xs = record { answer = answer 0; first = getD xs 0 0; length = getD xs 1 0; pointer = getD xs 2 0 }
+
+unfoldable pub partIn : ℕ → PartAnswer
+partIn w = cond (leb (2 ^ 63) w) (noPart (answerIn (unpacked refusedRooms w))) (partAt (unpacked partRooms w))
+
+abbrev pub copiedAt : List ℕ → Copied
+copiedAt xs =
+    record { number = getD xs 0 0; refusal = getD xs 1 0; «record» = record { 0 = getD xs 2 0 }; column = getD xs 3 0 }
+
+unfoldable pub copiedIn : ℕ → Copied
+copiedIn w = cond (eqb w 0) (plainly 0) (copiedAt (unpacked refusedRooms w))

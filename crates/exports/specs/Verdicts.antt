@@ -1,5 +1,5 @@
--- The word of a verdict (document 01: "Accepted is 0 0 0 with four totals .. On refusal the totals are 0"). That a verdict
--- that fits comes back from its word is the law `verdict-back`.
+-- The word of a verdict (document 01: "Accepted is 0 0 0 with four totals .. On refusal the totals are 0"). That the
+-- verdict on any entry comes back from its word is the law `verdict-back`.
 use mathlib.Core.Bool.{cond}
 use mathlib.Core.List.{List, [], _∷_}
 use Prim.Native.Nat.{ℕ, _^_, _<_}

@@ -1,0 +1,82 @@
+-- Every verdict fits its word: a refusal is 1 to 16, at a record up to 20,001 and a column up to 81, and an accepted
+-- entry counts no more than its records allow.
+-- Assumes nothing.
+use Prim.Native.Nat.{ℕ, _+_, _*_, _/_, _<_, _≤_}
+use mathlib.Core.Path.{_≡_, refl}
+use mathlib.Core.Bool.{Bool, true, false, cond}
+use mathlib.Core.List.{List, [], _∷_}
+use native.Mathlib.Omega.{arith}
+use lib.ListN.{length}
+use Rattle.laws.specs.Turns.{after}
+use Rattle.laws.specs.Walk.{walk}
+use Rattle.laws.specs.Blocks.{blocks}
+use Rattle.laws.proofs.Blocks.{length-blocks}
+use Rattle.record.specs.Columns.{recordOf}
+use Rattle.record.specs.Fields.{fieldsOf}
+use Rattle.rules.specs.declared.fault.Fault.{Fault}
+use Rattle.rules.specs.declared.fault.Fault.the-variants.{Fine, At}
+use Rattle.rules.specs.declared.state.Track.{Track}
+use Rattle.rules.specs.State.{Context, startContext, MOST-RECORDS, Bounded}
+use Rattle.rules.specs.Order.{faultOf}
+use Rattle.rules.proofs.EitherWay.{either-way}
+use Rattle.entry.specs.Next.{contextAfter}
+use Rattle.entry.specs.Verdict.{refused, roleOf, onFault, turnAs, turnOf, isDone, endOf, lengthGood, judgeOf}
+use Rattle.entry.proofs.Counting.{Follows, track-follows}
+use Rattle.entry.proofs.Numbered.{whole-records}
+use Rattle.exports.specs.Verdicts.{FewTotals, NearRefusal, Fitting, accepting, refusing}
+use Rattle.exports.proofs.NearFaults.{Near, near-fault}
+
+fits : (n k : ℕ) → Near n k → (t : Track) → t .records .0 ≤ MOST-RECORDS → Fitting (refused n (recordOf (t .records)) k)
+fits n k h t few =
+    let x = h .number in
+    let y = h .column in
+    refusing n (recordOf (t .records)) k (h .some)
+    (record { number = omega arith; «record» = omega arith; column = omega arith })
+
+few-totals : (t : Track) → Bounded t → FewTotals (t .totals)
+few-totals t b = omega arith
+
+end-fits : (c : Context) → Bounded (c .track) → Fitting (endOf c)
+unfolding endOf
+end-fits c b =
+    either-way Fitting (isDone (c .phase)) _ _ (accepting (c .track .totals) (few-totals (c .track) b))
+    (fits 16 0 (record { some = omega arith; number = omega arith; column = omega arith }) (c .track) (b .records))
+
+walk-fits : (rs : List (List ℕ)) (c : Context) (i : ℕ) → Bounded (c .track)
+    → c .track .records .0 + length rs ≤ MOST-RECORDS → Fitting (walk turnOf endOf c i rs)
+unfolding walk turnOf turnAs contextAfter
+walk-fits [] c i b few = end-fits c b
+walk-fits (r ∷ rs) c i b few =
+    by-fault (faultOf (c .track) (c .seen) role (fieldsOf r) r) refl
+    (λ d f m. walk-fits rs d (i + 1) f (omega arith))
+  where
+    role : ℕ
+    role = roleOf c r
+
+    next : Context
+    next = contextAfter c role (fieldsOf r) r
+
+    follows : Follows (c .track) (next .track)
+    follows = track-follows (c .track) b (omega arith) role (fieldsOf r) r
+
+    by-fault : (x : Fault) → faultOf (c .track) (c .seen) role (fieldsOf r) r ≡ x
+        → ((d : Context) → Bounded (d .track) → d .track .records .0 ≡ c .track .records .0 + 1
+        → Fitting (walk turnOf endOf d (i + 1) rs))
+        → Fitting (after (onFault (recordOf (c .track .records)) x next) (λ d. walk turnOf endOf d (i + 1) rs))
+    by-fault Fine e rest = rest next (follows .bounded) (follows .records)
+    by-fault (At n k) e rest =
+        fits n k (near-fault (c .track) (c .seen) role (fieldsOf r) r n k e) (c .track) (b .records)
+
+-- every verdict fits
+pub judge-fits : (s : List ℕ) → Fitting (judgeOf s)
+unfolding judgeOf
+judge-fits s = by-test (lengthGood (length s)) refl
+  where
+    by-test : (b : Bool) → lengthGood (length s) ≡ b
+        → Fitting (cond b (walk turnOf endOf startContext 0 (blocks 81 (length s / 81) s)) (refused 1 (record { 0 = 0 }) 0))
+    by-test true e =
+        let n = whole-records (length s) e .1 in
+        walk-fits (blocks 81 (length s / 81) s) startContext 0 (omega arith) (rw (length-blocks 81 (length s / 81) s) (omega arith))
+    by-test false e =
+        refusing 1 (record { 0 = 0 }) 0 (omega arith)
+        (record { number = omega arith; «record» = omega arith; column = omega arith })
