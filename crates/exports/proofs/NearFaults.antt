@@ -166,23 +166,48 @@ module _ (t : Track) (s : Seen) (role : ℕ) (fs : List (List ℕ)) (r : List �
       (field-left (inField (valueFault (optional role) (used t)) fs) 6 (omega arith))
 
   all-near : AllNear (findings t s role fs r)
-  all-near =
-      (found 2 _ (omega arith) (omega arith) left2,
-      (found 3 _ (omega arith) (omega arith) left3,
-      (found 4 _ (omega arith) (omega arith) left4,
-      (found 5 _ (omega arith) (omega arith) left5,
-      (found 6 _ (omega arith) (omega arith) left6,
-      (found 7 _ (omega arith) (omega arith) (on-left (isSystem role) _ left7),
-      (found 8 _ (omega arith) (omega arith) (on-left (isSystem role) _ left8),
-      (found 9 _ (omega arith) (omega arith) (on-left (opensSubentry role) _ left9),
-      (found 10 _ (omega arith) (omega arith) (on-left (eqb role TEXT) _ left10),
-      (found 11 _ (omega arith) (omega arith)
-      (either-way Left (eqb role TEXT) _ _ left11-text (on-left (isHeading role) _ left11-heading)),
-      (found 12 _ (omega arith) (omega arith)
-      (either-way Left (isHeading role) _ _ left12-heading (on-left (isUnit role) _ left12-unit)),
-      (found 13 _ (omega arith) (omega arith) (on-left (isHeading role) _ left13),
-      (found 14 _ (omega arith) (omega arith) (on-left (eqb role DATA-HEADING) _ left14),
-      (found 15 _ (omega arith) (omega arith) (on-left (isValue role) _ left15), tt))))))))))))))
+  all-near = (
+    found 2 _ (omega arith) (omega arith) left2,
+    (
+      found 3 _ (omega arith) (omega arith) left3,
+      (
+        found 4 _ (omega arith) (omega arith) left4,
+        (
+          found 5 _ (omega arith) (omega arith) left5,
+          (
+            found 6 _ (omega arith) (omega arith) left6,
+            (
+              found 7 _ (omega arith) (omega arith) (on-left (isSystem role) _ left7),
+              (
+                found 8 _ (omega arith) (omega arith) (on-left (isSystem role) _ left8),
+                (
+                  found 9 _ (omega arith) (omega arith) (on-left (opensSubentry role) _ left9),
+                  (
+                    found 10 _ (omega arith) (omega arith) (on-left (eqb role TEXT) _ left10),
+                    (
+                      found 11 _ (omega arith) (omega arith)
+                          (either-way Left (eqb role TEXT) _ _ left11-text (on-left (isHeading role) _ left11-heading)),
+                      (
+                        found 12 _ (omega arith) (omega arith)
+                            (either-way Left (isHeading role) _ _ left12-heading (on-left (isUnit role) _ left12-unit)),
+                        (
+                          found 13 _ (omega arith) (omega arith) (on-left (isHeading role) _ left13),
+                          (
+                            found 14 _ (omega arith) (omega arith) (on-left (eqb role DATA-HEADING) _ left14),
+                            (found 15 _ (omega arith) (omega arith) (on-left (isValue role) _ left15), tt),
+                          ),
+                        ),
+                      ),
+                    ),
+                  ),
+                ),
+              ),
+            ),
+          ),
+        ),
+      ),
+    ),
+  )
 
 near-first : (fs : List Finding) → AllNear fs → (n k : ℕ) → firstFault fs ≡ At n k → Near n k
 unfolding firstFault
