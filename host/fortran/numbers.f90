@@ -12,8 +12,8 @@ program numbers
     if (status > 0 .or. is_iostat_end(status)) exit
 10  continue
     v = x4_read(line(:length))
-    if (v%refusal /= 0) then
-      write (*, '(a,i0)') 'refused ', v%refusal
+    if (v%refused%number /= 0) then
+      write (*, '(a,i0)') 'refused ', v%refused%number
     else if (v%blank) then
       write (*, '(a)') 'blank'
     else

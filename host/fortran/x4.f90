@@ -1,19 +1,33 @@
 ! The functions of the proved archive (rt staticlib exports) for Fortran. The numbers are document 01's; include/x4.h
 ! says how several of them stand in one word.
 module x4
-  use, intrinsic :: iso_c_binding, only: c_char, c_int32_t, c_int64_t, c_size_t
+  use, intrinsic :: iso_c_binding, only: c_char, c_int8_t, c_int32_t, c_int64_t, c_size_t
   implicit none
   private
-  public :: x4_value, x4_verdict, x4_read, x4_write, x4_judged
+  public :: x4_refused, x4_value, x4_part, x4_verdict
+  public :: x4_judged, x4_ask_value, x4_ask_heading, x4_ask_unit, x4_ask_passage, x4_copied, x4_read, x4_write
 
-  ! What a number field says: blank, refused (15 malformed, 40 not eleven characters), or a number.
+  ! A refusal by its number, 0 where there is none; beside 31 why the entry is refused, else zeros.
+  type :: x4_refused
+    integer(c_int32_t) :: number = 0
+    integer(c_int32_t) :: refusal = 0, place = 0, column = 0
+  end type x4_refused
+
+  ! What a number field says: blank, a number, or a refusal beside a blank.
   type :: x4_value
-    integer(c_int32_t) :: refusal = 0
+    type(x4_refused) :: refused
     logical :: blank = .true.
     logical :: negative = .false.
     integer(c_int64_t) :: coefficient = 0
     integer(c_int32_t) :: power = 0
   end type x4_value
+
+  ! A part of an entry, entry(first:last), and the pointer beside it; a refused one is empty.
+  type :: x4_part
+    type(x4_refused) :: refused
+    integer :: first = 1, last = 0
+    character(kind=c_char) :: pointer = ' '
+  end type x4_part
 
   ! The verdict on an entry: the seven numbers.
   type :: x4_verdict
@@ -28,6 +42,48 @@ module x4
       integer(c_size_t), value :: length
       integer(c_int64_t) :: word
     end function x4_judge
+
+    function c_value(entry, length, subentry, section, line, column) bind(c, name='x4_value') result(word)
+      import :: c_char, c_int32_t, c_int64_t, c_size_t
+      character(kind=c_char), intent(in) :: entry(*)
+      integer(c_size_t), value :: length
+      integer(c_int32_t), value :: subentry, section, line, column
+      integer(c_int64_t) :: word
+    end function c_value
+
+    function c_heading(entry, length, subentry, section, column) bind(c, name='x4_heading') result(word)
+      import :: c_char, c_int32_t, c_int64_t, c_size_t
+      character(kind=c_char), intent(in) :: entry(*)
+      integer(c_size_t), value :: length
+      integer(c_int32_t), value :: subentry, section, column
+      integer(c_int64_t) :: word
+    end function c_heading
+
+    function c_unit(entry, length, subentry, section, column) bind(c, name='x4_unit') result(word)
+      import :: c_char, c_int32_t, c_int64_t, c_size_t
+      character(kind=c_char), intent(in) :: entry(*)
+      integer(c_size_t), value :: length
+      integer(c_int32_t), value :: subentry, section, column
+      integer(c_int64_t) :: word
+    end function c_unit
+
+    function c_passage(entry, length, subentry, keyword, keyword_length, pointer) bind(c, name='x4_passage') &
+        result(word)
+      import :: c_char, c_int8_t, c_int32_t, c_int64_t, c_size_t
+      character(kind=c_char), intent(in) :: entry(*), keyword(*)
+      integer(c_size_t), value :: length, keyword_length
+      integer(c_int32_t), value :: subentry
+      integer(c_int8_t), value :: pointer
+      integer(c_int64_t) :: word
+    end function c_passage
+
+    function c_copy(entry, length, out, out_length) bind(c, name='x4_copy') result(word)
+      import :: c_char, c_int64_t, c_size_t
+      character(kind=c_char), intent(in) :: entry(*)
+      character(kind=c_char), intent(inout) :: out(*)
+      integer(c_size_t), value :: length, out_length
+      integer(c_int64_t) :: word
+    end function c_copy
 
     function x4_read_number(field, length) bind(c, name='x4_read_number') result(word)
       import :: c_char, c_int64_t, c_size_t
@@ -67,20 +123,53 @@ contains
     end if
   end function x4_judged
 
+  ! The value in a line and a column of section 1 (COMMON, line 1 only) or 2 (DATA) of a subentry.
+  function x4_ask_value(entry, subentry, section, line, column) result(v)
+    character(len=*, kind=c_char), intent(in) :: entry
+    integer(c_int32_t), intent(in) :: subentry, section, line, column
+    type(x4_value) :: v
+    v = value_in(c_value(entry, len(entry, c_size_t), subentry, section, line, column))
+  end function x4_ask_value
+
+  ! The heading of a column, and its unit.
+  function x4_ask_heading(entry, subentry, section, column) result(p)
+    character(len=*, kind=c_char), intent(in) :: entry
+    integer(c_int32_t), intent(in) :: subentry, section, column
+    type(x4_part) :: p
+    p = part_in(c_heading(entry, len(entry, c_size_t), subentry, section, column))
+  end function x4_ask_heading
+
+  function x4_ask_unit(entry, subentry, section, column) result(p)
+    character(len=*, kind=c_char), intent(in) :: entry
+    integer(c_int32_t), intent(in) :: subentry, section, column
+    type(x4_part) :: p
+    p = part_in(c_unit(entry, len(entry, c_size_t), subentry, section, column))
+  end function x4_ask_unit
+
+  ! The passage with a keyword, ten characters, and a pointer, blank for none.
+  function x4_ask_passage(entry, subentry, keyword, pointer) result(p)
+    character(len=*, kind=c_char), intent(in) :: entry, keyword
+    integer(c_int32_t), intent(in) :: subentry
+    character(kind=c_char), intent(in) :: pointer
+    type(x4_part) :: p
+    ! as a number: GNU Fortran 12 hands a character's address over where its value is declared
+    p = part_in(c_passage(entry, len(entry, c_size_t), subentry, keyword, len(keyword, c_size_t), &
+                          transfer(pointer, 0_c_int8_t)))
+  end function x4_ask_passage
+
+  ! Stores the canonical copy in the front of a text that is as long as the entry or longer.
+  function x4_copied(entry, copy) result(r)
+    character(len=*, kind=c_char), intent(in) :: entry
+    character(len=*, kind=c_char), intent(inout) :: copy
+    type(x4_refused) :: r
+    r = refused_in(c_copy(entry, len(entry, c_size_t), copy, len(copy, c_size_t)))
+  end function x4_copied
+
   ! Reads a number field.
   function x4_read(field) result(v)
     character(len=*, kind=c_char), intent(in) :: field
     type(x4_value) :: v
-    integer(c_int64_t) :: word
-    word = x4_read_number(field, len(field, c_size_t))
-    v%blank = btest(word, 63)
-    if (v%blank) then
-      v%refusal = int(ibits(word, 0, 8), c_int32_t)
-    else
-      v%negative = btest(word, 62)
-      v%coefficient = ibits(word, 0, 34)
-      v%power = int(ibits(word, 34, 28), c_int32_t) - 100000000_c_int32_t
-    end if
+    v = value_in(x4_read_number(field, len(field, c_size_t)))
   end function x4_read
 
   ! Writes the canonical field of a value: 0 done, 40 not eleven characters, 41 no field reads to the value.
@@ -91,4 +180,37 @@ contains
     refusal = x4_write_number(merge(1_c_int32_t, 0_c_int32_t, v%negative), v%coefficient, v%power, field, &
                               len(field, c_size_t))
   end function x4_write
+
+  ! ---- words
+
+  pure function refused_in(word) result(r)
+    integer(c_int64_t), intent(in) :: word
+    type(x4_refused) :: r
+    if (.not. btest(word, 63)) return
+    r%number = int(ibits(word, 0, 8), c_int32_t)
+    r%refusal = int(ibits(word, 8, 8), c_int32_t)
+    r%place = int(ibits(word, 16, 16), c_int32_t)
+    r%column = int(ibits(word, 32, 8), c_int32_t)
+  end function refused_in
+
+  pure function value_in(word) result(v)
+    integer(c_int64_t), intent(in) :: word
+    type(x4_value) :: v
+    v%refused = refused_in(word)
+    v%blank = btest(word, 63)
+    if (v%blank) return
+    v%negative = btest(word, 62)
+    v%coefficient = ibits(word, 0, 34)
+    v%power = int(ibits(word, 34, 28), c_int32_t) - 100000000_c_int32_t
+  end function value_in
+
+  pure function part_in(word) result(p)
+    integer(c_int64_t), intent(in) :: word
+    type(x4_part) :: p
+    p%refused = refused_in(word)
+    if (btest(word, 63)) return
+    p%first = int(ibits(word, 0, 21)) + 1
+    p%last = p%first + int(ibits(word, 21, 21)) - 1
+    p%pointer = achar(int(ibits(word, 42, 8)))
+  end function part_in
 end module x4

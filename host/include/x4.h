@@ -15,6 +15,10 @@
  *     8-15    the entry's refusal: of a refused verdict the same number, beside 31 the verdict's, else 0
  *     16-31   its record
  *     32-39   its column
+ *     bits    a part of the entry (bit 63 is 0)
+ *     0-20    its first byte, counted from 0
+ *     21-41   its length
+ *     42-49   the pointer; a blank is none
  */
 #ifndef X4_H
 #define X4_H
@@ -28,6 +32,26 @@ extern "C" {
 
 /* The verdict on an entry: a word of totals, or the refusal. */
 uint64_t x4_judge(const uint8_t *entry, size_t length);
+
+/* The value in a line and a column of section 1 (COMMON, line 1 only) or 2 (DATA) of a subentry: the word of a number, of
+ * a blank, or of a refusal: 31 entry refused, 32 no such subentry, 33 no such section, 34 no such line, 35 no such
+ * column. */
+uint64_t x4_value(const uint8_t *entry, size_t length, uint32_t subentry, uint32_t section, uint32_t line,
+                  uint32_t column);
+
+/* The heading of a column and its unit, ten columns of the entry, with the heading's pointer beside either: the word of
+ * a part, or of refusal 31, 32, 33 or 35. */
+uint64_t x4_heading(const uint8_t *entry, size_t length, uint32_t subentry, uint32_t section, uint32_t column);
+uint64_t x4_unit(const uint8_t *entry, size_t length, uint32_t subentry, uint32_t section, uint32_t column);
+
+/* The passage with a keyword, ten bytes, and a pointer, blank for none: whole records, the word of a part, or of refusal
+ * 31, 32, 33 or 36 no such passage. A keyword that is not ten bytes long has none. */
+uint64_t x4_passage(const uint8_t *entry, size_t length, uint32_t subentry, const uint8_t *keyword,
+                    size_t keyword_length, uint8_t pointer);
+
+/* Stores the canonical copy in the front of a buffer that must not overlap the entry: 0 done, else the word of refusal 31
+ * or of 37, buffer shorter than the entry. */
+uint64_t x4_copy(const uint8_t *entry, size_t length, uint8_t *out, size_t out_length);
 
 /* What a number field says: a word. 40 not eleven bytes, 15 malformed. */
 uint64_t x4_read_number(const uint8_t *field, size_t length);
@@ -56,7 +80,12 @@ static inline uint32_t x4_keywords(uint64_t word) { return (uint32_t)x4_bits(wor
 static inline uint32_t x4_lines(uint64_t word) { return (uint32_t)x4_bits(word, 17, 15); }
 static inline uint32_t x4_numbers(uint64_t word) { return (uint32_t)x4_bits(word, 0, 17); }
 
-/* 0 of a number, of a blank and of an accepted entry */
+/* of a part */
+static inline size_t x4_first(uint64_t word) { return (size_t)x4_bits(word, 0, 21); }
+static inline size_t x4_length(uint64_t word) { return (size_t)x4_bits(word, 21, 21); }
+static inline uint8_t x4_pointer(uint64_t word) { return (uint8_t)x4_bits(word, 42, 8); }
+
+/* 0 of a number, of a blank, of a part, of a copy that is made and of an accepted entry */
 static inline uint32_t x4_refusal(uint64_t word) { return x4_bits(word, 63, 1) ? (uint32_t)x4_bits(word, 0, 8) : 0; }
 
 /* of a refused verdict and beside refusal 31; zeros with any other refusal */

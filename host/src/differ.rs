@@ -29,7 +29,7 @@ pub trait Implementation {
         reference::unit(entry, subentry, section, column)
     }
     /// The passage under a keyword and pointer.
-    fn passage(&self, entry: &[u8], subentry: u32, keyword: &[u8; 10], pointer: u8) -> Result<Part, NoAnswer> {
+    fn passage(&self, entry: &[u8], subentry: u32, keyword: &[u8], pointer: u8) -> Result<Part, NoAnswer> {
         reference::passage(entry, subentry, keyword, pointer)
     }
     /// The canonical copy.
@@ -70,7 +70,7 @@ impl Implementation for Library {
         let [subentry, section, column] = place;
         library::unit(entry, subentry, section, column)
     }
-    fn passage(&self, entry: &[u8], subentry: u32, keyword: &[u8; 10], pointer: u8) -> Result<Part, NoAnswer> {
+    fn passage(&self, entry: &[u8], subentry: u32, keyword: &[u8], pointer: u8) -> Result<Part, NoAnswer> {
         library::passage(entry, subentry, keyword, pointer)
     }
     fn canonical_copy(&self, entry: &[u8], buffer: &mut [u8]) -> Result<(), NoAnswer> {
@@ -330,15 +330,17 @@ fn subentry(random: &mut Random, sheet: &Sheet) -> u32 {
 }
 
 /// A keyword and pointer that may have a passage, and the subentry that it would be in.
-fn keyword(random: &mut Random, sheet: &Sheet) -> (u32, [u8; 10], u8) {
+fn keyword(random: &mut Random, sheet: &Sheet) -> (u32, Vec<u8>, u8) {
     let mut places = sheet.find(|kind| matches!(kind, Kind::Text { .. }));
     places.retain(|&at| there(sheet, at));
     if places.is_empty() {
-        return (1, *b"TITLE     ", b' ');
+        return (1, b"TITLE     ".to_vec(), b' ');
     }
     let at = random.one(&places);
     let named = (0..=at).rev().find(|&at| sheet.columns(at, 1, 10) != b"          ").unwrap_or(at);
-    let keyword = sheet.columns(named, 1, 10).try_into().unwrap_or(*b"          ");
+    // Now and then a place that is not ten bytes long.
+    let last = if random.once_in(20) { random.within(1, 11) } else { 10 };
+    let keyword = sheet.columns(named, 1, last).to_vec();
     let pointer = match random.below(4) {
         0 => b' ',
         1 => random.one(b"12AZ0a"),

@@ -1,11 +1,11 @@
 //! The calls that programs use. This is the only module that knows who answers them: the archive of proved functions
-//! where it is linked and has the call, and otherwise [`crate::reference`]. [`proved`] says which.
+//! where it is linked, and otherwise [`crate::reference`]. [`proved`] says which.
 
 #[cfg(proved)]
 use crate::boundary as archive_or_reference;
 #[cfg(not(proved))]
 use crate::reference as archive_or_reference;
-use crate::{reference, Decimal, NoAnswer, Part, Value, Verdict};
+use crate::{Decimal, NoAnswer, Part, Value, Verdict};
 
 /// Every call, in the order of this module.
 pub const CALLS: [&str; 8] =
@@ -14,7 +14,7 @@ pub const CALLS: [&str; 8] =
 /// The calls that the archive of proved functions answers in this build.
 pub fn proved() -> &'static [&'static str] {
     match cfg!(proved) {
-        true => &["judge", "read_number", "write_number"],
+        true => &CALLS,
         false => &[],
     }
 }
@@ -38,27 +38,28 @@ pub fn judge(entry: &[u8]) -> Verdict {
 
 /// What stands in a column of a line of COMMON (section 1, line 1 only) or DATA (section 2).
 pub fn value(entry: &[u8], subentry: u32, section: u32, line: u32, column: u32) -> Result<Value, NoAnswer> {
-    reference::value(entry, subentry, section, line, column)
+    archive_or_reference::value(entry, subentry, section, line, column)
 }
 
 /// The heading of a column: ten columns of the entry, and its pointer.
 pub fn heading(entry: &[u8], subentry: u32, section: u32, column: u32) -> Result<Part, NoAnswer> {
-    reference::heading(entry, subentry, section, column)
+    archive_or_reference::heading(entry, subentry, section, column)
 }
 
 /// The unit of a column: ten columns of the entry, and the pointer of its heading.
 pub fn unit(entry: &[u8], subentry: u32, section: u32, column: u32) -> Result<Part, NoAnswer> {
-    reference::unit(entry, subentry, section, column)
+    archive_or_reference::unit(entry, subentry, section, column)
 }
 
-/// The passage under a keyword (its ten bytes) and a pointer (blank for none): whole records of the entry.
-pub fn passage(entry: &[u8], subentry: u32, keyword: &[u8; 10], pointer: u8) -> Result<Part, NoAnswer> {
-    reference::passage(entry, subentry, keyword, pointer)
+/// The passage under a keyword (its ten bytes) and a pointer (blank for none): whole records of the entry. Bytes that
+/// are not ten are no keyword's place, and no passage is under them.
+pub fn passage(entry: &[u8], subentry: u32, keyword: &[u8], pointer: u8) -> Result<Part, NoAnswer> {
+    archive_or_reference::passage(entry, subentry, keyword, pointer)
 }
 
 /// Writes the canonical copy of the entry to the front of the buffer. Refused, it stores nothing.
 pub fn canonical_copy(entry: &[u8], buffer: &mut [u8]) -> Result<(), NoAnswer> {
-    reference::canonical_copy(entry, buffer)
+    archive_or_reference::canonical_copy(entry, buffer)
 }
 
 /// Reads one number field of eleven bytes.

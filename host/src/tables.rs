@@ -13,9 +13,7 @@
 //! Numbers are exact decimals as text; a blank field is empty, and zero is `0`.
 
 use crate::json::{array, object, text};
-use crate::reference::record::Name;
-use crate::reference::tree::{Table as Place, Tree};
-use crate::{library, NoAnswer, Value, Verdict};
+use crate::{library, NoAnswer, Part, Value, Verdict, COMMON, DATA, RECORD};
 
 /// A column of a table.
 #[derive(Clone, Debug, PartialEq, Eq)]
@@ -41,37 +39,68 @@ pub struct Table {
     pub lines: Vec<Vec<Value>>,
 }
 
-/// All tables of an entry, in its order. Judging decides whether there are any; the numbers are read by the library.
+/// All tables of an entry, in its order. Everything is asked of the library: which tables there are, where their
+/// headings and units stand, how many lines they have, and what each number field says.
 pub fn tables(entry: &[u8]) -> Result<Vec<Table>, NoAnswer> {
     if let Verdict::Refused(refusal) = library::judge(entry) {
         return Err(NoAnswer { number: 31, entry: Some(refusal) });
     }
-    let tree = Tree::of(entry);
     let mut tables = Vec::new();
-    for subentry in &tree.subentries {
-        let name = written(tree.records[subentry.opening].columns(15, 22));
-        for place in subentry.tables() {
-            tables.push(table(&tree, place, name.clone())?);
+    for owner in owners(entry) {
+        let number = owner[5..].iter().fold(0, |number, digit| 10 * number + u32::from(digit - b'0'));
+        for (section, name) in [(COMMON, "COMMON"), (DATA, "DATA")] {
+            if let Some((columns, lines)) = table(entry, number, section)? {
+                tables.push(Table { subentry: written(owner), section: name, columns, lines });
+            }
         }
     }
     Ok(tables)
 }
 
-/// One table.
-fn table(tree: &Tree, place: &Place, subentry: String) -> Result<Table, NoAnswer> {
-    let (headings, units) = (place.cells(tree, 0), place.cells(tree, 1));
-    let columns = headings.zip(units).filter(|(heading, _)| heading.used).map(|(heading, unit)| Column {
-        heading: written(heading.word()),
-        pointer: Some(char::from(heading.eleventh())).filter(|&pointer| pointer != ' '),
-        unit: written(unit.word()),
+/// The accession and number in columns 67-74 of each subentry: they are the same on all its records.
+fn owners(entry: &[u8]) -> Vec<&[u8]> {
+    let mut owners: Vec<&[u8]> = entry.chunks_exact(RECORD).map(|record| &record[66..74]).collect();
+    owners.dedup();
+    owners
+}
+
+/// The columns and lines of a section, if there is one: refusal 32 or 33 says that there is none.
+fn table(entry: &[u8], number: u32, section: u32) -> Result<Option<(Vec<Column>, Vec<Vec<Value>>)>, NoAnswer> {
+    let ask = |column| library::heading(entry, number, section, column);
+    if matches!(ask(1), Err(NoAnswer { number: 32 | 33, .. })) {
+        return Ok(None);
+    }
+    let headings: Vec<Part> = (1..).map_while(|column| ask(column).ok()).collect();
+    let units = (1..=headings.len() as u32).map(|column| library::unit(entry, number, section, column));
+    let units: Vec<Part> = units.collect::<Result<_, _>>()?;
+    let columns = headings.iter().zip(&units).map(|(heading, unit)| Column {
+        heading: written(heading.of(entry)),
+        pointer: Some(char::from(heading.pointer)).filter(|&pointer| pointer != ' '),
+        unit: written(unit.of(entry)),
     });
-    let line = |line: usize| -> Result<Vec<Value>, NoAnswer> {
-        let used = place.cells(tree, 1 + line).filter(|cell| cell.used);
-        used.map(|cell| library::read_number(cell.bytes)).collect()
+    // "k heading records, k unit records, then value records, k to a line": a heading, its unit and the values of its
+    // column stand k records apart.
+    let apart = |column: usize| units[column].offset - headings[column].offset;
+    let value = |line: usize, column: usize| {
+        let first = headings[column].offset + (1 + line) * apart(column);
+        library::read_number(&entry[first..first + 11])
     };
-    let section = if place.name == Name::Common { "COMMON" } else { "DATA" };
-    let lines = (1..=place.lines).map(line).collect::<Result<_, _>>()?;
-    Ok(Table { subentry, section, columns: columns.collect(), lines })
+    let line = |line| (0..headings.len()).map(|column| value(line, column)).collect();
+    let lines = (1..=last_line(entry, number, section)).map(line).collect::<Result<_, _>>()?;
+    Ok(Some((columns.collect(), lines)))
+}
+
+/// The number of a section's last line: each line up to it has a first column, none behind it has.
+fn last_line(entry: &[u8], number: u32, section: u32) -> usize {
+    let (mut last, mut past) = (0, entry.len() / RECORD);
+    while past - last > 1 {
+        let line = (last + past) / 2;
+        match library::value(entry, number, section, line as u32, 1) {
+            Ok(_) => last = line,
+            Err(_) => past = line,
+        }
+    }
+    last
 }
 
 /// A place without the blanks behind its word.

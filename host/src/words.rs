@@ -9,8 +9,11 @@
 //! | 62 | whether it is below zero | 32-46 | keywords | 16-31 | its record |
 //! | 63 | 0 | 47-61 | subentries | 32-39 | its column |
 //! | | | 62-63 | zeros | 40-63 | zeros, and 1 |
+//!
+//! A part (highest bit 0) has its first byte in bits 0-20, its length in 21-41, the pointer in 42-49. A copy that was
+//! made is 0.
 
-use crate::{Decimal, NoAnswer, Refusal, Totals, Value, Verdict};
+use crate::{Decimal, NoAnswer, Part, Refusal, Totals, Value, Verdict};
 
 /// The number in so many bits of a word, from this bit on.
 const fn bits(word: u64, from: u32, count: u32) -> u64 {
@@ -37,6 +40,23 @@ pub fn verdict(word: u64) -> Verdict {
     let [numbers, lines, keywords, subentries] =
         [(0, 17), (17, 15), (32, 15), (47, 15)].map(|(from, count)| bits(word, from, count) as u32);
     Verdict::Accepted(Totals { subentries, keywords, lines, numbers })
+}
+
+/// What the word of a heading, a unit or a passage says.
+pub fn part(word: u64) -> Result<Part, NoAnswer> {
+    if bits(word, 63, 1) == 1 {
+        return Err(NoAnswer { number: bits(word, 0, 8) as u32, entry: entry_refusal(word) });
+    }
+    let [offset, length, pointer] = [(0, 21), (21, 21), (42, 8)].map(|(from, count)| bits(word, from, count));
+    Ok(Part { offset: offset as usize, length: length as usize, pointer: pointer as u8 })
+}
+
+/// What a copy's word says.
+pub fn copied(word: u64) -> Result<(), NoAnswer> {
+    match word {
+        0 => Ok(()),
+        word => Err(NoAnswer { number: bits(word, 0, 8) as u32, entry: entry_refusal(word) }),
+    }
 }
 
 /// The entry's refusal, if there is one.
@@ -67,10 +87,16 @@ mod tests {
         assert_eq!(reading((1 << 63) + 15), Err(NoAnswer::numbered(15)));
         let refusal = Refusal { number: 16, record: 20_001, column: 80 };
         let word = (1 << 63) + 31 + (16 << 8) + (20_001 << 16) + (80 << 32);
-        assert_eq!(reading(word), Err(NoAnswer { number: 31, entry: Some(refusal) }));
+        let refused = NoAnswer { number: 31, entry: Some(refusal) };
+        assert_eq!(reading(word), Err(refused));
         assert_eq!(verdict((1 << 63) + 16 + (16 << 8) + (20_001 << 16) + (80 << 32)), Verdict::Refused(refusal));
         let totals = Totals { subentries: 998, keywords: 19_993, lines: 20_000, numbers: 120_000 };
         assert_eq!(verdict(120_000 + (20_000 << 17) + (19_993 << 32) + (998 << 47)), Verdict::Accepted(totals));
+        let place = Part { offset: 1_619_919, length: 1_620_000, pointer: b'Z' };
+        assert_eq!(part(1_619_919 + (1_620_000 << 21) + (u64::from(b'Z') << 42)), Ok(place));
+        assert_eq!(part((1 << 63) + 36), Err(NoAnswer::numbered(36)));
+        assert_eq!((part(word), copied(word)), (Err(refused), Err(refused)));
+        assert_eq!((copied(0), copied((1 << 63) + 37)), (Ok(()), Err(NoAnswer::numbered(37))));
         assert_eq!((done(0), done(41)), (Ok(()), Err(NoAnswer::numbered(41))));
     }
 }

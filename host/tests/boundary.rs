@@ -1,39 +1,13 @@
-//! The same functions called from C, by `include/x4.h`, and from Fortran, by `fortran/x4.f90`.
+//! Numbers and verdicts asked from C, by `include/x4.h`, and from Fortran, by `fortran/x4.f90`.
 
+mod common;
+
+use common::{compiled, say, C};
 use glockenbeacon::generate::{self, Random};
 use glockenbeacon::{library, reference, Value};
-use std::ffi::OsString;
 use std::io::Write;
-use std::path::{Path, PathBuf};
+use std::path::Path;
 use std::process::{Command, Stdio};
-
-/// Said past the test's own output, which nobody sees when a test passes.
-fn say(words: &str) {
-    std::io::stderr().write_all(format!("{words}\n").as_bytes()).unwrap();
-}
-
-/// Compiles a program with the archive; none if there is no archive or no compiler, which is said.
-fn compiled(compiler: &str, name: &str, arguments: &[&str], sources: &[&str]) -> Option<PathBuf> {
-    let Some(archive) = library::archive() else {
-        say(&format!("no proved archive is linked: {name} was not tried"));
-        return None;
-    };
-    let home = Path::new(env!("CARGO_MANIFEST_DIR"));
-    let program = Path::new(env!("CARGO_TARGET_TMPDIR")).join(name);
-    let sources: Vec<OsString> = sources.iter().map(|source| home.join(source).into_os_string()).collect();
-    let mut command = Command::new(compiler);
-    command.current_dir(home).args(arguments).arg("-o").arg(&program).args(sources).arg(archive);
-    match command.status() {
-        Ok(status) => {
-            assert!(status.success(), "{name} does not compile");
-            Some(program)
-        }
-        Err(_) => {
-            say(&format!("{compiler} is not installed: {name} was not tried"));
-            None
-        }
-    }
-}
 
 /// What a program prints for these lines.
 fn printed(program: &Path, lines: &[String]) -> Vec<String> {
@@ -127,8 +101,6 @@ fn verdicts_agree(program: &Path, name: &str) {
         assert_eq!(String::from_utf8_lossy(&output.stdout).trim_end(), numbers, "{}", file.display());
     }
 }
-
-const C: [&str; 7] = ["-std=c11", "-O2", "-Wall", "-Wextra", "-Werror", "-pedantic", "-Iinclude"];
 
 #[test]
 fn c_programs_get_the_same_verdicts() {

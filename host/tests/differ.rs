@@ -93,7 +93,7 @@ impl Implementation for ZeroAsBlank {
 struct PointerCarried;
 
 impl Implementation for PointerCarried {
-    fn passage(&self, entry: &[u8], subentry: u32, keyword: &[u8; 10], pointer: u8) -> Result<Part, NoAnswer> {
+    fn passage(&self, entry: &[u8], subentry: u32, keyword: &[u8], pointer: u8) -> Result<Part, NoAnswer> {
         let answer = reference::passage(entry, subentry, keyword, pointer);
         match answer {
             Err(NoAnswer { number: 36, .. }) => reference::passage(entry, subentry, keyword, b' ').or(answer),

@@ -182,7 +182,12 @@ fn tables_and_questions_agree() {
     let mut random = Random::seeded(SEED + 6);
     for _ in 0..60 {
         let entry = generate::entry(&mut random).bytes;
-        for table in tables(&entry).expect("a valid entry has tables") {
+        let all = tables(&entry).expect("a valid entry has tables");
+        let filled = |value: &&Value| !matches!(value, Value::Blank);
+        let numbers = all.iter().flat_map(|table| &table.lines).flatten().filter(filled).count();
+        let lines: usize = all.iter().filter(|table| table.section == "DATA").map(|table| table.lines.len()).sum();
+        assert_eq!(judge(&entry).numbers()[5..], [lines as u32, numbers as u32], "the totals are those of the tables");
+        for table in all {
             let subentry: u32 = table.subentry[5..].parse().unwrap();
             let section = if table.section == "COMMON" { COMMON } else { DATA };
             for (index, column) in table.columns.iter().enumerate() {

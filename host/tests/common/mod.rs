@@ -1,6 +1,12 @@
-//! The sample entry of the paper, and ways to change it.
+//! The sample entry of the paper, and ways to change it; programs of other languages, compiled with the archive.
 
 #![allow(dead_code)]
+
+use glockenbeacon::library;
+use std::ffi::OsString;
+use std::io::Write;
+use std::path::{Path, PathBuf};
+use std::process::Command;
 
 /// The sample as the paper prints it: "blank to column 66, with identification as above and column 80 blank".
 pub const SAMPLE: &str = "\
@@ -93,4 +99,35 @@ pub fn wide(columns: usize) -> Vec<u8> {
         + &format!("ENDDATA    {:>11}\nENDSUBENT  {:>11}\n", 4 * k, 4 * k + 7);
     let (start, end) = (SAMPLE.find("DATA                 3").unwrap(), SAMPLE.find("ENDENTRY").unwrap());
     entry(&format!("{}{table}{}", &SAMPLE[..start], &SAMPLE[end..]))
+}
+
+/// How C is compiled.
+pub const C: [&str; 7] = ["-std=c11", "-O2", "-Wall", "-Wextra", "-Werror", "-pedantic", "-Iinclude"];
+
+/// Said past the test's own output, which nobody sees when a test passes.
+pub fn say(words: &str) {
+    std::io::stderr().write_all(format!("{words}\n").as_bytes()).unwrap();
+}
+
+/// Compiles a program with the archive; none if there is no archive or no compiler, which is said.
+pub fn compiled(compiler: &str, name: &str, arguments: &[&str], sources: &[&str]) -> Option<PathBuf> {
+    let Some(archive) = library::archive() else {
+        say(&format!("no proved archive is linked: {name} was not tried"));
+        return None;
+    };
+    let home = Path::new(env!("CARGO_MANIFEST_DIR"));
+    let program = Path::new(env!("CARGO_TARGET_TMPDIR")).join(name);
+    let sources: Vec<OsString> = sources.iter().map(|source| home.join(source).into_os_string()).collect();
+    let mut command = Command::new(compiler);
+    command.current_dir(home).args(arguments).arg("-o").arg(&program).args(sources).arg(archive);
+    match command.status() {
+        Ok(status) => {
+            assert!(status.success(), "{name} does not compile");
+            Some(program)
+        }
+        Err(_) => {
+            say(&format!("{compiler} is not installed: {name} was not tried"));
+            None
+        }
+    }
 }

@@ -1,0 +1,38 @@
+//! A short run of `tests/c/fuzz.c`, which is compiled here with sanitizers; `README.md` has the command for a long one.
+
+mod common;
+
+use common::{compiled, say};
+use glockenbeacon::generate::{self, Random};
+use std::path::{Path, PathBuf};
+use std::process::Command;
+
+const SANITIZED: [&str; 10] = [
+    "-std=c11",
+    "-g",
+    "-O1",
+    "-Wall",
+    "-Wextra",
+    "-Werror",
+    "-pedantic",
+    "-fsanitize=address,undefined",
+    "-fno-sanitize-recover=all",
+    "-Iinclude",
+];
+
+#[test]
+fn mutated_entries_are_answered() {
+    let Some(program) = compiled("clang", "fuzz", &SANITIZED, &["tests/c/fuzz.c"]) else { return };
+    let written = |seed: u64| -> PathBuf {
+        let file = Path::new(env!("CARGO_TARGET_TMPDIR")).join(format!("fuzz-{seed}.x4"));
+        std::fs::write(&file, generate::entry(&mut Random::seeded(seed)).bytes).unwrap();
+        file
+    };
+    let output = Command::new(program).args(["1", "3000"]).args((0..40).map(written)).output().unwrap();
+    let words = String::from_utf8_lossy(&output.stdout).to_string() + &String::from_utf8_lossy(&output.stderr);
+    assert!(output.status.success(), "{words}");
+    for refusal in [" 0:", " 31:", " 32:", " 33:", " 34:", " 35:", " 36:", " 37:"] {
+        assert!(words.contains(refusal), "every answer occurs: {words}");
+    }
+    say(words.trim_end());
+}
