@@ -5,7 +5,7 @@ use mathlib.Core.Path.{_≡_, _∙_}
 use mathlib.Core.Bool.{true}
 use mathlib.Core.List.{List}
 use native.Mathlib.Omega.{arith}
-use native.Mathlib.Nat.{zero-add, add-zero}
+use native.Mathlib.Nat.{add-zero}
 use lib.Dec.{eqb}
 use lib.ListN.{getD, drop}
 use lib.Seq.{getD-take, getD-drop}
@@ -38,15 +38,18 @@ unfolding eightAt
 eight-same f p i j h =
     rw (four-same f p i j (same-first f p i j 4 4 h), four-same f p (i + 4) (j + 4) (same-from f p i j 4 4 h))
 
--- a keyword that stands in a part has the number of its columns there
-pub eight-equal : (f p : List ℕ) (at : ℕ) → equalTo 10 f (columnsAt at 11 p) ≡ true → eightAt f 0 ≡ eightAt p at
+-- a keyword that stands in a part has the number of its columns 3 to 10 there
+pub eight-equal : (f p : List ℕ) (at : ℕ) → equalTo 10 f (columnsAt at 11 p) ≡ true → eightAt f 2 ≡ eightAt p (at + 2)
 unfolding equalTo
 eight-equal f p at e =
-    eight-same f p 0 at
+    eight-same f p 2 (at + 2)
     (λ k l.
     let g = columnsAt at 11 p in
+    let z : at + 2 + k ≡ at + (2 + k) = omega arith in
     let d =
-    not-false (eqb (getD f k 0) (getD g k 0))
-    (first-pass (differAt f g) 0 10 (eqb-true (first (differAt f g) 0 10) 10 e) k (omega arith) (omega arith)) in
-    rw (zero-add k)
-    (eqb-true (getD f k 0) (getD g k 0) d ∙ getD-take 11 (drop at p) k 0 (omega arith) ∙ getD-drop at p k 0))
+    not-false (eqb (getD f (2 + k) 0) (getD g (2 + k) 0))
+    (first-pass (differAt f g) 0 10 (eqb-true (first (differAt f g) 0 10) 10 e) (2 + k) (omega arith) (omega arith)) in
+    rw z
+    (eqb-true (getD f (2 + k) 0) (getD g (2 + k) 0) d
+    ∙ getD-take 11 (drop at p) (2 + k) 0 (omega arith)
+    ∙ getD-drop at p (2 + k) 0))

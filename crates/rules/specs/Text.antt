@@ -20,9 +20,9 @@ placeAt part i = columnsAt (i * 81) 11 part
 unfoldable pub placesOf : List ℕ → List (List ℕ)
 placesOf part = listOf (placeAt part) 0 (length part / 81)
 
--- their first eight columns as numbers
+-- columns 3 to 10 of the records of a part, as numbers
 unfoldable pub eightsOf : List ℕ → List ℕ
-eightsOf part = listOf (λ i. eightAt part (i * 81)) 0 (length part / 81)
+eightsOf part = listOf (λ i. eightAt part (i * 81 + 2)) 0 (length part / 81)
 
 abbrev pub pointerAt : List ℕ → ℕ → ℕ
 pointerAt part i = getD part (i * 81 + 10) 0

@@ -21,7 +21,7 @@ use record::word::is_keyword_blank;
 use record::word::is_word;
 use record::word::same_keyword;
 
-// Whether one of the records of a part begins with columns of that number. The loop holds nothing else, so that eight
+// Whether one of the records of a part has columns 3 to 10 of that number. The loop holds nothing else, so that eight
 // columns are compared in one step.
 fn eight_in(part: &[u8], number: u64) -> bool
     ensures { λ r. ⌜ r ≡ anyOf (eqb number) (eightsOf (now (part .entry))) ⌝ }
@@ -29,7 +29,7 @@ fn eight_in(part: &[u8], number: u64) -> bool
     let n = part.len() / 81;
     let mut i = 0;
     while i < n {
-        let at = i * 81;
+        let at = i * 81 + 2;
         let here = eight_columns(part, at);
         if number == here {
             return true;
@@ -56,11 +56,11 @@ fn keyword_among(part: &[u8], f: [u8; 11]) -> bool
     false
 }
 
-// The same. Most keywords differ from all others in their first eight columns.
+// The same. Most keywords differ from all others in columns 3 to 10.
 fn keyword_in(part: &[u8], f: [u8; 11]) -> bool
     ensures { λ r. ⌜ r ≡ anyOf (equalTo 10 f) (placesOf (now (part .entry))) ⌝ }
 {
-    let number = eight_columns(&f, 0);
+    let number = eight_columns(&f, 2);
     if eight_in(part, number) {
         return keyword_among(part, f);
     }

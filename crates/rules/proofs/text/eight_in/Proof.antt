@@ -1,5 +1,5 @@
 use Rattle.laws.proofs.Members.{look-done, look-found, look-next}
-use Prim.Native.Nat.{_*_, _-_, _/_}
+use Prim.Native.Nat.{_+_, _*_, _-_, _/_}
 use Rattle.laws.proofs.Members.{Look, look-all}
 use Rattle.laws.specs.Members.{anyOf}
 use Rattle.record.specs.Word.{eightAt}
@@ -17,40 +17,44 @@ use Rattle.rules.proofs.text.eight_in.Reads as reads
 use Rattle.rules.proofs.text.eight_in.Lts as lts
 
 abbrev Inv-loop : tie.InvT-loop
-Inv-loop part number n i₀ i = (n ≡ length part / 81) × Look (eqb number) (λ i. eightAt part (i * 81)) (anyOf (eqb number) (eightsOf part)) i n
+Inv-loop part number n i₀ i =
+    (n ≡ length part / 81)
+    × Look (eqb number) (λ i. eightAt part (i * 81 + 2)) (anyOf (eqb number) (eightsOf part)) i n
 
 abbrev μ-loop : tie.MeasureT-loop
 μ-loop part number n i₀ i = n - i
 
--- src/text.rt:45:5
 loop-holds : tie.Need-loop-holds Inv-loop μ-loop
 unfolding eightsOf
 loop-holds c = (search needs, look-all _)
 
--- src/text.rt:46:18
 mul-at : tie.Need-mul-at Inv-loop μ-loop
 mul-at c = search needs
+
+add-at : tie.Need-add-at Inv-loop μ-loop
+add-at c = search needs
 
 eight-columns-requires : tie.Need-eight-columns-requires Inv-loop μ-loop
 eight-columns-requires c κs = search needs
 
--- src/text.rt:49:13
 returns : tie.Need-returns Inv-loop μ-loop
-returns c = look-found (c .before .before .before .loop .inv .1) (omega arith) (eq-eqb _ _ (c .if1 .taken ∙ c .before .eight-columns .ensures))
+returns c =
+    look-found (c .before .before .before .loop .inv .1) (omega arith)
+    (eq-eqb _ _ (c .if1 .taken ∙ c .before .eight-columns .ensures))
 
--- src/text.rt:51:9
 add-i : tie.Need-add-i Inv-loop μ-loop
 add-i c = search needs
 
--- src/text.rt:45:5
 loop-less : tie.Need-loop-less Inv-loop μ-loop
 loop-less c = search needs
 
--- src/text.rt:45:5
 loop-again : tie.Need-loop-again Inv-loop μ-loop
-loop-again c = (search needs, look-next (c .before .before .before .loop .inv .1) (omega arith) (ne-eqb _ _ (λ e. c .if1 .left (e ∙ sym (c .before .eight-columns .ensures)))))
+loop-again c = (
+  search needs,
+  look-next (c .before .before .before .loop .inv .1) (omega arith)
+      (ne-eqb _ _ (λ e. c .if1 .left (e ∙ sym (c .before .eight-columns .ensures)))),
+)
 
--- src/text.rt:40:1
 returns-2 : tie.Need-returns-2 Inv-loop μ-loop
 returns-2 c = look-done (c .before .loop .inv .1) (omega arith)
 
@@ -62,6 +66,7 @@ eight-in-spec =
     μ-loop
     loop-holds
     mul-at
+    add-at
     eight-columns-requires
     returns
     add-i

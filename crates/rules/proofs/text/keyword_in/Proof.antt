@@ -1,4 +1,4 @@
-use Prim.Native.Nat.{ℕ, _*_, _/_}
+use Prim.Native.Nat.{ℕ, _+_, _*_, _/_}
 use mathlib.Core.Path.{_≡_, _∙_, sym}
 use mathlib.Core.Bool.{false}
 use mathlib.Core.List.{List}
@@ -40,13 +40,13 @@ returns : tie.Need-returns
 returns c = search needs
 
 -- a keyword whose number is nowhere is nowhere
-nowhere : (part f : List ℕ) (number : ℕ) → number ≡ eightAt f 0 → anyOf (eqb number) (eightsOf part) ≡ false
+nowhere : (part f : List ℕ) (number : ℕ) → number ≡ eightAt f 2 → anyOf (eqb number) (eightsOf part) ≡ false
     → false ≡ anyOf (equalTo 10 f) (placesOf part)
 unfolding eightsOf placesOf
 nowhere part f number w e =
     sym
-    (any-weaker (equalTo 10 f) (eqb number) (placeAt part) (λ i. eightAt part (i * 81))
-    (λ i h. eq-eqb number (eightAt part (i * 81)) (w ∙ eight-equal f part (i * 81) h))
+    (any-weaker (equalTo 10 f) (eqb number) (placeAt part) (λ i. eightAt part (i * 81 + 2))
+    (λ i h. eq-eqb number (eightAt part (i * 81 + 2)) (w ∙ eight-equal f part (i * 81) h))
     0 (length part / 81) e)
 
 -- src/text.rt:60:1
