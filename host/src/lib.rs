@@ -33,6 +33,7 @@ pub mod explain;
 pub mod generate;
 pub mod json;
 pub mod library;
+pub mod plot;
 pub mod reference;
 pub mod tables;
 pub mod words;

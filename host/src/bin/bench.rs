@@ -1,14 +1,15 @@
 //! Times the library beside the reference and beside other readers of numbers: same process, same input, medians.
 //!
-//!     cargo run --release --bin bench
+//!     cargo run --release --bin bench [-- --plot FILE]
 //!
 //! Each line has the time of one field, value or record: the median, its ratio to the library's, and the least, which
-//! says more where the machine had other work.
+//! says more where the machine had other work. `--plot` draws the times of judging, by the number of records, as SVG.
 
 #![forbid(unsafe_code)]
 
 use glockenbeacon::generate::{self, Random, SHAPES};
-use glockenbeacon::{boundary, library, reference, Decimal, Value, RECORD};
+use glockenbeacon::plot::{Line, Plot};
+use glockenbeacon::{boundary, library, reference, Decimal, Value, DATA, RECORD};
 use std::ffi::CString;
 use std::hint::black_box;
 use std::io::Write;
@@ -221,9 +222,15 @@ fn fortran(fields: &[[u8; 11]]) -> Option<Time> {
     Some(Time::of(&mut groups, fields.len()))
 }
 
-fn judging() {
+/// How many records the large entries have, nearly.
+const SIZES: [usize; 3] = [1_000, 5_000, 20_000];
+
+/// Times judging, and gives what a plot shows: for each shape and judge the median time of a record by their number.
+fn judging() -> Plot {
+    let mut lines = Vec::new();
     for shape in SHAPES {
-        for records in [1_000, 5_000, 20_000] {
+        let (mut proved, mut second) = (Vec::new(), Vec::new());
+        for records in SIZES {
             let entry = generate::large(&mut Random::seeded(1), shape, records);
             let n = entry.len() / RECORD;
             assert_eq!(library::judge(&entry).numbers()[0], 0);
@@ -232,15 +239,51 @@ fn judging() {
                 ("reference::judge", timed(&[&entry], |entry| reference::judge(entry)).part(n)),
             ];
             table(&format!("Judging, {shape:?}, {n} records: time of a record"), &rows);
+            proved.push((n as f64, rows[0].1.median));
+            second.push((n as f64, rows[1].1.median));
         }
+        lines.push(Line { name: format!("{shape:?}"), dashed: false, points: proved });
+        lines.push(Line { name: format!("{shape:?}, reference"), dashed: true, points: second });
+    }
+    Plot { across: "records of the entry".into(), up: "nanoseconds a record".into(), lines }
+}
+
+/// Times a value asked for in the last line of a table, and the copy of the whole entry. A question judges its entry.
+fn asking() {
+    for records in SIZES {
+        let entry = generate::large(&mut Random::seeded(1), SHAPES[1], records);
+        let n = entry.len() / RECORD;
+        let last = (1..=n as u32 / 3).rev().find(|&line| library::value(&entry, 2, DATA, line, 18).is_ok());
+        let last = last.expect("a table has a line");
+        let rows = [
+            ("library::value", timed(&[&entry], |entry| library::value(entry, 2, DATA, last, 18)).part(n)),
+            ("reference::value", timed(&[&entry], |entry| reference::value(entry, 2, DATA, last, 18)).part(n)),
+        ];
+        table(&format!("A value in the last of {last} lines, {n} records: time of a record"), &rows);
+        let mut out = vec![0; entry.len()];
+        let copied = timed(&[&entry], |entry| library::canonical_copy(entry, black_box(&mut out)));
+        let second = timed(&[&entry], |entry| reference::canonical_copy(entry, black_box(&mut out)));
+        table(
+            &format!("The canonical copy, {n} records: time of a record"),
+            &[("library::canonical_copy", copied.part(n)), ("reference::canonical_copy", second.part(n))],
+        );
     }
 }
 
-fn main() {
+fn main() -> std::io::Result<()> {
+    let arguments: Vec<String> = std::env::args().skip(1).collect();
     println!("answered {}", library::who_answers());
     numbers();
-    match library::proved().contains(&"judge") {
-        true => judging(),
-        false => println!("\njudging is not timed: no proved judge is linked"),
+    if !library::proved().contains(&"judge") {
+        println!("\njudging is not timed: no proved judge is linked");
+        return Ok(());
     }
+    let plot = judging();
+    asking();
+    if let [option, file] = arguments.as_slice() {
+        if option == "--plot" {
+            std::fs::write(file, plot.svg())?;
+        }
+    }
+    Ok(())
 }
