@@ -1,5 +1,5 @@
 ! Answers the questions of a file about the entry in another: a line each, `value 2 2 1 3`, `heading 2 2 1`,
-! `unit 2 2 1`, `copy 2106`, or `passage 2 49 REACTION  ` (the pointer's byte, then the keyword's, to the line's end).
+! `unit 2 2 1`, `copy 2106`, or `passage 2 49 REACTION  ` (the pointer's byte, then the keyword to the line's end).
 program questions
   use, intrinsic :: iso_c_binding, only: c_char, c_int32_t, c_int64_t
   use x4, only: x4_value, x4_part, x4_refused, x4_ask_value, x4_ask_heading, x4_ask_unit, x4_ask_passage, x4_copied

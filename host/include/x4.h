@@ -33,8 +33,8 @@ extern "C" {
 /* The verdict on an entry: a word of totals, or the refusal. */
 uint64_t x4_judge(const uint8_t *entry, size_t length);
 
-/* The value in a line and a column of section 1 (COMMON, line 1 only) or 2 (DATA) of a subentry: the word of a number, of
- * a blank, or of a refusal: 31 entry refused, 32 no such subentry, 33 no such section, 34 no such line, 35 no such
+/* The value in a line and a column of section 1 (COMMON, line 1 only) or 2 (DATA) of a subentry: the word of a number,
+ * of a blank, or of a refusal: 31 entry refused, 32 no such subentry, 33 no such section, 34 no such line, 35 no such
  * column. */
 uint64_t x4_value(const uint8_t *entry, size_t length, uint32_t subentry, uint32_t section, uint32_t line,
                   uint32_t column);
@@ -44,13 +44,13 @@ uint64_t x4_value(const uint8_t *entry, size_t length, uint32_t subentry, uint32
 uint64_t x4_heading(const uint8_t *entry, size_t length, uint32_t subentry, uint32_t section, uint32_t column);
 uint64_t x4_unit(const uint8_t *entry, size_t length, uint32_t subentry, uint32_t section, uint32_t column);
 
-/* The passage with a keyword, ten bytes, and a pointer, blank for none: whole records, the word of a part, or of refusal
- * 31, 32, 33 or 36 no such passage. A keyword that is not ten bytes long has none. */
+/* The passage with a keyword, ten bytes, and a pointer, blank for none: whole records, the word of a part, or of
+ * refusal 31, 32, 33 or 36 no such passage. A keyword that is not ten bytes long has none. */
 uint64_t x4_passage(const uint8_t *entry, size_t length, uint32_t subentry, const uint8_t *keyword,
                     size_t keyword_length, uint8_t pointer);
 
-/* Stores the canonical copy in the front of a buffer that must not overlap the entry: 0 done, else the word of refusal 31
- * or of 37, buffer shorter than the entry. */
+/* Stores the canonical copy in the front of a buffer that does not overlap the entry: 0 done, else the word of refusal
+ * 31 or of 37, buffer shorter than the entry. */
 uint64_t x4_copy(const uint8_t *entry, size_t length, uint8_t *out, size_t out_length);
 
 /* What a number field says: a word. 40 not eleven bytes, 15 malformed. */

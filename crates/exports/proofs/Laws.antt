@@ -140,7 +140,8 @@ refused-word : (n : ℕ) (at : RecordNo) (k : ℕ) → 0 < n → verdictWord (re
 unfolding verdictWord
 refused-word n at k z = rw (ne-eqb n 0 (λ e. omega arith)) refl
 
-refused-in : (n : ℕ) (at : RecordNo) (k : ℕ) → NearRefusal n at k → verdictIn (refusedWord n n (at .0) k) ≡ refused n at k
+refused-in : (n : ℕ) (at : RecordNo) (k : ℕ) → NearRefusal n at k
+    → verdictIn (refusedWord n n (at .0) k) ≡ refused n at k
 unfolding verdictIn
 refused-in n at k h =
     rw (le-leb (2 ^ 63) (refusedWord n n (at .0) k) (refused-high n n (at .0) k))

@@ -59,7 +59,8 @@ from-left : (test : ℕ → Bool) (column : ℕ → ℕ) (n i : ℕ) → ((k : �
 unfolding columnsFrom
 from-left test column zero i h = none-left
 from-left test column (suc n) i h =
-    either-way Left (test i) _ _ (record { most = h i (omega arith) }) (from-left test column n (i + 1) (λ k l. h k (omega arith)))
+    either-way Left (test i) _ _ (record { most = h i (omega arith) })
+    (from-left test column n (i + 1) (λ k l. h k (omega arith)))
 
 field-left : (test : ℕ → Bool) (n : ℕ) → n ≤ 6 → Left (columnsFrom test fieldColumn 0 n)
 field-left test n h = from-left test fieldColumn n 0 (λ k l. omega arith)

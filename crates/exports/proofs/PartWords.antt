@@ -15,7 +15,7 @@ use Rattle.laws.proofs.Search.{first-same, pass-first}
 use Rattle.number.specs.Grammar.{blanks}
 use Rattle.record.specs.declared.columns.Place.{Place}
 use Rattle.record.specs.declared.columns.RecordNo.{RecordNo}
-use Rattle.record.specs.Fields.{fieldsOf}
+use Rattle.record.specs.Fields.{fieldAt, fieldsOf}
 use Rattle.record.specs.Word.{pointerOf, filledAt, differAt, blankTo, equalTo}
 use Rattle.record.proofs.ReadColumns.{field-of}
 use Rattle.entry.specs.declared.verdict.Verdict.{Verdict}
@@ -66,12 +66,12 @@ abbrev Back : PartAnswer → Type 0
 Back p = partIn (partWord p) ≡ p
 
 part-back : (s : List ℕ) (number from bytes pointer : ℕ) → Numbered number → (number ≡ 0 → length s < 2 ^ 21)
-    → pointer < 2 ^ 8
-    → partIn (partWord (partWith s (judgeOf s) number from bytes pointer)) ≡ partWith s (judgeOf s) number from bytes pointer
+    → pointer < 2 ^ 8 → Back (partWith s (judgeOf s) number from bytes pointer)
 part-back s number from bytes pointer few short byte = by-number (eqb number 0) refl
   where
     by-room : length s < 2 ^ 21 → (b : Bool) → leb (from + bytes) (length s) ≡ b
-        → Back (cond b (record { answer = answer 0; first = from; length = bytes; pointer = pointer }) (noPart (answer 0)))
+        → Back
+        (cond b (record { answer = answer 0; first = from; length = bytes; pointer = pointer }) (noPart (answer 0)))
     by-room l true e =
         let m = leb-true (from + bytes) (length s) e in
         place-back from bytes pointer (omega arith) (omega arith) byte
@@ -81,7 +81,8 @@ part-back s number from bytes pointer few short byte = by-number (eqb number 0) 
         → Back (cond b (partFrom s (answer 0) from bytes pointer) (noPart (answerFor (judgeOf s) number)))
     by-number true e = by-room (short (eqb-true number 0 e)) (leb (from + bytes) (length s)) refl
     by-number false e =
-        none-back (answerFor (judgeOf s) number) (answer-fits s number (few .few)) (rw (answer-number (judgeOf s) number) e)
+        none-back (answerFor (judgeOf s) number) (answer-fits s number (few .few))
+        (rw (answer-number (judgeOf s) number) e)
 
 -- ---- the parts of an entry
 
@@ -93,24 +94,30 @@ heading-field at column = omega arith
 abbrev pub Bytes : List ℕ → Type 0
 Bytes s = (i : ℕ) → getD s i 0 < 2 ^ 8
 
-pointer-byte : (s : List ℕ) → Bytes s → (p : Place) → p .field ≤ 5 → pointerOf (fieldOf s p) < 2 ^ 8
+-- a field of an entry is that of a record, or blank
+pub field-cases : (P : List ℕ → Type 0) (s : List ℕ) (p : Place) → p .field ≤ 5
+    → (hasRecord s (p .at) ≡ true → P (fieldAt (blockAt 81 s (p .at .0 - 1)) (p .field)))
+    → P (replicate 11 32) → P (fieldOf s p)
 unfolding fieldsAt
-pointer-byte s h p f = by-record (hasRecord s (p .at))
+field-cases P s p f there blank = by-record (hasRecord s (p .at)) refl
   where
-    by-record : (b : Bool)
-        → getD (getD (cond b (fieldsOf (blockAt 81 s (p .at .0 - 1))) (replicate 6 (replicate 11 32))) (p .field) []) 10 0 < 2 ^ 8
-    by-record true =
-        let r = blockAt 81 s (p .at .0 - 1) in
-        rw (
-          field-of r (p .field) (omega arith),
-          getD-take 11 (drop (p .field * 11) r) 10 0 (omega arith),
-          getD-drop (p .field * 11) r 10 0,
-          getD-take 81 (drop ((p .at .0 - 1) * 81) s) (p .field * 11 + 10) 0 (omega arith),
-          getD-drop ((p .at .0 - 1) * 81) s (p .field * 11 + 10) 0,
-        )
-        (h _)
-    by-record false =
-        rw (getD-replicate 6 (p .field) (replicate {A = ℕ} 11 32) [] (omega arith)) (omega arith)
+    by-record : (b : Bool) → hasRecord s (p .at) ≡ b
+        → P (getD (cond b (fieldsOf (blockAt 81 s (p .at .0 - 1))) (replicate 6 (replicate 11 32))) (p .field) [])
+    by-record true e = rw (field-of (blockAt 81 s (p .at .0 - 1)) (p .field) (omega arith)) (there e)
+    by-record false e = rw (getD-replicate 6 (p .field) (replicate {A = ℕ} 11 32) [] (omega arith)) blank
+
+pointer-byte : (s : List ℕ) → Bytes s → (p : Place) → p .field ≤ 5 → pointerOf (fieldOf s p) < 2 ^ 8
+pointer-byte s h p f =
+    let from = (p .at .0 - 1) * 81 in
+    let r = blockAt 81 s (p .at .0 - 1) in
+    field-cases (λ l. pointerOf l < 2 ^ 8) s p f
+    (λ e. rw (
+      getD-take 11 (drop (p .field * 11) r) 10 0 (omega arith),
+      getD-drop (p .field * 11) r 10 0,
+      getD-take 81 (drop from s) (p .field * 11 + 10) 0 (omega arith),
+      getD-drop from s (p .field * 11 + 10) 0,
+    ) (h (from + (p .field * 11 + 10))))
+    (omega arith)
 
 pub heading-back : (s : List ℕ) → Bytes s → (n section column : ℕ)
     → partIn (partWord (headingOf s n section column)) ≡ headingOf s n section column
@@ -132,8 +139,8 @@ unit-back s h n section column =
     let at = sectionIn x section in
     let shape = shapeOf s section at in
     let last = refusal 35 (noColumn shape column) ∷ [] in
-    part-back s (firstOf (sectionRefusals s (judgeOf s) x at ++ last)) (byteOf (unitPlace at (shape .columns) column)) 10
-    (pointerOf (fieldOf s (headingPlace at column)))
+    part-back s (firstOf (sectionRefusals s (judgeOf s) x at ++ last))
+    (byteOf (unitPlace at (shape .columns) column)) 10 (pointerOf (fieldOf s (headingPlace at column)))
     (section-numbered s x at last (one 35 (omega arith) (omega arith), tt)) (section-short s x at last)
     (pointer-byte s h (headingPlace at column) (heading-field at column))
 
@@ -178,8 +185,8 @@ part-number : (s : List ℕ) (v : Verdict) (number from bytes pointer : ℕ)
 part-number s v number from bytes pointer = by-number (eqb number 0) refl
   where
     by-room : (b : Bool)
-        → cond b (record { answer = answer 0; first = from; length = bytes; pointer = pointer }) (noPart (answer 0)) .answer .number
-        ≡ 0
+        → cond b (record { answer = answer 0; first = from; length = bytes; pointer = pointer })
+        (noPart (answer 0)) .answer .number ≡ 0
     by-room true = refl
     by-room false = refl
 
@@ -201,8 +208,8 @@ unfolding passageAnswer passageBy passageRefusal keywordPlace
 no-place s n keyword pointer wrong e =
     let x = rowOf s n in
     let k : keywordPlace keyword ≡ blanks 10 = rw (ne-eqb (length keyword) 10 wrong) in
-    let none : passageOf s (x .bib) (keywordPlace keyword) pointer ≡ NO-PASSAGE = rw k (none-there s (x .bib) pointer) in
     let p = passageOf s (x .bib) (keywordPlace keyword) pointer in
+    let none : p ≡ NO-PASSAGE = rw k (none-there s (x .bib) pointer) in
     let last = refusal 36 (noPassage p) ∷ [] in
     let number = firstOf (sectionRefusals s (judgeOf s) x (x .bib) ++ last) in
     let z : number ≡ 0 =

@@ -34,14 +34,9 @@ pub record Fits (a : Answer) : Type 0 where
   pub beside : NearRefusal (a .refusal) (a .«record») (a .column)
 
 pub answer-fits : (s : List ℕ) (number : ℕ) → number < 2 ^ 8 → Fits (answerFor (judgeOf s) number)
-answer-fits s number h = by-test (eqb number 31)
-  where
-    by-test : (b : Bool)
-        → Fits (cond b (record { number = 31; refusal = judgeOf s .refusal; «record» = judgeOf s .«record»; column = judgeOf s .column })
-        (answer number))
-    by-test true = record { number = omega arith; beside = near-of (judge-fits s) }
-    by-test false =
-        record { number = h; beside = record { number = omega arith; «record» = omega arith; column = omega arith } }
+answer-fits s number h =
+    either-way Fits (eqb number 31) _ _ (record { number = omega arith; beside = near-of (judge-fits s) })
+    (record { number = h; beside = record { number = omega arith; «record» = omega arith; column = omega arith } })
 
 pub answer-back : (a : Answer) → Fits a → answerIn (unpacked refusedRooms (answerWord a)) ≡ a
 unfolding answerWord
@@ -54,8 +49,8 @@ pub answer-number : (v : Verdict) (number : ℕ) → answerFor v number .number 
 answer-number v number = by-test (eqb number 31) refl
   where
     by-test : (b : Bool) → eqb number 31 ≡ b
-        → cond b (record { number = 31; refusal = v .refusal; «record» = v .«record»; column = v .column }) (answer number) .number
-        ≡ number
+        → cond b (record { number = 31; refusal = v .refusal; «record» = v .«record»; column = v .column })
+        (answer number) .number ≡ number
     by-test true e = sym (eqb-true number 31 e)
     by-test false e = refl
 
@@ -74,10 +69,13 @@ pub one : (n : ℕ) → 31 ≤ n → n < 2 ^ 8 → Numbered n
 one n h i = record { few = i; far = λ z. h }
 
 module _ (s : List ℕ) (x : Row) (at : RecordNo) (ys : List Refusal) where
-  pub section-numbered : All (λ y. Numbered (y .number)) ys → Numbered (firstOf (sectionRefusals s (judgeOf s) x at ++ ys))
+  pub section-numbered : All (λ y. Numbered (y .number)) ys
+      → Numbered (firstOf (sectionRefusals s (judgeOf s) x at ++ ys))
   section-numbered h =
-      first-numbered (sectionRefusals s (judgeOf s) x at ++ ys)
-      (one 31 (omega arith) (omega arith), (one 32 (omega arith) (omega arith), (one 33 (omega arith) (omega arith), h)))
+      first-numbered (sectionRefusals s (judgeOf s) x at ++ ys) (
+        one 31 (omega arith) (omega arith),
+        (one 32 (omega arith) (omega arith), (one 33 (omega arith) (omega arith), h)),
+      )
 
   -- an entry about which a question is answered is accepted, and so not too long
   pub section-short : firstOf (sectionRefusals s (judgeOf s) x at ++ ys) ≡ 0 → length s < 2 ^ 21

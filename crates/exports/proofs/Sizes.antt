@@ -73,10 +73,12 @@ unfolding judgeOf
 judge-fits s = by-test (lengthGood (length s)) refl
   where
     by-test : (b : Bool) → lengthGood (length s) ≡ b
-        → Fitting (cond b (walk turnOf endOf startContext 0 (blocks 81 (length s / 81) s)) (refused 1 (record { 0 = 0 }) 0))
+        → Fitting
+        (cond b (walk turnOf endOf startContext 0 (blocks 81 (length s / 81) s)) (refused 1 (record { 0 = 0 }) 0))
     by-test true e =
         let n = whole-records (length s) e .1 in
-        walk-fits (blocks 81 (length s / 81) s) startContext 0 (omega arith) (rw (length-blocks 81 (length s / 81) s) (omega arith))
+        walk-fits (blocks 81 (length s / 81) s) startContext 0 (omega arith)
+        (rw (length-blocks 81 (length s / 81) s) (omega arith))
     by-test false e =
         refusing 1 (record { 0 = 0 }) 0 (omega arith)
         (record { number = omega arith; «record» = omega arith; column = omega arith })

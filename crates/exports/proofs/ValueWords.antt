@@ -37,23 +37,19 @@ use Rattle.exports.specs.Questions.{answerWord, answerIn, copiedWord, co
 use Rattle.exports.specs.Questions.{valueIn}
 use Rattle.exports.proofs.Sizes.{judge-fits}
 use Rattle.exports.proofs.Laws.{number-low, refused-high, rooms-back, held, held-back}
+use Rattle.exports.proofs.PartWords.{field-cases}
 use Rattle.exports.proofs.Refusals.{near-of, Fits, answer-fits, answer-number, Numbered, one, section-numbered}
 
--- a field of the entry is eleven columns
+-- a field of an entry is eleven columns
 field-wide : (s : List ℕ) (p : Place) → p .field ≤ 5 → length (fieldOf s p) ≡ 11
-unfolding fieldsAt
-field-wide s p f = by-record (hasRecord s (p .at)) refl
-  where
-    by-record : (b : Bool) → hasRecord s (p .at) ≡ b
-        → length (getD (cond b (fieldsOf (blockAt 81 s (p .at .0 - 1))) (replicate 6 (replicate 11 32))) (p .field) []) ≡ 11
-    by-record true e =
-        let r = blockAt 81 s (p .at .0 - 1) in
-        let (a, b) = record-there s (p .at) e in
-        let w : length r ≡ 81 = length-take-le 81 (drop ((p .at .0 - 1) * 81) s) (simp length-drop (omega arith)) in
-        rw (field-of r (p .field) (omega arith))
-        (length-take-le 11 (drop (p .field * 11) r) (simp length-drop (omega arith)))
-    by-record false e =
-        rw (getD-replicate 6 (p .field) (replicate {A = ℕ} 11 32) [] (omega arith)) refl
+field-wide s p f =
+    let r = blockAt 81 s (p .at .0 - 1) in
+    field-cases (λ l. length l ≡ 11) s p f
+    (λ e.
+    let (a, b) = record-there s (p .at) e in
+    let w : length r ≡ 81 = length-take-le 81 (drop ((p .at .0 - 1) * 81) s) (simp length-drop (omega arith)) in
+    length-take-le 11 (drop (p .field * 11) r) (simp length-drop (omega arith)))
+    refl
 
 -- what a field says refuses no question
 says-low : (l : List ℕ) (r : Reading) → Says l r → refuses (readingWord r) ≡ false
@@ -84,7 +80,10 @@ refused-value a h far =
     ap with-rooms
     (rooms-back (a .number) (a .refusal) (a .«record» .0) (a .column) (h .number) (h .beside .number)
     (h .beside .«record») (h .beside .column))
-    ∙ rw (le-leb (2 ^ 63) w (refused-high (a .number) (a .refusal) (a .«record» .0) (a .column)), le-leb 31 (a .number) far)
+    ∙ rw (
+      le-leb (2 ^ 63) w (refused-high (a .number) (a .refusal) (a .«record» .0) (a .column)),
+      le-leb 31 (a .number) far,
+    )
 
 value-with : (s : List ℕ) (number : ℕ) (l : List ℕ) → Numbered number → length l ≡ 11
     → valueIn (valueWord (valueWith (judgeOf s) number (readField l))) ≡ valueWith (judgeOf s) number (readField l)

@@ -1,8 +1,8 @@
 /* Asks every call about mutated entries, and checks what holds of every answer: fuzz SEED ROUNDS FILE..
  *
  * Each buffer ends where a page begins that may not be touched (in every other round it begins behind one), so that a
- * byte read or written outside it ends the program, although the archive itself is not compiled with sanitizers. A round
- * has the seed SEED + round; a failure names it, and `fuzz THAT-SEED 1 FILE..` brings it back. */
+ * byte read or written outside it ends the program, although the archive itself is not compiled with sanitizers. Every
+ * round has a seed of its own; a failure names it, and `fuzz THAT-SEED 1 FILE..` brings it back. */
 #define _DEFAULT_SOURCE
 #include "x4.h"
 
@@ -182,8 +182,9 @@ static void fields(Buffer *field) {
     }
     lay(field, below(4) ? 11 : below(20));
     memset(field->bytes, '#', field->length);
-    uint32_t refusal = x4_write_number((uint32_t)bits(), bits() >> below(64), (int32_t)bits() >> below(32), field->bytes,
-                                       field->length);
+    uint64_t coefficient = bits() >> below(64);
+    int32_t power = (int32_t)((int64_t)(bits() >> 32) - INT64_C(0x80000000)) / (int32_t)(1 + below(1 << 20));
+    uint32_t refusal = x4_write_number((uint32_t)bits(), coefficient, power, field->bytes, field->length);
     check(refusal == 0 || refusal == (field->length == 11 ? 41u : 40u), "41 or 40");
     for (size_t i = 0; i < field->length && refusal; i++) {
         check(field->bytes[i] == '#', "a refused call stores nothing");
@@ -216,8 +217,8 @@ int main(int count, char **words) {
         }
         check(!memcmp(entry.bytes, work, n), "the entry is only read");
     }
-    printf("seeds %" PRIu64 " to %" PRIu64 ": %" PRIu64 " entries accepted, %" PRIu64 " questions and copies, by refusal",
-           first, first + rounds - 1, accepted, asked);
+    printf("seeds %" PRIu64 " to %" PRIu64 ": %" PRIu64 " entries accepted, ", first, first + rounds - 1, accepted);
+    printf("%" PRIu64 " questions and copies, by refusal", asked);
     for (int i = 0; i < 64; i++) {
         if (refusals[i]) {
             printf(" %d:%" PRIu64, i, refusals[i]);

@@ -1,5 +1,5 @@
 /* Answers the questions of a file about the entry in another: a line each, `value 2 2 1 3`, `heading 2 2 1`,
- * `unit 2 2 1`, `copy 2106`, or `passage 2 49 REACTION  ` (the pointer's byte, then the keyword's, to the line's end). */
+ * `unit 2 2 1`, `copy 2106`, or `passage 2 49 REACTION  ` (the pointer's byte, then the keyword to the line's end). */
 #include "x4.h"
 
 #include <inttypes.h>

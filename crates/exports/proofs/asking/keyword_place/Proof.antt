@@ -46,8 +46,9 @@ shared-slice-read-t23 c = search needs
 returns-2 : tie.Need-returns-2
 unfolding keywordPlace
 returns-2 c =
-    let k = c .before .before .before .before .before .before .before .before .before .before .before .args .keyword .now in
-    let e : length k ≡ 10 = c .before .before .before .before .before .before .before .before .before .before .if1 .left in
+    let d = c .before .before .before .before .before .before .before .before .before .before in
+    let k = d .before .args .keyword .now in
+    let e : length k ≡ 10 = d .if1 .left in
     rw e (columns-read k 0 10 (omega arith) ∙ take-all 10 k (omega arith))
 
 pub keyword-place-spec : {M : Type 1} → statement M

@@ -14,7 +14,9 @@ part-word-requires : tie.Need-part-word-requires
 part-word-requires c κs = search needs
 
 returns : tie.Need-returns
-returns c = c .part-word .ensures ∙ ap partWord (rw (← c .before .before .keyword-place .ensures) (c .before .passage .ensures))
+returns c =
+    let place = c .before .before .keyword-place .ensures in
+    c .part-word .ensures ∙ ap partWord (rw (← place) (c .before .passage .ensures))
 
 pub x4-passage-spec : {M : Type 1} → statement M
 x4-passage-spec =

@@ -12,14 +12,18 @@ reading-word-requires c κs = search needs
 
 returns : tie.Need-returns
 unfolding valueWord
-returns c = rw (← c .before .before .before .before .value .ensures, eq-eqb _ _ (c .before .if1 .taken)) (c .reading-word .ensures)
+returns c =
+    let v = c .before .before .before .before .value .ensures in
+    rw (← v, eq-eqb _ _ (c .before .if1 .taken)) (c .reading-word .ensures)
 
 answer-word-requires : tie.Need-answer-word-requires
 answer-word-requires c κs = search needs
 
 returns-2 : tie.Need-returns-2
 unfolding valueWord
-returns-2 c = rw (← c .before .before .before .before .value .ensures, ne-eqb _ _ (c .before .if1 .left)) (c .answer-word .ensures)
+returns-2 c =
+    let v = c .before .before .before .before .value .ensures in
+    rw (← v, ne-eqb _ _ (c .before .if1 .left)) (c .answer-word .ensures)
 
 pub x4-value-spec : {M : Type 1} → statement M
 x4-value-spec =

@@ -13,7 +13,9 @@ same-length c = search needs
 
 returns : tie.Need-returns
 unfolding copiedWord
-returns c = (rw (← c .before .before .before .before .copy .ensures .0, eq-eqb _ _ (c .if1 .taken)) refl, c .before .before .before .before .copy .ensures .1)
+returns c =
+    let e = c .before .before .before .before .copy .ensures in
+    (rw (← e .0, eq-eqb _ _ (c .if1 .taken)) refl, e .1)
 
 cast-refused-word : tie.Need-cast-refused-word
 cast-refused-word c = search needs
