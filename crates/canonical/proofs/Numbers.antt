@@ -84,7 +84,7 @@ module _ (p : ℤ) (h : SFits w32 p) where
   pub wide-power : SFits w64 (toZ w32 (ofZ w32 p))
   wide-power = rw flat-power (record { sfits = omega (arith, h .sfits) })
 
-  module _ (z : ℕ) (l : z < 20) where
+  module _ (z : ℕ) (l : z < 2 ^ 31) where
     pub sum-size : mag (p +ℤ pos z) < 2 ^ 40
     sum-size = omega (arith, mag-add p z, h .sfits)
 

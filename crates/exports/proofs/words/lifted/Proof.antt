@@ -3,8 +3,8 @@ use borrow.Author.Needs.{needs}
 use lib.IntN.{_+ℤ_, pos}
 use mir.Syntax.{w64}
 use mir.ValLaws.{toZ-ofZ}
-use Rattle.canonical.proofs.Numbers.{wide-power, sized-above}
-use Rattle.exports.proofs.Lifting.{sum-size, sum-fits, sum-flat, below-zero, above-zero}
+use Rattle.canonical.proofs.Numbers.{wide-power, sized-above, sum-size, sum-fits, sum-flat}
+use Rattle.exports.proofs.Lifting.{below-zero, above-zero}
 use Rattle.exports.proofs.words.lifted.Statement.{statement}
 use Rattle.exports.proofs.words.lifted.Tie as tie
 
