@@ -27,7 +27,7 @@ fn byte_of(n: usize) -> u8 {
 }
 
 // Puts a record at `at`: 80 columns from `from` of the line, and a line feed. Hands back where it ends.
-pub fn put_record(line: &[u8], from: usize, space: &mut [u8], at: usize) -> usize {
+pub(crate) fn put_record(line: &[u8], from: usize, space: &mut [u8], at: usize) -> usize {
     let mut column: usize = 0;
     while column < 80 {
         let byte = byte_at(line, wrapping_add_usize(from, column));
@@ -53,7 +53,7 @@ fn put_text(line: &[u8], from: usize, space: &mut [u8], at: usize) {
 }
 
 // The case begins again from the whole entry.
-pub fn begin(whole: &[u8], length: usize, case: &mut [u8]) {
+pub(crate) fn begin(whole: &[u8], length: usize, case: &mut [u8]) {
     let mut i: usize = 0;
     while i < length {
         put(case, i, byte_at(whole, i));
@@ -100,7 +100,7 @@ fn put_unknown(line: &[u8]) {
 }
 
 // Makes the change that a line of this kind asks for, and hands back the case's length.
-pub fn change(kind: u8, line: &[u8], case: &mut [u8], length: usize) -> usize {
+pub(crate) fn change(kind: u8, line: &[u8], case: &mut [u8], length: usize) -> usize {
     let record = number(line, 1, 6);
     let column = number(line, 7, 10);
     let start = place(record, 1);

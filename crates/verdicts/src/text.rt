@@ -2,7 +2,7 @@
 ghost use Prim.Native.Nat.{_≤_};
 ghost use lib.ListN.{length};
 
-pub fn least(a: usize, b: usize) -> usize
+pub(crate) fn least(a: usize, b: usize) -> usize
     ensures { λ r. ⌜ r ≤ a ⌝ }
     ensures { λ r. ⌜ r ≤ b ⌝ }
 {
@@ -10,12 +10,12 @@ pub fn least(a: usize, b: usize) -> usize
 }
 
 // The byte at `i`; past the end of the line it is blank.
-pub fn byte_at(line: &[u8], i: usize) -> u8 {
+pub(crate) fn byte_at(line: &[u8], i: usize) -> u8 {
     if i < line.len() { line[i] } else { b' ' }
 }
 
 // Where the line that starts at `at` ends: at the next line feed, or where the text ends.
-pub fn line_end(text: &[u8], at: usize) -> usize
+pub(crate) fn line_end(text: &[u8], at: usize) -> usize
     requires { ⌜ at ≤ length (now text) ⌝ }
     ensures { λ r. ⌜ at ≤ r ⌝ }
     ensures { λ r. ⌜ r ≤ length (now (text .entry)) ⌝ }
@@ -47,7 +47,7 @@ fn with_digit(n: usize, digit: u8) -> usize
 }
 
 // The number whose digits stand in the line from `from` up to `past`.
-pub fn number(line: &[u8], from: usize, past: usize) -> usize
+pub(crate) fn number(line: &[u8], from: usize, past: usize) -> usize
     ensures { λ r. ⌜ r ≤ 9999999 ⌝ }
 {
     let mut n: usize = 0;
