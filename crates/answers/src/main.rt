@@ -1,8 +1,8 @@
-// Asks questions of entries. A line of the input begins with a letter that says what it is: `*` and 80 columns, the
-// next record of the entry; `!`, a new entry begins; `v`, `h`, `u`, a value, a heading, a unit: the subentry, the
-// section, for a value the line, and the column, ten columns each; `p`, a passage: the subentry in ten columns, the
-// keyword in ten, the pointer in one. Of each question it writes the number, what stands beside it, and the answer: the
-// value, or the first byte, the length, the pointer and the part.
+// Asks questions of entries. The first character of a line of the input says what it is: `*` and 80 columns, the next
+// record of the entry; `!`, a new entry begins; `v`, `h`, `u`, a value, a heading, a unit: the subentry, the section,
+// for a value the line, and the column, ten columns each; `p`, a passage: the subentry in ten columns, the keyword in
+// ten, the pointer in one. Of each question it writes the number, what stands beside it, and the answer: the value, or
+// the first byte, the length, the pointer and the part.
 ghost use Prim.Native.Nat.{_≤_};
 ghost use lib.ListN.{length};
 use number::value::Decimal;
