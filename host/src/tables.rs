@@ -13,7 +13,7 @@
 //! Numbers are exact decimals as text; a blank field is empty, and zero is `0`.
 
 use crate::json::{array, object, text};
-use crate::{library, NoAnswer, Part, Value, Verdict, COMMON, DATA, RECORD};
+use crate::{library, NoAnswer, Value, Verdict, COMMON, DATA, RECORD};
 
 /// A column of a table.
 #[derive(Clone, Debug, PartialEq, Eq)]
@@ -39,15 +39,15 @@ pub struct Table {
     pub lines: Vec<Vec<Value>>,
 }
 
-/// All tables of an entry, in its order. Everything is asked of the library: which tables there are, where their
-/// headings and units stand, how many lines they have, and what each number field says.
+/// All tables of an entry, in its order. The library is asked where each stands, and what each of its number fields
+/// says; the columns and lines follow from the table's own counts, which are true in an accepted entry.
 pub fn tables(entry: &[u8]) -> Result<Vec<Table>, NoAnswer> {
     if let Verdict::Refused(refusal) = library::judge(entry) {
         return Err(NoAnswer { number: 31, entry: Some(refusal) });
     }
     let mut tables = Vec::new();
     for owner in owners(entry) {
-        let number = owner[5..].iter().fold(0, |number, digit| 10 * number + u32::from(digit - b'0'));
+        let number = count(&owner[5..]) as u32;
         for (section, name) in [(COMMON, "COMMON"), (DATA, "DATA")] {
             if let Some((columns, lines)) = table(entry, number, section)? {
                 tables.push(Table { subentry: written(owner), section: name, columns, lines });
@@ -57,50 +57,43 @@ pub fn tables(entry: &[u8]) -> Result<Vec<Table>, NoAnswer> {
     Ok(tables)
 }
 
-/// The accession and number in columns 67-74 of each subentry: they are the same on all its records.
+/// The accession and number of each subentry: all its records have them in columns 67-74.
 fn owners(entry: &[u8]) -> Vec<&[u8]> {
     let mut owners: Vec<&[u8]> = entry.chunks_exact(RECORD).map(|record| &record[66..74]).collect();
     owners.dedup();
+    // ENTRY and ENDENTRY belong to none.
+    owners.retain(|owner| !owner.ends_with(b"000") && !owner.ends_with(b"999"));
     owners
 }
 
 /// The columns and lines of a section, if there is one: refusal 32 or 33 says that there is none.
 fn table(entry: &[u8], number: u32, section: u32) -> Result<Option<(Vec<Column>, Vec<Vec<Value>>)>, NoAnswer> {
-    let ask = |column| library::heading(entry, number, section, column);
-    if matches!(ask(1), Err(NoAnswer { number: 32 | 33, .. })) {
-        return Ok(None);
-    }
-    let headings: Vec<Part> = (1..).map_while(|column| ask(column).ok()).collect();
-    let units = (1..=headings.len() as u32).map(|column| library::unit(entry, number, section, column));
-    let units: Vec<Part> = units.collect::<Result<_, _>>()?;
-    let columns = headings.iter().zip(&units).map(|(heading, unit)| Column {
-        heading: written(heading.of(entry)),
-        pointer: Some(char::from(heading.pointer)).filter(|&pointer| pointer != ' '),
-        unit: written(unit.of(entry)),
-    });
-    // "k heading records, k unit records, then value records, k to a line": a heading, its unit and the values of its
-    // column stand k records apart.
-    let apart = |column: usize| units[column].offset - headings[column].offset;
-    let value = |line: usize, column: usize| {
-        let first = headings[column].offset + (1 + line) * apart(column);
-        library::read_number(&entry[first..first + 11])
+    let first = match library::heading(entry, number, section, 1) {
+        Err(NoAnswer { number: 32 | 33, .. }) => return Ok(None),
+        answer => answer?.offset,
     };
-    let line = |line| (0..headings.len()).map(|column| value(line, column)).collect();
-    let lines = (1..=last_line(entry, number, section)).map(line).collect::<Result<_, _>>()?;
-    Ok(Some((columns.collect(), lines)))
+    // The section's own record stands before its headings.
+    let own = &entry[first - RECORD..first];
+    let columns = count(&own[11..22]);
+    let lines = if section == DATA { count(&own[22..33]) } else { 1 };
+    // "k heading records, k unit records, then value records, k to a line"
+    let k = columns.div_ceil(6);
+    let cell = |row: usize, column: usize| {
+        let at = first + (row * k + column / 6) * RECORD + column % 6 * 11;
+        &entry[at..at + 11]
+    };
+    let headed = (0..columns).map(|column| Column {
+        heading: written(&cell(0, column)[..10]),
+        pointer: Some(char::from(cell(0, column)[10])).filter(|&pointer| pointer != ' '),
+        unit: written(&cell(1, column)[..10]),
+    });
+    let line = |line| (0..columns).map(|column| library::read_number(cell(2 + line, column))).collect();
+    Ok(Some((headed.collect(), (0..lines).map(line).collect::<Result<_, _>>()?)))
 }
 
-/// The number of a section's last line: each line up to it has a first column, none behind it has.
-fn last_line(entry: &[u8], number: u32, section: u32) -> usize {
-    let (mut last, mut past) = (0, entry.len() / RECORD);
-    while past - last > 1 {
-        let line = (last + past) / 2;
-        match library::value(entry, number, section, line as u32, 1) {
-            Ok(_) => last = line,
-            Err(_) => past = line,
-        }
-    }
-    last
+/// "A count is blanks, then digits up to the last column."
+fn count(field: &[u8]) -> usize {
+    field.iter().filter(|byte| byte.is_ascii_digit()).fold(0, |count, digit| 10 * count + usize::from(digit - b'0'))
 }
 
 /// A place without the blanks behind its word.
