@@ -29,7 +29,7 @@ use Rattle.questions.specs.Ask.{sectionIn, columnRefusal, headingBy, headingOf,
 use Rattle.questions.specs.Ask.{passageBy, passageAnswer, sectionRefusals, noColumn, noPassage, refusal, firstOf}
 use Rattle.questions.specs.Ask.{isRefused, isSubent, noSection, answer, answerFor, noPart, partFrom, partWith}
 use Rattle.exports.specs.Words.{refusedWord}
-use Rattle.exports.specs.Questions.{answerWord, partRooms, partWord, partAt, partIn, keywordPlace}
+use Rattle.exports.specs.Questions.{Bytes, answerWord, partRooms, partWord, partAt, partIn, keywordPlace}
 use Rattle.exports.proofs.Packing.{unpacked-packed}
 use Rattle.exports.proofs.Laws.{refused-high}
 use Rattle.exports.proofs.Refusals.{Fits, answer-fits, answer-back, answer-number, Numbered, one}
@@ -89,10 +89,6 @@ part-back s number from bytes pointer few short byte = by-number (eqb number 0) 
 heading-field : (at : RecordNo) (column : ℕ) → headingPlace at column .field ≤ 5
 unfolding headingPlace
 heading-field at column = omega arith
-
--- every byte is one
-abbrev pub Bytes : List ℕ → Type 0
-Bytes s = (i : ℕ) → getD s i 0 < 2 ^ 8
 
 -- a field of an entry is that of a record, or blank
 pub field-cases : (P : List ℕ → Type 0) (s : List ℕ) (p : Place) → p .field ≤ 5

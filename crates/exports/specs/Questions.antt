@@ -74,6 +74,10 @@ partAt xs = record { answer = answer 0; first = getD xs 0 0; length = getD xs 1 
 unfoldable pub partIn : ℕ → PartAnswer
 partIn w = cond (leb (2 ^ 63) w) (noPart (answerIn (unpacked refusedRooms w))) (partAt (unpacked partRooms w))
 
+-- an entry is bytes, and so are its pointers
+abbrev pub Bytes : List ℕ → Type 0
+Bytes s = (i : ℕ) → getD s i 0 < 2 ^ 8
+
 abbrev pub copiedAt : List ℕ → Copied
 copiedAt xs =
     record { number = getD xs 0 0; refusal = getD xs 1 0; «record» = record { 0 = getD xs 2 0 }; column = getD xs 3 0 }
