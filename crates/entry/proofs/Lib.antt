@@ -3,3 +3,5 @@ pub mod Following
 pub mod Numbered
 pub mod Stepping
 pub mod GoingOn
+pub mod FirstRefused
+pub mod FirstAlone

@@ -1,3 +1,5 @@
 pub mod Next
 pub mod Verdict
 pub mod Numbers
+pub mod Contexts
+pub mod First
