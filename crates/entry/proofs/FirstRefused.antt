@@ -2,68 +2,32 @@
 -- the next as long as nothing is found, and hands out the least that is found on a record.
 -- Assumes nothing.
 use Prim.Native.Nat.{ℕ, zero, suc, _+_, _/_, _<_, _≤_}
-use mathlib.Core.Path.{_≡_, refl, _∙_, ap, subst}
+use mathlib.Core.Path.{_≡_, refl, subst}
 use mathlib.Core.Bool.{Bool, true, false, cond}
 use mathlib.Core.List.{List, [], _∷_}
 use native.Mathlib.Omega.{arith}
-use native.Mathlib.Numerals.{add-one}
 use borrow.Author.Tests.{ne-eqb, leb-true, leb-false}
 use lib.Dec.{eqb, leb}
-use lib.ListN.{length, getD}
+use lib.ListN.{length}
 use Rattle.laws.specs.Turns.{Turn, after, run}
 use Rattle.laws.specs.Walk.{walk}
 use Rattle.laws.specs.Blocks.{blocks, blockAt}
 use Rattle.laws.proofs.Blocks.{run-walk}
 use Rattle.record.specs.Columns.{recordOf}
 use Rattle.record.specs.Fields.{fieldsOf}
-use Rattle.record.specs.Identifier.{ENTRY, BIB, COMMON, DATA}
-use Rattle.record.specs.Word.{blankTo}
 use Rattle.rules.specs.declared.fault.Fault.{Fault}
 use Rattle.rules.specs.declared.fault.Fault.the-variants.{Fine, At}
-use Rattle.rules.specs.declared.state.Track.{Track}
 use Rattle.rules.specs.State.{Context, startContext}
-use Rattle.rules.specs.Role.{TEXT, isSystem, opensSubentry, isHeading, isUnit, isValue}
 use Rattle.rules.specs.Fault.{leftmost, Finding, firstFault}
 use Rattle.rules.specs.Order.{faultOf, Least}
-use Rattle.rules.proofs.EitherWay.{either-way}
 use Rattle.rules.proofs.Least.{fault-least, fault-none}
 use Rattle.entry.specs.declared.verdict.Verdict.{Verdict}
-use Rattle.entry.specs.Next.{trackAfter, afterSystem, afterInside, textRead, contextAfter}
 use Rattle.entry.specs.Verdict.{refused, accepted, roleOf, onFault, turnAs, turnOf, endOf, isDone, lengthGood}
 use Rattle.entry.specs.Verdict.{judgeOf}
 use Rattle.entry.specs.Contexts.{behind, contextAt}
 use Rattle.entry.specs.First.{foundIn, foundAt, Nothing, NothingBefore, First, by-length, by-record, by-end}
 use Rattle.entry.specs.First.{by-none, RefusedFirst}
-
--- ---- the number of a record
-
-count-next : (t : Track) (role : ℕ) (fs : List (List ℕ)) (r : List ℕ)
-    → trackAfter t role fs r .records .0 ≡ t .records .0 + 1
-unfolding trackAfter afterSystem afterInside textRead
-count-next t role fs r =
-    either-way P (isSystem role) _ _
-    (either-way P (eqb role ENTRY) _ _ refl
-    (either-way P (opensSubentry role) _ _ refl
-    (either-way P (eqb role BIB) _ _ refl
-    (either-way P (eqb role COMMON) _ _ refl (either-way P (eqb role DATA) _ _ refl refl)))))
-    (either-way P (eqb role TEXT) _ _ (either-way P (blankTo 10 (getD fs 0 [])) _ _ refl refl)
-    (either-way P (isHeading role) _ _ refl
-    (either-way P (isUnit role) _ _ refl (either-way P (isValue role) _ _ refl refl))))
-  where
-    P : Track → Type 0
-    P u = u .records .0 ≡ t .records .0 + 1
-
-pub records-at : (s : List ℕ) (i : ℕ) → contextAt s i .track .records .0 ≡ i
-unfolding contextAt contextAfter
-records-at s zero = refl
-records-at s (suc i) =
-    let c = contextAt s i in
-    let r = blockAt 81 s i in
-    count-next (c .track) (roleOf c r) (fieldsOf r) r ∙ ap (λ (k : ℕ). k + 1) (records-at s i) ∙ add-one i
-
-context-next : (s : List ℕ) (i : ℕ) → contextAt s (i + 1) ≡ behind (contextAt s i) (blockAt 81 s i)
-unfolding contextAt
-context-next s i = rw (add-one i) refl
+use Rattle.entry.proofs.Contexts.{records-at, context-next}
 
 -- ---- one record
 

@@ -3,5 +3,6 @@ pub mod Following
 pub mod Numbered
 pub mod Stepping
 pub mod GoingOn
+pub mod Contexts
 pub mod FirstRefused
 pub mod FirstAlone

@@ -33,8 +33,8 @@ Nothing fs = (k : ℕ) → k < length fs → getD fs k noFinding .columns ≡ []
 abbrev pub NothingBefore : List ℕ → ℕ → Type 0
 NothingBefore s n = (j : ℕ) → j < n → Nothing (foundAt s j)
 
--- the number n at the column k, counted from 1, is the least found on the record with the index i, and nothing is found
--- on an earlier one
+-- the number n at the column k is the least found on the record with the index i, and nothing is found on an earlier
+-- one; columns are counted from 1, so a rule that finds nothing has none
 pub record FirstAt (s : List ℕ) (i n k : ℕ) : Type 0 where
   pub length-good : lengthGood (length s) ≡ true
   pub there : i < length s / 81
