@@ -21,8 +21,9 @@ use Rattle.entry.proofs.FirstRefused.{refused-first}
 -- ---- the least of what is found
 
 -- where something is the least, something is found
-some-found : (fs : List Finding) (n k : ℕ) → 1 ≤ k → Least fs n k → Nothing fs → ⊥
-some-found fs n k h l none =
+some-found : (fs : List Finding) (n k : ℕ) → Least fs n k → Nothing fs → ⊥
+some-found fs n k l none =
+    let h = l .some in
     let z : 0 ≡ k = sym (ap leftmost (none (l .at) (l .there))) ∙ l .column in
     omega arith
 
@@ -30,9 +31,9 @@ leftmost-first : (ks : List ℕ) (k : ℕ) → 1 ≤ k → leftmost ks ≡ k →
 leftmost-first [] k h e = absurd (omega arith)
 leftmost-first (c ∷ ks) k h e = (omega arith, e)
 
-least-before : (fs : List Finding) (n k m j : ℕ) → 1 ≤ j → Least fs n k → Least fs m j → Before n k m j
-least-before fs n k m j h a b =
-    let (some, column) = leftmost-first (getD fs (b .at) noFinding .columns) j h (b .column) in
+least-before : (fs : List Finding) (n k m j : ℕ) → Least fs n k → Least fs m j → Before n k m j
+least-before fs n k m j a b =
+    let (some, column) = leftmost-first (getD fs (b .at) noFinding .columns) j (b .some) (b .column) in
     rw (b .number, column) at (a .least (b .at) 0 (b .there) some)
 
 both-before : (n k m j : ℕ) → Before n k m j → Before m j n k → (n ≡ m) × (k ≡ j)
@@ -45,7 +46,7 @@ both-before n k m j (inr a) (inr b) = let z = a .1 in let w = b .1 in (a .0, ome
 
 module _ (s : List ℕ) where
   none-here : (i n k : ℕ) → FirstAt s i n k → (m : ℕ) → i < m → NothingBefore s m → ⊥
-  none-here i n k a m l none = some-found (foundAt s i) n k (a .column) (a .least) (none i l)
+  none-here i n k a m l none = some-found (foundAt s i) n k (a .least) (none i l)
 
   one-place : (i n k j m l : ℕ) → FirstAt s i n k → FirstAt s j m l → i ≡ j
   one-place i n k j m l a b = by-test (leb i j) refl (leb j i) refl
@@ -57,8 +58,8 @@ module _ (s : List ℕ) where
 
   one-fault : (i n k m l : ℕ) → FirstAt s i n k → FirstAt s i m l → (n ≡ m) × (k ≡ l)
   one-fault i n k m l a b =
-      both-before n k m l (least-before (foundAt s i) n k m l (b .column) (a .least) (b .least))
-      (least-before (foundAt s i) m l n k (a .column) (b .least) (a .least))
+      both-before n k m l (least-before (foundAt s i) n k m l (a .least) (b .least))
+      (least-before (foundAt s i) m l n k (b .least) (a .least))
 
   one-refusal : (i n k j m l : ℕ) → FirstAt s i n k → FirstAt s j m l
       → refused n (record { 0 = i + 1 }) k ≡ refused m (record { 0 = j + 1 }) l

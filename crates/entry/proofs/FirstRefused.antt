@@ -4,10 +4,10 @@
 use Prim.Native.Nat.{ℕ, zero, suc, _+_, _/_, _<_, _≤_}
 use mathlib.Core.Path.{_≡_, refl, subst}
 use mathlib.Core.Bool.{Bool, true, false, cond}
-use mathlib.Core.List.{List, [], _∷_}
+use mathlib.Core.List.{List}
 use native.Mathlib.Omega.{arith}
-use borrow.Author.Tests.{ne-eqb, leb-true, leb-false}
-use lib.Dec.{eqb, leb}
+use borrow.Author.Tests.{leb-true, leb-false}
+use lib.Dec.{leb}
 use lib.ListN.{length}
 use Rattle.laws.specs.Turns.{Turn, after, run}
 use Rattle.laws.specs.Walk.{walk}
@@ -18,7 +18,6 @@ use Rattle.record.specs.Fields.{fieldsOf}
 use Rattle.rules.specs.declared.fault.Fault.{Fault}
 use Rattle.rules.specs.declared.fault.Fault.the-variants.{Fine, At}
 use Rattle.rules.specs.State.{Context, startContext}
-use Rattle.rules.specs.Fault.{leftmost, Finding, firstFault}
 use Rattle.rules.specs.Order.{faultOf, Least}
 use Rattle.rules.proofs.Least.{fault-least, fault-none}
 use Rattle.entry.specs.declared.verdict.Verdict.{Verdict}
@@ -31,20 +30,6 @@ use Rattle.entry.proofs.Contexts.{records-at, context-next}
 
 -- ---- one record
 
--- a fault has a column
-column-some : (fs : List Finding) (n k : ℕ) → firstFault fs ≡ At n k → 1 ≤ k
-unfolding firstFault
-column-some [] n k e = let z : _≡_ {A = ℕ} 0 1 = cc in absurd (omega arith)
-column-some (f ∷ fs) n k e = by-column (leftmost (f .columns)) e (column-some fs n k)
-  where
-    by-column : (a : ℕ) → cond (eqb a 0) (firstFault fs) (At (f .number) a) ≡ At n k → (firstFault fs ≡ At n k → 1 ≤ k)
-        → 1 ≤ k
-    by-column zero e rest = rest e
-    by-column (suc a) e rest =
-        let h : At (f .number) (suc a) ≡ At n k = rw (ne-eqb (suc a) 0 (omega arith)) at e in
-        let z : suc a ≡ k = cc in
-        omega arith
-
 module _ (c : Context) (r : List ℕ) where
   abbrev faultIn : Fault
   faultIn = faultOf (c .track) (c .seen) (roleOf c r) (fieldsOf r) r
@@ -54,10 +39,6 @@ module _ (c : Context) (r : List ℕ) where
 
   least-in : (n k : ℕ) → faultIn ≡ At n k → Least (foundIn c r) n k
   least-in n k e = fault-least (c .track) (c .seen) (roleOf c r) (fieldsOf r) r n k e
-
-  column-in : (n k : ℕ) → faultIn ≡ At n k → 1 ≤ k
-  unfolding faultOf
-  column-in n k e = column-some (foundIn c r) n k e
 
 -- ---- record by record
 
@@ -105,7 +86,6 @@ module _ (s : List ℕ) (good : lengthGood (length s) ≡ true) where
             length-good = good;
             there = l;
             earlier = h;
-            column = column-in (contextAt s i) (blockAt 81 s i) n k e;
             least = least-in (contextAt s i) (blockAt 81 s i) n k e;
           }))
 

@@ -4,7 +4,7 @@
 --   column."
 --
 -- Said of all that the rules find, record by record; how a judge comes to it plays no part here.
-use Prim.Native.Nat.{ℕ, _+_, _/_, _<_, _≤_}
+use Prim.Native.Nat.{ℕ, _+_, _/_, _<_}
 use mathlib.Core.Path.{_≡_}
 use mathlib.Core.Bool.{true, false}
 use mathlib.Core.List.{List, []}
@@ -34,12 +34,11 @@ abbrev pub NothingBefore : List ℕ → ℕ → Type 0
 NothingBefore s n = (j : ℕ) → j < n → Nothing (foundAt s j)
 
 -- the number n at the column k is the least found on the record with the index i, and nothing is found on an earlier
--- one; columns are counted from 1, so a rule that finds nothing has none
+-- one
 pub record FirstAt (s : List ℕ) (i n k : ℕ) : Type 0 where
   pub length-good : lengthGood (length s) ≡ true
   pub there : i < length s / 81
   pub earlier : NothingBefore s i
-  pub column : 1 ≤ k
   pub least : Least (foundAt s i) n k
 
 -- nothing is found on any record

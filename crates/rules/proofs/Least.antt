@@ -7,7 +7,7 @@ use mathlib.Core.Bool.{Bool, true, false, cond, not, _&&_, _||_}
 use mathlib.Core.List.{List, [], _∷_, _++_}
 use mathlib.Core.Logic.{_⊎_, inl, inr}
 use native.Mathlib.Omega.{arith}
-use borrow.Author.Tests.{eqb-true}
+use borrow.Author.Tests.{eqb-true, eqb-false}
 use lib.Dec.{eqb}
 use lib.ListN.{length, getD}
 use Rattle.record.specs.Class.{notPermitted}
@@ -110,6 +110,10 @@ sorted-at a [] s i h = absurd (omega arith)
 sorted-at a (f ∷ fs) (also l r s) zero h = l
 sorted-at a (f ∷ fs) (also l r s) (suc i) h = let m = sorted-at (f .number) fs s i (omega arith) in omega arith
 
+from-one : (a k : ℕ) → (a ≡ 0 → ⊥) → a ≡ k → 1 ≤ k
+from-one zero k h e = absurd (h refl)
+from-one (suc a) k h e = omega arith
+
 first-least : (a : ℕ) (fs : List Finding) → Sorted a fs → (n k : ℕ) → firstFault fs ≡ At n k → Least fs n k
 unfolding firstFault
 first-least a [] s n k e = let z : _≡_ {A = ℕ} 0 1 = cc in absurd (omega arith)
@@ -138,6 +142,7 @@ first-least a (f ∷ fs) (also low rising s) n k e =
           there = let l = rest .there in omega arith;
           number = rest .number;
           column = rest .column;
+          some = rest .some;
           least = λ i j l m. further i j l m empty rest;
         }
     by-test false q h next =
@@ -148,6 +153,7 @@ first-least a (f ∷ fs) (also low rising s) n k e =
           there = omega arith;
           number = same-number;
           column = same-column;
+          some = from-one (leftmost (f .columns)) k (eqb-false (leftmost (f .columns)) 0 q) same-column;
           least = λ i j l m. first i j l m same-number same-column;
         }
 

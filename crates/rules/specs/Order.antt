@@ -62,11 +62,13 @@ Before n k m j = (n < m) ⊎ ((n ≡ m) × (k ≤ j))
 abbrev pub noFinding : Finding
 noFinding = finding 0 []
 
--- the fault n at the column k is one of what is found, and none of it comes before
+-- the fault n at the column k is one of what is found, and none of it comes before; columns are counted from 1, so a
+-- rule that finds nothing has none
 pub record Least (fs : List Finding) (n k : ℕ) : Type 0 where
   pub at : ℕ
   pub there : at < length fs
   pub number : getD fs at noFinding .number ≡ n
   pub column : leftmost (getD fs at noFinding .columns) ≡ k
+  pub some : 1 ≤ k
   pub least : (i j : ℕ) → i < length fs → j < length (getD fs i noFinding .columns)
       → Before n k (getD fs i noFinding .number) (getD (getD fs i noFinding .columns) j 0)
