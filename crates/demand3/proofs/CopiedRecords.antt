@@ -26,7 +26,7 @@ use Rattle.questions.specs.Place.{hasRecord, fieldsAt, identifierAt, fieldOf}
 use Rattle.inside.specs.Inside.{contextAt, roleAt, behind}
 use Rattle.inside.proofs.Contexts.{Walked, walked}
 use Rattle.questions.proofs.Records.{record-there}
-use Rattle.inside.proofs.RowFound.{fields-at}
+use Rattle.inside.proofs.RowWalked.{fields-at}
 use Rattle.copy.specs.Copy.{copyRecord, recordsOf, copyOf}
 use Rattle.copy.proofs.FaithfulRecords.{identifier-kept, not-copied, faithful}
 use Rattle.copy.proofs.Demand.{passed, copy-long, copy-records}

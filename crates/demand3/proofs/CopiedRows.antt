@@ -25,7 +25,7 @@ use Rattle.questions.specs.Place.{COMMON-SECTION, DATA-SECTION, fieldsAt, shape
 use Rattle.questions.specs.Ask.{sectionIn}
 use Rattle.inside.specs.Inside.{contextAt, roleAt}
 use Rattle.inside.proofs.Contexts.{walked}
-use Rattle.inside.proofs.RowFound.{rowAt, found-row, records-at}
+use Rattle.inside.proofs.RowWalked.{rowAt, found-row, records-at}
 use Rattle.copy.specs.Copy.{copyRecord, copyOf}
 use Rattle.copy.proofs.FaithfulRecords.{role-kept, not-copied}
 use Rattle.copy.proofs.Demand.{passed, copy-long, copy-accepted}

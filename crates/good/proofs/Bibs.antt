@@ -29,9 +29,11 @@ use Rattle.good.proofs.Moves.{Moved, moved-on, recount, quiet}
 use Rattle.good.proofs.Texts.{Other, InText, AfterText, after-texts, pass-texts, texts-pass, texts-left, Holding}
 use Rattle.good.proofs.Texts.{run-texts, bearing}
 use Rattle.good.proofs.Keywords.{fine-keywords, fine-following, keywords-fine, bearing-keywords, keywords-least}
-use Rattle.good.proofs.Systems.{says-as, counted1, counted2, identificationIn, Here, here-of, free-takes}
-use Rattle.good.proofs.Systems.{free-NOBIB, takes-announces, announces-takes, open-BIB, takes-end, end-takes}
-use Rattle.good.proofs.Systems.{end-BIB, following-append, following-left, following-right, following-as}
+use Rattle.good.proofs.Marks.{says-as, counted1, counted2, following-append, following-left, following-right}
+use Rattle.good.proofs.Marks.{following-as}
+use Rattle.good.proofs.Systems.{identificationIn, Here, here-of, free-takes, takes-announces, announces-takes}
+use Rattle.good.proofs.Systems.{takes-end, end-takes}
+use Rattle.good.proofs.SystemRoles.{free-NOBIB, open-BIB, end-BIB}
 
 -- ---- the context behind it
 

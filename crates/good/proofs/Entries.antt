@@ -31,8 +31,8 @@ use Rattle.good.proofs.Runs.{stepped, due, rest-of, Step}
 use Rattle.good.proofs.Openings.{takes-opens, opens-takes, later-number, number-later, after-opening}
 use Rattle.good.proofs.Openings.{takes-entry, entry-takes, after-entry, takes-endentry, endentry-takes}
 use Rattle.good.proofs.Openings.{after-endentry}
-use Rattle.good.proofs.Subentries.{Ready, afterFirst, pass-first, first-stands, first-pass-on, FirstKnown}
-use Rattle.good.proofs.Subentries.{first-known, StandsBehind, afterLater}
+use Rattle.good.proofs.FirstSubentry.{Ready, afterFirst, pass-first, first-stands, first-pass-on}
+use Rattle.good.proofs.LaterContexts.{FirstKnown, first-known, StandsBehind, afterLater}
 use Rattle.good.proofs.Later.{pass-later, later-stands, later-pass}
 
 -- ---- what is due between subentries

@@ -23,15 +23,18 @@ use Rattle.good.proofs.Steps.{next, Passes, next-pass}
 use Rattle.good.proofs.Runs.{only-role, pass-only, rest-of, Step}
 use Rattle.good.proofs.Moves.{Moved, moved-on, recount}
 use Rattle.good.proofs.Lists.{Long}
-use Rattle.good.proofs.Systems.{identificationIn, following-append, following-right, following-as}
-use Rattle.good.proofs.Tables.{headingRows, columnsIn, afterTable, BehindTable, pass-table, GoodHere}
-use Rattle.good.proofs.Tables.{table-behind, table-pass}
+use Rattle.good.proofs.Marks.{following-append, following-right, following-as, following-long}
+use Rattle.good.proofs.Systems.{identificationIn}
+use Rattle.good.proofs.TableWalked.{headingRows, columnsIn, afterTable, BehindTable}
+use Rattle.good.proofs.TablesPassed.{pass-table}
+use Rattle.good.proofs.TablesGood.{GoodHere, table-behind, table-pass}
+use Rattle.good.proofs.Subentries.{texts-long, rows-long, part-shown, part-headings, data-due, end-due}
+use Rattle.good.proofs.Subentries.{encloses-of, of-encloses}
+use Rattle.good.proofs.SubentryHeads.{afterHead, Head, pass-head, HeadGood, good-head, head-pass, Begun}
+use Rattle.good.proofs.LaterContexts.{FirstKnown, StandsBehind, headedBy, afterLater, begun-later, stands-later}
+use Rattle.good.proofs.LaterContexts.{pointersBehind, data-known, occurs-same, headings-together}
+use Rattle.good.proofs.LaterContexts.{together-common, together-new}
 use Rattle.good.proofs.Openings.{takes-opens, opens-takes, later-number, number-later}
-use Rattle.good.proofs.Subentries.{following-long, texts-long, rows-long, part-shown, part-headings, data-due}
-use Rattle.good.proofs.Subentries.{end-due, afterHead, Head, pass-head, HeadGood, good-head, head-pass}
-use Rattle.good.proofs.Subentries.{encloses-of, of-encloses, FirstKnown, StandsBehind, headedBy, afterLater}
-use Rattle.good.proofs.Subentries.{begun-later, stands-later, pointersBehind, data-known, occurs-same}
-use Rattle.good.proofs.Subentries.{headings-together, together-common, together-new, Begun}
 
 -- ---- the whole body
 

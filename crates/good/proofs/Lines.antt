@@ -17,8 +17,8 @@ use Rattle.good.specs.Totals.{numbersOfLines}
 use Rattle.good.proofs.Steps.{Passes}
 use Rattle.good.proofs.Runs.{Run, afterRun}
 use Rattle.good.proofs.Moves.{Moved, still, moved-on, recount}
-use Rattle.good.proofs.Systems.{identificationIn, following-append, following-left, following-right}
-use Rattle.good.proofs.Systems.{following-as}
+use Rattle.good.proofs.Marks.{following-append, following-left, following-right, following-as}
+use Rattle.good.proofs.Systems.{identificationIn}
 use Rattle.good.proofs.Rows.{Kind, values, roleFor, RowAt, NoEnd, InRow, pass-row, row-pass, row-left}
 use Rattle.good.proofs.Rows.{linesOf as rowLines}
 use Rattle.good.proofs.Values.{behind-values, count-numbers, values-good}

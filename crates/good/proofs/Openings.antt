@@ -25,8 +25,9 @@ use Rattle.good.specs.Marks.{Marked, nameOf, n1, n2, Says}
 use Rattle.good.specs.Subentries.{Opens, ownNumber}
 use Rattle.good.specs.Good.{GoodOpening, GoodEnding}
 use Rattle.good.proofs.Steps.{Takes, next, when-none, none-when, takes-marked}
-use Rattle.good.proofs.Systems.{SystemRole, system-role, takes-rules, rules-takes, says-as, takes-end, end-takes}
-use Rattle.good.proofs.Systems.{end-SUBENT, end-ENTRY}
+use Rattle.good.proofs.Marks.{says-as}
+use Rattle.good.proofs.Systems.{SystemRole, takes-rules, rules-takes, takes-end, end-takes}
+use Rattle.good.proofs.SystemRoles.{system-role, end-SUBENT, end-ENTRY}
 
 -- ---- SUBENT, and NOSUBENT where the Boolean is true
 

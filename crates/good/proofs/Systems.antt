@@ -1,34 +1,29 @@
--- System records: their N1 and N2 by the judge's rules 7, 8 and 9, and what they change of the context. Assumes
--- nothing.
-use Prim.Native.Nat.{ℕ, suc, _+_}
-use mathlib.Core.Path.{_≡_, refl, sym, _∙_, ap}
+-- System records: their N1 and N2 by the judge's rules 7, 8 and 9, for those without counts, those that announce a
+-- section and those that end one. Assumes nothing.
+use Prim.Native.Nat.{ℕ, _+_}
+use mathlib.Core.Path.{_≡_}
 use mathlib.Core.Bool.{true, false, not}
-use mathlib.Core.List.{List, [], _∷_, _++_}
+use mathlib.Core.List.{List}
 use native.Mathlib.Omega.{arith}
 use lib.Dec.{eqb}
-use lib.ListN.{length}
 use borrow.Author.Tests.{eqb-true, eq-eqb, not-false}
-use Rattle.laws.proofs.Booleans.{and-left, and-right, differ}
+use Rattle.laws.proofs.Booleans.{and-left, and-right}
 use Rattle.laws.specs.Search.{first}
 use Rattle.record.specs.Fields.{fieldsOf}
-use Rattle.record.specs.Word.{equalTo}
-use Rattle.record.specs.Identifier.{BIB, NOBIB, ENDBIB, COMMON, NOCOMMON, ENDCOMMON, DATA, NODATA, ENDDATA, ENDSUBENT}
-use Rattle.record.specs.Identifier.{ENDENTRY, isEnd}
-use Rattle.record.specs.System.{countOf, isCount, numberOf}
+use Rattle.record.specs.Identifier.{isEnd}
 use Rattle.record.specs.Expected.{identificationFor}
-use Rattle.record.specs.declared.system.Count.{Count}
-use Rattle.record.specs.declared.system.Count.the-variants.{Number, Bad}
 use Rattle.rules.specs.declared.state.Track.{Track}
 use Rattle.rules.specs.State.{Context}
 use Rattle.rules.specs.Role.{TEXT, DATA-HEADING, NOT-DUE, isSystem, opensSubentry, opensSection, isHeading, isUnit}
 use Rattle.rules.specs.Role.{isValue}
 use Rattle.rules.specs.Fault.{on, leftmost}
-use Rattle.rules.specs.Every.{expectedIdentification, expectedSequence, n1 as field1, n2 as field2}
+use Rattle.rules.specs.Every.{n1 as field1, n2 as field2}
 use Rattle.rules.specs.System.{FREE, COUNT, formN1, formN2, inForm, rule7, countN1, countN2, limitN1, limitN2, meets}
 use Rattle.rules.specs.System.{announcedFault, trueCount, keywordsTrue, countTrue, rule8, rule9}
 use Rattle.good.specs.Parts.{Record}
-use Rattle.good.specs.Marks.{Marked, Following, n1, n2, Says}
+use Rattle.good.specs.Marks.{Marked, n1, n2, Says}
 use Rattle.good.proofs.Steps.{Takes, MarkedFor, when-none, whens-none, takes-marked, takes-own, own-takes}
+use Rattle.good.proofs.Marks.{counted-says, says-as, says-number, says-count}
 
 -- ---- the rules, one by one
 
@@ -72,32 +67,6 @@ none-end : (t : Track) (role : ℕ) (fs : List (List ℕ)) → opensSection role
     → countTrue t role (countN1 fs) ≡ true → leftmost (rule8 t role fs) ≡ 0
 unfolding rule8
 none-end t role fs o d e = rw (o, d) (rw e)
-
--- ---- counts
-
-pub counted-says : (f : List ℕ) → isCount (countOf f) ≡ true → Says f (numberOf (countOf f))
-counted-says f e = by-count (countOf f) refl e
-  where
-    by-count : (x : Count) → countOf f ≡ x → isCount x ≡ true → x ≡ Number (numberOf x)
-    by-count (Number n) q h = refl
-    by-count Bad q h = differ (sym h)
-
-pub says-as : (f : List ℕ) (m n : ℕ) → Says f m → m ≡ n → Says f n
-says-as f m n s e = s ∙ ap Number e
-
-pub says-number : (f : List ℕ) (n : ℕ) → Says f n → numberOf (countOf f) ≡ n
-says-number f n s = ap numberOf s
-
-pub says-count : (f : List ℕ) (n : ℕ) → Says f n → isCount (countOf f) ≡ true
-says-count f n s = ap isCount s
-
-pub counted1 : (r : Record) (n : ℕ) → Says (n1 r) n → countN1 (fieldsOf r) ≡ n
-unfolding fieldsOf
-counted1 r n s = says-number (n1 r) n s
-
-pub counted2 : (r : Record) (n : ℕ) → Says (n2 r) n → countN2 (fieldsOf r) ≡ n
-unfolding fieldsOf
-counted2 r n s = says-number (n2 r) n s
 
 -- ---- system records
 
@@ -259,176 +228,3 @@ end-takes c role r e m s k =
           ));
       rule-9 = rw (e .not-opening);
     })
-
--- ---- the fourteen
-
-pub system-role : (role : ℕ) → isSystem role ≡ true → eqb role TEXT ≡ false → isHeading role ≡ false
-    → isUnit role ≡ false
-    → eqb role DATA-HEADING ≡ false → isValue role ≡ false → eqb role NOT-DUE ≡ false → SystemRole role
-system-role role a b c d e f g =
-    record { system = a; text = b; heading = c; unit = d; data-heading = e; value = f; due = g }
-
-inside-NOBIB : Inside NOBIB
-unfolding expectedIdentification expectedSequence
-inside-NOBIB =
-    record {
-      role-of = system-role NOBIB refl refl refl refl refl refl refl;
-      not-opening = refl;
-      marked = λ c r. (λ m. m, λ m. m);
-    }
-
-inside-NOCOMMON : Inside NOCOMMON
-unfolding expectedIdentification expectedSequence
-inside-NOCOMMON =
-    record {
-      role-of = system-role NOCOMMON refl refl refl refl refl refl refl;
-      not-opening = refl;
-      marked = λ c r. (λ m. m, λ m. m);
-    }
-
-inside-NODATA : Inside NODATA
-unfolding expectedIdentification expectedSequence
-inside-NODATA =
-    record {
-      role-of = system-role NODATA refl refl refl refl refl refl refl;
-      not-opening = refl;
-      marked = λ c r. (λ m. m, λ m. m);
-    }
-
-pub free-NOBIB : FreeRole NOBIB
-unfolding formN1 formN2 isEnd equalTo first
-free-NOBIB = record { inside = inside-NOBIB; form1 = refl; form2 = refl; not-section = refl; not-end = refl }
-
-pub free-NOCOMMON : FreeRole NOCOMMON
-unfolding formN1 formN2 isEnd equalTo first
-free-NOCOMMON = record { inside = inside-NOCOMMON; form1 = refl; form2 = refl; not-section = refl; not-end = refl }
-
-pub free-NODATA : FreeRole NODATA
-unfolding formN1 formN2 isEnd equalTo first
-free-NODATA = record { inside = inside-NODATA; form1 = refl; form2 = refl; not-section = refl; not-end = refl }
-
-inside-BIB : Inside BIB
-unfolding expectedIdentification expectedSequence
-inside-BIB =
-    record {
-      role-of = system-role BIB refl refl refl refl refl refl refl;
-      not-opening = refl;
-      marked = λ c r. (λ m. m, λ m. m);
-    }
-
-inside-COMMON : Inside COMMON
-unfolding expectedIdentification expectedSequence
-inside-COMMON =
-    record {
-      role-of = system-role COMMON refl refl refl refl refl refl refl;
-      not-opening = refl;
-      marked = λ c r. (λ m. m, λ m. m);
-    }
-
-inside-DATA : Inside DATA
-unfolding expectedIdentification expectedSequence
-inside-DATA =
-    record {
-      role-of = system-role DATA refl refl refl refl refl refl refl;
-      not-opening = refl;
-      marked = λ c r. (λ m. m, λ m. m);
-    }
-
-pub open-BIB : OpenRole BIB
-unfolding formN1 formN2
-open-BIB = record { inside = inside-BIB; form1 = refl; form2 = refl; section = refl }
-
-pub open-COMMON : OpenRole COMMON
-unfolding formN1 formN2
-open-COMMON = record { inside = inside-COMMON; form1 = refl; form2 = refl; section = refl }
-
-pub open-DATA : OpenRole DATA
-unfolding formN1 formN2
-open-DATA = record { inside = inside-DATA; form1 = refl; form2 = refl; section = refl }
-
-pub end-BIB : EndRole ENDBIB
-unfolding formN1 formN2 isEnd equalTo first
-end-BIB =
-    record {
-      role-of = system-role ENDBIB refl refl refl refl refl refl refl;
-      not-opening = refl;
-      form1 = refl;
-      form2 = refl;
-      not-section = refl;
-      end = refl;
-    }
-
-pub end-COMMON : EndRole ENDCOMMON
-unfolding formN1 formN2 isEnd equalTo first
-end-COMMON =
-    record {
-      role-of = system-role ENDCOMMON refl refl refl refl refl refl refl;
-      not-opening = refl;
-      form1 = refl;
-      form2 = refl;
-      not-section = refl;
-      end = refl;
-    }
-
-pub end-DATA : EndRole ENDDATA
-unfolding formN1 formN2 isEnd equalTo first
-end-DATA =
-    record {
-      role-of = system-role ENDDATA refl refl refl refl refl refl refl;
-      not-opening = refl;
-      form1 = refl;
-      form2 = refl;
-      not-section = refl;
-      end = refl;
-    }
-
-pub end-SUBENT : EndRole ENDSUBENT
-unfolding formN1 formN2 isEnd equalTo first
-end-SUBENT =
-    record {
-      role-of = system-role ENDSUBENT refl refl refl refl refl refl refl;
-      not-opening = refl;
-      form1 = refl;
-      form2 = refl;
-      not-section = refl;
-      end = refl;
-    }
-
-pub end-ENTRY : EndRole ENDENTRY
-unfolding formN1 formN2 isEnd equalTo first
-end-ENTRY =
-    record {
-      role-of = system-role ENDENTRY refl refl refl refl refl refl refl;
-      not-opening = refl;
-      form1 = refl;
-      form2 = refl;
-      not-section = refl;
-      end = refl;
-    }
-
--- ---- records that follow one another
-
-pub following-append : (identification : List ℕ) (n : ℕ) (xs ys : List Record) → Following identification n xs
-    → Following identification (n + length xs) ys → Following identification n (xs ++ ys)
-unfolding Following
-following-append identification n [] ys a b = let e : n + 0 ≡ n = omega arith in rw e at b
-following-append identification n (x ∷ xs) ys a b =
-    let e : n + suc (length xs) ≡ n + 1 + length xs = omega arith in
-    (a .0, following-append identification (n + 1) xs ys (a .1) (rw e at b))
-
-pub following-left : (identification : List ℕ) (n : ℕ) (xs ys : List Record) → Following identification n (xs ++ ys)
-    → Following identification n xs
-unfolding Following
-following-left identification n [] ys a = tt
-following-left identification n (x ∷ xs) ys a = (a .0, following-left identification (n + 1) xs ys (a .1))
-
-pub following-right : (identification : List ℕ) (n : ℕ) (xs ys : List Record) → Following identification n (xs ++ ys)
-    → Following identification (n + length xs) ys
-unfolding Following
-following-right identification n [] ys a = let e : n + 0 ≡ n = omega arith in rw e a
-following-right identification n (x ∷ xs) ys a =
-    let e : n + 1 + length xs ≡ n + suc (length xs) = omega arith in
-    rw e at (following-right identification (n + 1) xs ys (a .1))
-
-pub following-as : (a b : List ℕ) (m n : ℕ) (rs : List Record) → a ≡ b → m ≡ n → Following a m rs → Following b n rs
-following-as a b m n rs p q h = rw (p, q) at h

@@ -29,7 +29,7 @@ use Rattle.good.specs.Subentries.{pointersOn}
 use Rattle.good.proofs.Lists.{Long, pointers-joined}
 use Rattle.record.proofs.WordsAndBlanks.{heading-differs, blank-pointer}
 use Rattle.good.proofs.Earlier.{heading-cell, headings-in}
-use Rattle.good.proofs.Headings.{NewIn}
+use Rattle.good.proofs.HeadingsByColumn.{NewIn}
 
 -- ---- nothing twice, by places
 

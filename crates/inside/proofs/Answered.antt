@@ -46,7 +46,8 @@ use Rattle.inside.proofs.Contexts.{Walked, walked}
 use Rattle.inside.proofs.Laid.{rowRole, Laid}
 use Rattle.inside.proofs.TableLaid.{table-laid, sectionRole, linesOf, Opened, opened}
 use Rattle.questions.proofs.RowChanges.{Section, bib, common, table, opener, named}
-use Rattle.inside.proofs.RowFound.{Opening, row-names, row-subent, row-fields, fields-at}
+use Rattle.inside.proofs.RowWalked.{fields-at}
+use Rattle.inside.proofs.RowFound.{Opening, row-names, row-subent, row-fields}
 
 -- ---- the section that is asked for
 

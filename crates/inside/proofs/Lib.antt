@@ -2,6 +2,7 @@ pub mod Contexts
 pub mod Laid
 pub mod TableLaid
 pub mod Nesting
+pub mod RowWalked
 pub mod RowFound
 pub mod TextLaid
 pub mod TextPlaced

@@ -33,7 +33,8 @@ use Rattle.inside.specs.Inside.{BegunInside, OnePassage}
 use Rattle.inside.proofs.FoundFirst.{first-holds, first-is, and-none, equal-both, equal-taken}
 use Rattle.inside.proofs.Nesting.{or-right}
 use Rattle.inside.proofs.RecordsFrom.{place-field}
-use Rattle.inside.proofs.RowFound.{Opening, row-names, row-subent, fields-at}
+use Rattle.inside.proofs.RowWalked.{fields-at}
+use Rattle.inside.proofs.RowFound.{Opening, row-names, row-subent}
 use Rattle.inside.proofs.TextLaid.{textsOf, texts-there, text-laid, texts-number}
 use Rattle.inside.proofs.TextPlaced.{text-placed, text-behind}
 use Rattle.inside.proofs.TextsSeen.{keyword-once, pointer-once, text-under}

@@ -3,137 +3,39 @@
 -- Assumes nothing.
 use Prim.Native.Nat.{ℕ, zero, suc, _+_, _*_, _-_, _/_, _<_, _≤_}
 use mathlib.Core.Path.{_≡_, refl, sym, _∙_, ap}
-use mathlib.Core.Bool.{Bool, true, false, cond, not, _&&_, _||_}
-use mathlib.Core.List.{List, [], _∷_}
+use mathlib.Core.Bool.{Bool, true, false, cond, _||_}
+use mathlib.Core.List.{List, []}
 use native.Mathlib.Omega.{arith}
-use native.Mathlib.Nat.{zero-mul}
 use native.Mathlib.Numerals.{add-one}
-use lib.Dec.{eqb, leb}
-use lib.ListN.{length, drop, getD}
-use borrow.Author.Tests.{eqb-true, eq-eqb, ne-eqb, le-leb}
-use Rattle.laws.specs.Turns.{Turn, go, out, after}
-use Rattle.laws.specs.Walk.{walk}
-use Rattle.laws.specs.Blocks.{blocks, blockAt}
-use Rattle.laws.specs.Seeking.{Noted, noteTurn, noting}
-use Rattle.laws.proofs.Blocks.{next-block}
+use lib.Dec.{eqb}
+use lib.ListN.{length, getD}
+use borrow.Author.Tests.{eqb-true}
+use Rattle.laws.specs.Blocks.{blockAt}
 use Rattle.record.specs.Columns.{recordOf}
 use Rattle.record.specs.Fields.{fieldsOf}
 use Rattle.record.specs.Identifier.{SUBENT, NOSUBENT, BIB, COMMON, DATA, ENTRY, NOBIB, ENDBIB, NOCOMMON, ENDCOMMON}
 use Rattle.record.specs.Identifier.{NODATA, ENDDATA, ENDSUBENT, ENDENTRY, OTHER, identifierOf, isEnd}
 use Rattle.record.specs.System.{subentryOf}
-use Rattle.record.specs.Word.{blankTo}
 use Rattle.record.specs.declared.columns.RecordNo.{RecordNo}
 use Rattle.rules.specs.declared.state.Phase.{Phase}
 use Rattle.rules.specs.declared.state.Phase.the-variants.{Start, Opened, InSubentry, InBib, AfterBib, InCommon}
 use Rattle.rules.specs.declared.state.Phase.the-variants.{AfterCommon, InData, AfterData, Between, Done}
 use Rattle.rules.specs.declared.state.Track.{Track}
 use Rattle.rules.specs.State.{Context, HEADINGS, UNITS}
-use Rattle.rules.specs.Role.{TEXT, NOT-DUE, isSystem, opensSubentry, isHeading, isUnit, isValue, bibRole, allRead}
-use Rattle.rules.specs.Role.{tableRole, dataRole, roleIn}
+use Rattle.rules.specs.Role.{opensSubentry, bibRole, allRead, tableRole, dataRole, roleIn}
 use Rattle.rules.specs.Every.{n1}
-use Rattle.entry.specs.Next.{phaseAfter, textRead, afterSystem, afterInside, trackAfter, contextAfter}
-use Rattle.entry.specs.Verdict.{roleOf, refused, turnOf, endOf, lengthGood, judgeOf, Accepted}
-use Rattle.entry.proofs.GoingOn.{go-fine}
-use Rattle.questions.specs.declared.row.Row.{Row}
-use Rattle.questions.specs.declared.row.Located.{Located}
-use Rattle.questions.specs.Row.{NONE, emptyRow, withFirst, withBib, withCommon, withData, noted, subentryIn}
-use Rattle.questions.specs.Row.{notedAs, noteOf, leaving, locating, located, startRow, locate, rowOf}
-use Rattle.questions.specs.Place.{hasRecord, fieldsAt, identifierAt}
-use Rattle.questions.proofs.RowChanges.{Section, bib, common, table, opener, named, level, number-stays, first-stays}
-use Rattle.questions.proofs.RowChanges.{first-set, section-stays, section-set}
-use Rattle.inside.specs.Inside.{behind, contextAt, roleAt}
+use Rattle.entry.specs.Next.{phaseAfter}
+use Rattle.entry.specs.Verdict.{Accepted}
+use Rattle.questions.specs.Row.{rowOf}
+use Rattle.questions.specs.Place.{fieldsAt, identifierAt}
+use Rattle.questions.proofs.RowChanges.{Section, bib, common, table, opener, named, level, first-stays, first-set}
+use Rattle.questions.proofs.RowChanges.{section-stays, section-set}
+use Rattle.inside.specs.Inside.{contextAt, roleAt}
 use Rattle.inside.proofs.Contexts.{Walked, walked}
 use Rattle.inside.proofs.Nesting.{rank, either-as, Unnumbered, unnumbered-turn, key, Nested, nested-turn}
+use Rattle.inside.proofs.RowWalked.{rowAt, found-row, records-at, number-of, row-next, fields-at}
 
--- ---- the row by the index
-
--- the row, as the walk has it before the record with the index i
-unfoldable pub rowAt : List ℕ → ℕ → ℕ → Row
-rowAt s number zero = emptyRow number
-rowAt s number (suc i) = noteOf (contextAt s i) i (blockAt 81 s i) (rowAt s number i)
-
-locating-go : (m : Noted Context Row) (i : ℕ) (r : List ℕ) (d : Context) → turnOf (m .context) i r ≡ go d
-    → locating m i r ≡ go (record { context = d; note = noteOf (m .context) i r (m .note) })
-unfolding locating noting
-locating-go m i r d h = rw h
-
-module _ (s : List ℕ) (number n : ℕ) (w : Walked s n) where
-  abbrev stand : ℕ → Noted Context Row
-  stand i = record { context = contextAt s i; note = rowAt s number i }
-
-  walk-rows : (j i : ℕ) → i + j ≡ n
-      → walk locating located (stand i) i (blocks 81 j (drop (i * 81) s)) ≡ located (stand n)
-  unfolding walk blocks rowAt
-  walk-rows zero i e = let z : i ≡ n = omega arith in rw z
-  walk-rows (suc j) i e =
-      rw (locating-go (stand i) i (blockAt 81 s i) (contextAt s (suc i)) (w .turns i (omega arith)), next-block 81 i s, add-one i)
-      (walk-rows j (suc i) (omega arith))
-
-start-stands : (s : List ℕ) (number : ℕ)
-    → record { context = contextAt s 0; note = rowAt s number 0 } ≡ startRow number
-unfolding rowAt contextAt
-start-stands s number = refl
-
-pub found-row : (s : List ℕ) (number : ℕ) → Accepted s → rowOf s number ≡ rowAt s number (length s / 81)
-unfolding locate judgeOf
-found-row s number a = by-test (lengthGood (length s)) a
-  where
-    by-test : (b : Bool)
-        → cond b (walk turnOf endOf (startRow number .context) 0 (blocks 81 (length s / 81) s)) (refused 1 NONE 0)
-        .refusal ≡ 0
-        → cond b (walk locating located (startRow number) 0 (blocks 81 (length s / 81) s))
-        (record { verdict = refused 1 NONE 0; row = emptyRow number }) .row
-        ≡ rowAt s number (length s / 81)
-    by-test true h =
-        ap (λ (x : Located). x .row)
-        (rw (zero-mul 81, start-stands s number) at
-        (walk-rows s number (length s / 81) (walked s a) (length s / 81) 0 (omega arith)))
-    by-test false h = absurd (omega arith)
-
--- ---- along the walk
-
-count-next : (t : Track) (role : ℕ) (fs : List (List ℕ)) (r : List ℕ)
-    → trackAfter t role fs r .records .0 ≡ t .records .0 + 1
-unfolding trackAfter afterSystem afterInside textRead
-count-next t role fs r =
-    either-as P (isSystem role) _ _
-    (λ e.
-    either-as P (eqb role ENTRY) _ _ (λ e. refl)
-    (λ e.
-    either-as P (opensSubentry role) _ _ (λ e. refl)
-    (λ e.
-    either-as P (eqb role BIB) _ _ (λ e. refl)
-    (λ e. either-as P (eqb role COMMON) _ _ (λ e. refl) (λ e. either-as P (eqb role DATA) _ _ (λ e. refl) (λ e. refl))))))
-    (λ e.
-    either-as P (eqb role TEXT) _ _ (λ e. either-as P (blankTo 10 (getD fs 0 [])) _ _ (λ e. refl) (λ e. refl))
-    (λ e.
-    either-as P (isHeading role) _ _ (λ e. refl)
-    (λ e. either-as P (isUnit role) _ _ (λ e. refl) (λ e. either-as P (isValue role) _ _ (λ e. refl) (λ e. refl)))))
-  where
-    P : Track → Type 0
-    P u = u .records .0 ≡ t .records .0 + 1
-
-pub records-at : (s : List ℕ) (i : ℕ) → contextAt s i .track .records .0 ≡ i
-unfolding contextAt contextAfter
-records-at s zero = refl
-records-at s (suc i) =
-    let c = contextAt s i in
-    let r = blockAt 81 s i in
-    count-next (c .track) (roleOf c r) (fieldsOf r) r ∙ ap (λ (k : ℕ). k + 1) (records-at s i) ∙ add-one i
-
-pub number-of : (s : List ℕ) (number i : ℕ) → rowAt s number i .number ≡ number
-unfolding rowAt
-number-of s number zero = refl
-number-of s number (suc i) =
-    let c = contextAt s i in
-    let r = blockAt 81 s i in
-    number-stays (c .track) (roleOf c r) (fieldsOf r) (rowAt s number i) ∙ number-of s number i
-
-pub row-next : (s : List ℕ) (number i : ℕ)
-    → rowAt s number (suc i)
-    ≡ notedAs (contextAt s i .track) (roleAt s i) (fieldsOf (blockAt 81 s i)) (rowAt s number i)
-unfolding rowAt
-row-next s number i = refl
+-- ---- where sections and subentries open
 
 rank-behind : (k : Section) → rank (phaseAfter (opener k)) ≡ level k + 1
 unfolding phaseAfter
@@ -160,14 +62,6 @@ level-bounds : (k : Section) → (1 ≤ level k) × (level k ≤ 5)
 level-bounds bib = (omega arith, omega arith)
 level-bounds common = (omega arith, omega arith)
 level-bounds table = (omega arith, omega arith)
-
--- the record with the index i, by its number
-pub fields-at : (s : List ℕ) (i : ℕ) → suc i * 81 ≤ length s → (at : RecordNo) → at .0 ≡ suc i
-    → fieldsAt s at ≡ fieldsOf (blockAt 81 s i)
-unfolding fieldsAt
-fields-at s i h at e =
-    let z : at .0 - 1 ≡ i = omega arith in
-    rw (ne-eqb (at .0) 0 (λ q. omega arith), le-leb (at .0 * 81) (length s) (omega arith), z)
 
 -- SUBENT is due only where it stands
 subent-identifier : (p : Phase) (t : Track) (k : ℕ) → roleIn p t k ≡ SUBENT → k ≡ SUBENT

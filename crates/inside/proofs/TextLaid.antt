@@ -36,7 +36,8 @@ use Rattle.questions.proofs.RowChanges.{Section, bib, common, table, opener, na
 use Rattle.inside.specs.Inside.{behind, contextAt, roleAt, TextOf}
 use Rattle.inside.proofs.Contexts.{walked}
 use Rattle.inside.proofs.Nesting.{either-as}
-use Rattle.inside.proofs.RowFound.{rowAt, found-row, records-at, number-of, row-next, Opening, row-fields}
+use Rattle.inside.proofs.RowWalked.{rowAt, found-row, records-at, number-of, row-next}
+use Rattle.inside.proofs.RowFound.{Opening, row-fields}
 
 -- ---- one record
 

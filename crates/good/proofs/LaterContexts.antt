@@ -1,0 +1,187 @@
+-- A later subentry: the contexts before and behind it, and what its COMMON and DATA look back at. Here `first` is 001.
+-- Assumes nothing.
+use Prim.Native.Nat.{ℕ, _+_, _<_}
+use mathlib.Core.Path.{_≡_, sym, _∙_}
+use mathlib.Core.Bool.{true, false}
+use mathlib.Core.List.{List, [], _++_}
+use native.Mathlib.Omega.{arith}
+use lib.Dec.{eqb}
+use borrow.Author.Tests.{ne-eqb}
+use Rattle.laws.proofs.Listing.{all-left, all-right}
+use Rattle.laws.specs.Walk.{All}
+use Rattle.laws.specs.Blocks.{joined}
+use Rattle.laws.specs.Members.{anyOf}
+use Rattle.record.specs.Text.{isBlank}
+use Rattle.record.specs.Word.{equalTo}
+use Rattle.record.specs.Identifier.{SUBENT, ENDSUBENT}
+use Rattle.record.specs.Expected.{identificationFor}
+use Rattle.rules.specs.State.{Context}
+use Rattle.rules.specs.Headings.{pointersFor as pointersSeen}
+use Rattle.good.specs.Parts.{Record, Bib, Table, Section, bibRecords, tableRecords, First, Later, bodyOfFirst}
+use Rattle.good.specs.Bib.{textsOfPart, pointersIn}
+use Rattle.good.specs.Tables.{headingsOfPart}
+use Rattle.good.specs.Subentries.{ownNumber, NoneTwice, pointersOn, GoodFirst}
+use Rattle.good.specs.Totals.{keywordsIn, linesIn, numbersOf}
+use Rattle.good.proofs.Steps.{next}
+use Rattle.good.proofs.Lists.{Long}
+use Rattle.good.proofs.Repeats.{once-append, once-left, once-right}
+use Rattle.good.proofs.Marks.{following-long}
+use Rattle.good.proofs.HeadingsByColumn.{NewIn}
+use Rattle.good.proofs.TableKinds.{GoodPart}
+use Rattle.good.proofs.TableContexts.{PartsKnown}
+use Rattle.good.proofs.TableWalked.{headingRows, columnsIn, afterTable, BehindTable}
+use Rattle.good.proofs.Together.{Shown, shown, new-once, once-new, pointers-same}
+use Rattle.good.proofs.Openings.{after-opening, after-endsubent}
+use Rattle.good.proofs.Subentries.{texts-long, rows-long, part-shown, part-words, part-headings, Standing}
+use Rattle.good.proofs.SubentryHeads.{Begun, afterHead, Head, Behind}
+
+pub record FirstKnown (accession : List ℕ) (first : First) : Type 0 where
+  pub good : GoodFirst accession first
+  pub long-texts : All Long (textsOfPart (first .bib))
+  pub long-rows : All Long (headingRows (first .common))
+
+pub first-known : (accession : List ℕ) (first : First) → GoodFirst accession first → FirstKnown accession first
+first-known accession first g =
+    let f = following-long (identificationFor accession (ownNumber (first .opening))) 2 (bodyOfFirst first)
+    (g .encloses .between) in
+    record {
+      good = g;
+      long-texts = texts-long (first .bib) (all-left Long (bibRecords (first .bib)) (tableRecords (first .common)) f);
+      long-rows = rows-long (first .common) (all-right Long (bibRecords (first .bib)) (tableRecords (first .common)) f);
+    }
+
+abbrev pub StandsBehind : Context → List ℕ → First → ℕ → ℕ → ℕ → ℕ → ℕ → Type 0
+StandsBehind c accession first number subentries keywords lines numbers =
+    Standing c accession number subentries keywords lines numbers (textsOfPart (first .bib))
+    (headingRows (first .common))
+
+abbrev pub headedBy : Context → Later → Context
+headedBy c s = afterHead (next c SUBENT (s .opening)) (s .bib) (s .common)
+
+unfoldable pub afterLater : Context → Later → Context
+afterLater c s = next (afterTable true (headedBy c s) (s .values)) ENDSUBENT (s .ending)
+
+pub begun-later : (c : Context) (accession : List ℕ) (first : First) (number m k l n : ℕ) (r : Record)
+    → StandsBehind c accession first number m k l n → All Long (headingRows (first .common))
+    → Begun (next c SUBENT r) accession (ownNumber r) (headingRows (first .common))
+begun-later c accession first number m k l n r g long =
+    let o = after-opening false c r in
+    record {
+      phase = o .phase;
+      accession-is = o .accession ∙ g .accession-is;
+      number-is = o .number;
+      records = o .records;
+      bib = o .bib;
+      common = o .common;
+      common001 = o .common001 ∙ g .common001;
+      long = long;
+    }
+
+pub stands-later : (c : Context) (accession : List ℕ) (first : First) (number m k l n : ℕ) (s : Later)
+    → StandsBehind c accession first number m k l n → (ownNumber (s .opening) ≡ 1 → ⊥)
+    → Head (next c SUBENT (s .opening)) (s .bib) (s .common)
+    → BehindTable (headedBy c s) (afterTable true (headedBy c s) (s .values)) true (s .values)
+    → StandsBehind (afterLater c s) accession first (ownNumber (s .opening)) (m + 1) (k + keywordsIn (s .bib))
+    (l + linesIn (s .values)) (n + (numbersOf (s .common) + numbersOf (s .values)))
+unfolding afterLater
+stands-later c accession first number m k l n s g ne h t =
+    let o = after-opening false c (s .opening) in
+    let c4 = afterTable true (headedBy c s) (s .values) in
+    let e = after-endsubent c4 (s .ending) in
+    let v = h .moved in
+    let w = t .moved in
+    let q : c4 .track .subentry .number ≡ ownNumber (s .opening) = w .number ∙ v .number ∙ o .number in
+    let z = ne-eqb (c4 .track .subentry .number) 1 (λ x. ne (sym q ∙ x)) in
+    record {
+      phase = e .phase;
+      accession-is = e .accession ∙ w .accession ∙ v .accession ∙ o .accession ∙ g .accession-is;
+      number-is = e .number ∙ q;
+      subentries-are = five (e .subentries) (w .subentries) (v .subentries) (o .subentries) (g .subentries-are);
+      keywords-are = (let x1 = e .keywords in let x2 = w .keywords in let x3 = v .keywords in let x4 = o .keywords in
+          let x5 = g .keywords-are in omega arith);
+      lines-are = (let x1 = e .lines in let x2 = w .lines in let x3 = v .lines in let x4 = o .lines in
+          let x5 = g .lines-are in omega arith);
+      numbers-are = (let x1 = e .numbers in let x2 = w .numbers in let x3 = v .numbers in let x4 = o .numbers in
+          let x5 = g .numbers-are in omega arith);
+      bib001 = e .bib001 ∙ rw z (w .bib001 ∙ v .bib001 ∙ o .bib001 ∙ g .bib001);
+      common001 = e .common001 ∙ rw z (w .common001 ∙ v .common001 ∙ o .common001 ∙ g .common001);
+    }
+  where
+    five : {a b d e f : ℕ} → a ≡ b → b ≡ d → d ≡ e → e ≡ f + 1 → f ≡ m → a ≡ m + 1
+    five p q r s t = omega arith
+
+-- what DATA looks back at
+abbrev pub pointersBehind : First → Section Bib → Section Table → List ℕ
+pointersBehind first bib common =
+    pointersSeen (joined (textsOfPart bib)) (joined (textsOfPart (first .bib))) (joined (headingRows common))
+    (joined (headingRows (first .common)))
+
+pub data-known : (c : Context) (accession : List ℕ) (first : First) (number m k l n : ℕ) (r : Record)
+    (bib : Section Bib)
+    (common : Section Table) → StandsBehind c accession first number m k l n → FirstKnown accession first
+    → All Long (headingRows common) → Head (next c SUBENT r) bib common
+    → PartsKnown (headingRows (first .common)) (headingRows common) (pointersBehind first bib common)
+    (afterHead (next c SUBENT r) bib common)
+data-known c accession first number m k l n r bib common g f long h =
+    let o = after-opening false c r in
+    let v = h .moved in
+    let a : afterHead (next c SUBENT r) bib common .seen .bib001 ≡ joined (textsOfPart (first .bib)) =
+    v .bib001 ∙ o .bib001 ∙ g .bib001 in
+    let b : afterHead (next c SUBENT r) bib common .seen .common001 ≡ joined (headingRows (first .common)) =
+    v .common001 ∙ o .common001 ∙ g .common001 in
+    record {
+      first-part = b;
+      common-part = h .common-part;
+      long-first = f .long-rows;
+      long-common = long;
+      named = rw (h .bib-part, a, h .common-part, b);
+    }
+
+-- a pointer found by the judge occurs, and the other way round
+pub occurs-same : (first : First) (bib : Section Bib) (common : Section Table) → All Long (textsOfPart bib)
+    → All Long (textsOfPart (first .bib)) → All Long (headingRows common) → All Long (headingRows (first .common))
+    → Shown (headingRows common) (columnsIn common) → Shown (headingRows (first .common)) (columnsIn (first .common))
+    → (p : ℕ) → isBlank p ≡ false
+    → anyOf (eqb p) (pointersBehind first bib common)
+    ≡ anyOf (eqb p) (pointersIn (textsOfPart bib) ++ (pointersIn (textsOfPart (first .bib))
+    ++ (pointersOn (headingsOfPart common) ++ pointersOn (headingsOfPart (first .common)))))
+occurs-same first bib common a b c d s t p h =
+    rw (part-headings common, part-headings (first .common))
+    (pointers-same (textsOfPart bib) (textsOfPart (first .bib)) (headingRows common) (headingRows (first .common))
+    (columnsIn common) (columnsIn (first .common)) p a b c d s t h)
+
+-- the headings of the three sections together
+pub headings-together : (first : First) (common values : Section Table) → GoodPart false (first .common)
+    → GoodPart false common → NoneTwice (headingsOfPart (first .common))
+    → Behind (shown (headingRows (first .common)) (columnsIn (first .common))) common
+    → ((x : ℕ) → x < columnsIn values → NewIn (headingRows (first .common)) (headingRows common) []
+    (headingRows values) x)
+    → NoneTwice (headingsOfPart (first .common) ++ (headingsOfPart common ++ headingsOfPart values))
+headings-together first common values g h a b new =
+    once-append (equalTo 11) [] (headingsOfPart (first .common)) (headingsOfPart common ++ headingsOfPart values) a
+    (once-append (equalTo 11) (headingsOfPart (first .common)) (headingsOfPart common) (headingsOfPart values)
+    (rw (← part-headings (first .common)) at b)
+    (rw (part-headings (first .common), part-headings common, part-headings values)
+    (new-once (headingRows (first .common)) (headingRows common) (headingRows values) (columnsIn (first .common))
+    (columnsIn common) (columnsIn values) (part-shown false (first .common) g) (part-shown false common h) new)))
+
+pub together-common : (first : First) (common values : Section Table)
+    → NoneTwice (headingsOfPart (first .common) ++ (headingsOfPart common ++ headingsOfPart values))
+    → Behind (shown (headingRows (first .common)) (columnsIn (first .common))) common
+together-common first common values h =
+    rw (← part-headings (first .common))
+    (once-left (equalTo 11) (headingsOfPart (first .common)) (headingsOfPart common) (headingsOfPart values)
+    (once-right (equalTo 11) [] (headingsOfPart (first .common)) (headingsOfPart common ++ headingsOfPart values) h))
+
+pub together-new : (first : First) (common values : Section Table) → GoodPart false (first .common)
+    → GoodPart false common → GoodPart true values
+    → NoneTwice (headingsOfPart (first .common) ++ (headingsOfPart common ++ headingsOfPart values))
+    → (x : ℕ) → x < columnsIn values
+    → NewIn (headingRows (first .common)) (headingRows common) [] (headingRows values) x
+together-new first common values f g v h =
+    once-new (headingRows (first .common)) (headingRows common) (headingRows values) (columnsIn (first .common))
+    (columnsIn common) (columnsIn values) (part-shown false (first .common) f) (part-shown false common g)
+    (part-words true values v)
+    (rw (part-headings (first .common), part-headings common, part-headings values) at
+    (once-right (equalTo 11) (headingsOfPart (first .common)) (headingsOfPart common) (headingsOfPart values)
+    (once-right (equalTo 11) [] (headingsOfPart (first .common)) (headingsOfPart common ++ headingsOfPart values) h)))

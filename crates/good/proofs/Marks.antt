@@ -1,0 +1,75 @@
+-- Laws of the marks of a record: the count that a field says, and records that follow one another. Assumes nothing.
+use Prim.Native.Nat.{ℕ, suc, _+_}
+use mathlib.Core.Path.{_≡_, refl, sym, _∙_, ap}
+use mathlib.Core.Bool.{true}
+use mathlib.Core.List.{List, [], _∷_, _++_}
+use native.Mathlib.Omega.{arith}
+use lib.ListN.{length}
+use Rattle.laws.proofs.Booleans.{differ}
+use Rattle.laws.specs.Walk.{All}
+use Rattle.record.specs.Fields.{fieldsOf}
+use Rattle.record.specs.System.{countOf, isCount, numberOf}
+use Rattle.record.specs.declared.system.Count.{Count}
+use Rattle.record.specs.declared.system.Count.the-variants.{Number, Bad}
+use Rattle.rules.specs.System.{countN1, countN2}
+use Rattle.good.specs.Parts.{Record}
+use Rattle.good.specs.Marks.{Following, n1, n2, Says}
+use Rattle.good.proofs.Lists.{Long}
+
+-- ---- counts
+
+pub counted-says : (f : List ℕ) → isCount (countOf f) ≡ true → Says f (numberOf (countOf f))
+counted-says f e = by-count (countOf f) refl e
+  where
+    by-count : (x : Count) → countOf f ≡ x → isCount x ≡ true → x ≡ Number (numberOf x)
+    by-count (Number n) q h = refl
+    by-count Bad q h = differ (sym h)
+
+pub says-as : (f : List ℕ) (m n : ℕ) → Says f m → m ≡ n → Says f n
+says-as f m n s e = s ∙ ap Number e
+
+pub says-number : (f : List ℕ) (n : ℕ) → Says f n → numberOf (countOf f) ≡ n
+says-number f n s = ap numberOf s
+
+pub says-count : (f : List ℕ) (n : ℕ) → Says f n → isCount (countOf f) ≡ true
+says-count f n s = ap isCount s
+
+pub counted1 : (r : Record) (n : ℕ) → Says (n1 r) n → countN1 (fieldsOf r) ≡ n
+unfolding fieldsOf
+counted1 r n s = says-number (n1 r) n s
+
+pub counted2 : (r : Record) (n : ℕ) → Says (n2 r) n → countN2 (fieldsOf r) ≡ n
+unfolding fieldsOf
+counted2 r n s = says-number (n2 r) n s
+
+-- ---- records that follow one another
+
+pub following-append : (identification : List ℕ) (n : ℕ) (xs ys : List Record) → Following identification n xs
+    → Following identification (n + length xs) ys → Following identification n (xs ++ ys)
+unfolding Following
+following-append identification n [] ys a b = let e : n + 0 ≡ n = omega arith in rw e at b
+following-append identification n (x ∷ xs) ys a b =
+    let e : n + suc (length xs) ≡ n + 1 + length xs = omega arith in
+    (a .0, following-append identification (n + 1) xs ys (a .1) (rw e at b))
+
+pub following-left : (identification : List ℕ) (n : ℕ) (xs ys : List Record) → Following identification n (xs ++ ys)
+    → Following identification n xs
+unfolding Following
+following-left identification n [] ys a = tt
+following-left identification n (x ∷ xs) ys a = (a .0, following-left identification (n + 1) xs ys (a .1))
+
+pub following-right : (identification : List ℕ) (n : ℕ) (xs ys : List Record) → Following identification n (xs ++ ys)
+    → Following identification (n + length xs) ys
+unfolding Following
+following-right identification n [] ys a = let e : n + 0 ≡ n = omega arith in rw e a
+following-right identification n (x ∷ xs) ys a =
+    let e : n + 1 + length xs ≡ n + suc (length xs) = omega arith in
+    rw e at (following-right identification (n + 1) xs ys (a .1))
+
+pub following-as : (a b : List ℕ) (m n : ℕ) (rs : List Record) → a ≡ b → m ≡ n → Following a m rs → Following b n rs
+following-as a b m n rs p q h = rw (p, q) at h
+
+pub following-long : (i : List ℕ) (s : ℕ) (rs : List Record) → Following i s rs → All Long rs
+unfolding Following
+following-long i s [] f = tt
+following-long i s (r ∷ rs) f = (f .0 .whole, following-long i (s + 1) rs (f .1))

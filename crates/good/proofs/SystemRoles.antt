@@ -1,0 +1,157 @@
+-- The system records inside a subentry, and the END records: which of the three kinds each is of. Assumes nothing.
+use Prim.Native.Nat.{ℕ}
+use mathlib.Core.Path.{_≡_, refl}
+use mathlib.Core.Bool.{true, false}
+use lib.Dec.{eqb}
+use Rattle.laws.specs.Search.{first}
+use Rattle.record.specs.Word.{equalTo}
+use Rattle.record.specs.Identifier.{BIB, NOBIB, ENDBIB, COMMON, NOCOMMON, ENDCOMMON, DATA, NODATA, ENDDATA, ENDSUBENT}
+use Rattle.record.specs.Identifier.{ENDENTRY, isEnd}
+use Rattle.rules.specs.Role.{TEXT, DATA-HEADING, NOT-DUE, isSystem, isHeading, isUnit, isValue}
+use Rattle.rules.specs.Every.{expectedIdentification, expectedSequence}
+use Rattle.rules.specs.System.{formN1, formN2}
+use Rattle.good.proofs.Systems.{SystemRole, Inside, FreeRole, OpenRole, EndRole}
+
+pub system-role : (role : ℕ) → isSystem role ≡ true → eqb role TEXT ≡ false → isHeading role ≡ false
+    → isUnit role ≡ false
+    → eqb role DATA-HEADING ≡ false → isValue role ≡ false → eqb role NOT-DUE ≡ false → SystemRole role
+system-role role a b c d e f g =
+    record { system = a; text = b; heading = c; unit = d; data-heading = e; value = f; due = g }
+
+inside-NOBIB : Inside NOBIB
+unfolding expectedIdentification expectedSequence
+inside-NOBIB =
+    record {
+      role-of = system-role NOBIB refl refl refl refl refl refl refl;
+      not-opening = refl;
+      marked = λ c r. (λ m. m, λ m. m);
+    }
+
+inside-NOCOMMON : Inside NOCOMMON
+unfolding expectedIdentification expectedSequence
+inside-NOCOMMON =
+    record {
+      role-of = system-role NOCOMMON refl refl refl refl refl refl refl;
+      not-opening = refl;
+      marked = λ c r. (λ m. m, λ m. m);
+    }
+
+inside-NODATA : Inside NODATA
+unfolding expectedIdentification expectedSequence
+inside-NODATA =
+    record {
+      role-of = system-role NODATA refl refl refl refl refl refl refl;
+      not-opening = refl;
+      marked = λ c r. (λ m. m, λ m. m);
+    }
+
+pub free-NOBIB : FreeRole NOBIB
+unfolding formN1 formN2 isEnd equalTo first
+free-NOBIB = record { inside = inside-NOBIB; form1 = refl; form2 = refl; not-section = refl; not-end = refl }
+
+pub free-NOCOMMON : FreeRole NOCOMMON
+unfolding formN1 formN2 isEnd equalTo first
+free-NOCOMMON = record { inside = inside-NOCOMMON; form1 = refl; form2 = refl; not-section = refl; not-end = refl }
+
+pub free-NODATA : FreeRole NODATA
+unfolding formN1 formN2 isEnd equalTo first
+free-NODATA = record { inside = inside-NODATA; form1 = refl; form2 = refl; not-section = refl; not-end = refl }
+
+inside-BIB : Inside BIB
+unfolding expectedIdentification expectedSequence
+inside-BIB =
+    record {
+      role-of = system-role BIB refl refl refl refl refl refl refl;
+      not-opening = refl;
+      marked = λ c r. (λ m. m, λ m. m);
+    }
+
+inside-COMMON : Inside COMMON
+unfolding expectedIdentification expectedSequence
+inside-COMMON =
+    record {
+      role-of = system-role COMMON refl refl refl refl refl refl refl;
+      not-opening = refl;
+      marked = λ c r. (λ m. m, λ m. m);
+    }
+
+inside-DATA : Inside DATA
+unfolding expectedIdentification expectedSequence
+inside-DATA =
+    record {
+      role-of = system-role DATA refl refl refl refl refl refl refl;
+      not-opening = refl;
+      marked = λ c r. (λ m. m, λ m. m);
+    }
+
+pub open-BIB : OpenRole BIB
+unfolding formN1 formN2
+open-BIB = record { inside = inside-BIB; form1 = refl; form2 = refl; section = refl }
+
+pub open-COMMON : OpenRole COMMON
+unfolding formN1 formN2
+open-COMMON = record { inside = inside-COMMON; form1 = refl; form2 = refl; section = refl }
+
+pub open-DATA : OpenRole DATA
+unfolding formN1 formN2
+open-DATA = record { inside = inside-DATA; form1 = refl; form2 = refl; section = refl }
+
+pub end-BIB : EndRole ENDBIB
+unfolding formN1 formN2 isEnd equalTo first
+end-BIB =
+    record {
+      role-of = system-role ENDBIB refl refl refl refl refl refl refl;
+      not-opening = refl;
+      form1 = refl;
+      form2 = refl;
+      not-section = refl;
+      end = refl;
+    }
+
+pub end-COMMON : EndRole ENDCOMMON
+unfolding formN1 formN2 isEnd equalTo first
+end-COMMON =
+    record {
+      role-of = system-role ENDCOMMON refl refl refl refl refl refl refl;
+      not-opening = refl;
+      form1 = refl;
+      form2 = refl;
+      not-section = refl;
+      end = refl;
+    }
+
+pub end-DATA : EndRole ENDDATA
+unfolding formN1 formN2 isEnd equalTo first
+end-DATA =
+    record {
+      role-of = system-role ENDDATA refl refl refl refl refl refl refl;
+      not-opening = refl;
+      form1 = refl;
+      form2 = refl;
+      not-section = refl;
+      end = refl;
+    }
+
+pub end-SUBENT : EndRole ENDSUBENT
+unfolding formN1 formN2 isEnd equalTo first
+end-SUBENT =
+    record {
+      role-of = system-role ENDSUBENT refl refl refl refl refl refl refl;
+      not-opening = refl;
+      form1 = refl;
+      form2 = refl;
+      not-section = refl;
+      end = refl;
+    }
+
+pub end-ENTRY : EndRole ENDENTRY
+unfolding formN1 formN2 isEnd equalTo first
+end-ENTRY =
+    record {
+      role-of = system-role ENDENTRY refl refl refl refl refl refl refl;
+      not-opening = refl;
+      form1 = refl;
+      form2 = refl;
+      not-section = refl;
+      end = refl;
+    }

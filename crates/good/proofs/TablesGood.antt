@@ -1,0 +1,226 @@
+-- From the section to the walk: the judge goes over the records of a good COMMON section or NOCOMMON, of a good DATA
+-- section or NODATA. Assumes nothing.
+use Prim.Native.Nat.{ℕ, _+_, _<_}
+use mathlib.Core.Path.{_≡_, refl, sym, _∙_, ap}
+use mathlib.Core.Bool.{Bool, true, false}
+use mathlib.Core.List.{List, [], _∷_, _++_}
+use native.Mathlib.Omega.{arith}
+use lib.ListN.{length}
+use Rattle.record.specs.Columns.{recordsFor}
+use Rattle.record.specs.Fields.{fieldsOf}
+use Rattle.record.specs.System.{countOf, numberOf}
+use Rattle.record.specs.declared.system.Count.the-variants.{Number}
+use Rattle.rules.specs.State.{Context}
+use Rattle.rules.specs.Role.{either as oneOf}
+use Rattle.rules.specs.System.{trueCount}
+use Rattle.entry.specs.Verdict.{roleOf}
+use Rattle.good.specs.Parts.{Record, Table, Section, present, absent, concat, rowsOf, tableRecords}
+use Rattle.good.specs.Marks.{Marked, Following, nameOf, n1}
+use Rattle.good.specs.Tables.{columnsOf, cell}
+use Rattle.good.specs.Subentries.{Occurs}
+use Rattle.good.proofs.Steps.{next, Passes, next-pass}
+use Rattle.good.proofs.Runs.{only-role, either-left, either-right}
+use Rattle.good.proofs.Marks.{counted-says, says-as, counted2, following-left, following-right, following-as}
+use Rattle.good.proofs.Systems.{identificationIn, Here, free-takes, announces-takes, end-takes}
+use Rattle.good.proofs.Rows.{headings, units, values, endFor, row-pass, row-left, table-end-role}
+use Rattle.good.proofs.Units.{units-good, behind-units}
+use Rattle.good.proofs.Headings.{behind-headings}
+use Rattle.good.proofs.HeadingsByColumn.{NewIn, headings-good}
+use Rattle.good.proofs.Lines.{in-row, behind-lines, lines-pass, lines-good}
+use Rattle.good.proofs.TableKinds.{openFor, noFor, open-for, free-for, end-for, differ-for, marked-end}
+use Rattle.good.proofs.TableKinds.{section-count, no-keywords, lastFor, of-limits, GoodPart, Pieces, secondFor}
+use Rattle.good.proofs.TableKinds.{good-pieces}
+use Rattle.good.proofs.TableContexts.{after-open, PartsKnown, known-open}
+use Rattle.good.proofs.TableWalked.{headingRows, columnsIn, afterHeadings, afterUnits, afterRows, afterTable}
+use Rattle.good.proofs.TableWalked.{Walked, walked-moved, walked-section, BehindTable, behind-none}
+use Rattle.good.proofs.TableWalked.{walked-behind}
+use Rattle.good.proofs.TablesPassed.{spread, last-least}
+
+good-walked : (d : Bool) (c : Context) (t : Table) (b : ℕ) (first common : List Record) (pointers : List ℕ)
+    → PartsKnown first common pointers c → Pieces d t b
+    → Following (identificationIn c) (c .track .subentry .records + 3) (rowsOf t)
+    → ((x : ℕ) → x < columnsOf t → NewIn first common [] (t .headings) x)
+    → (d ≡ true → (x : ℕ) → x < columnsOf t → Occurs pointers (cell (t .headings) x))
+    → Walked d c t (columnsOf t) b
+unfolding columnsOf fieldsOf
+good-walked d c t b first common pointers k p f new found =
+    let a = columnsOf t in
+    let r = t .opening in
+    let l = lastFor d b in
+    let lim = p .limits in
+    let g = p .table in
+    let c1 = next c (openFor d) r in
+    let c2 = afterHeadings d c t in
+    let c3 = afterUnits d c t in
+    let i = identificationIn c in
+    let s = c .track .subentry .records + 3 in
+    let m = last-least d a b lim in
+    let o = after-open d c r a b refl (counted2 r b (p .second)) lim in
+    let om = o .moved in
+    let x1 = om .records in
+    let f1 = following-left i s (t .headings) (t .units ++ concat (t .lines)) f in
+    let f23 = following-right i s (t .headings) (t .units ++ concat (t .lines)) f in
+    let f2 = following-left i (s + length (t .headings)) (t .units) (concat (t .lines)) f23 in
+    let f3 = following-right i (s + length (t .headings)) (t .units) (concat (t .lines)) f23 in
+    let l1 = g .headings .records in
+    let l2 = g .units .records in
+    let run1 = headings-good d first common pointers a l 1 c1 (t .headings) (o .at) (lim .least)
+    (known-open d first common pointers c c1 a l k o) l1 .1 (
+      following-as i (identificationIn c1) s (c1 .track .subentry .records + 2) (t .headings)
+          (rw (om .accession, om .number)) (omega arith) f1,
+      g .headings,
+      new,
+      found,
+    ) in
+    let at1 = row-left d headings a l 1 m (recordsFor a) c1 (t .headings)
+    (in-row d headings a l 1 c1 (o .at) (lim .least)) l1 run1 in
+    let b1 = behind-headings d a l 1 a c1 (t .headings) (o .at) (lim .least) l1 run1 in
+    let m1 = b1 .moved in
+    let x2 = m1 .records in
+    let run2 = units-good d a l 1 c2 (t .units) at1 (lim .least) l2 .1 (
+      following-as i (identificationIn c2) (s + length (t .headings)) (c2 .track .subentry .records + 2) (t .units)
+          (rw (m1 .accession, m1 .number, om .accession, om .number)) (omega arith) f2,
+      g .units,
+    ) in
+    let at2 = row-left d units a l 1 m (recordsFor a) c2 (t .units)
+    (in-row d units a l 1 c2 at1 (lim .least)) l2 run2 in
+    let b2 = behind-units d a l 1 a c2 (t .units) at1 (lim .least) l2 run2 in
+    let m2 = b2 .moved in
+    let x3 = m2 .records in
+    let many = p .many in
+    let run3 = lines-good d a l 1 c3 (identificationIn c3) (c3 .track .subentry .records + 2) (t .lines) at2
+    (lim .least)
+    (b2 .blank) (omega arith) refl refl .1 (
+      following-as i (identificationIn c3) (s + length (t .headings) + length (t .units))
+          (c3 .track .subentry .records + 2) (concat (t .lines))
+          (rw (m2 .accession, m2 .number, m1 .accession, m1 .number, om .accession, om .number)) (omega arith) f3,
+      p .lines,
+    ) in
+    record {
+      limits = lim;
+      opened = o;
+      heads-long = l1;
+      heads-run = run1;
+      heads-at = at1;
+      heads-behind = b1;
+      units-long = l2;
+      units-run = run2;
+      units-at = at2;
+      units-behind = b2;
+      lines-many = many;
+      lines-run = run3;
+      lines-behind = behind-lines d a l 1 c3 (t .lines) at2 (lim .least) (b2 .blank) (omega arith) run3;
+    }
+
+end-here : (d : Bool) (c : Context) (t : Table) (a b : ℕ) (r : Record) → Walked d c t a b
+    → Marked (identificationIn c) (c .track .subentry .records + 3 + length (rowsOf t)) r → Here (afterRows d c t) r
+end-here d c t a b r w m =
+    let v = walked-moved d c t a b w in
+    let x = v .records in
+    let i : identificationIn (afterRows d c t) ≡ identificationIn c = rw (v .accession, v .number) in
+    let n : afterRows d c t .track .subentry .records + 2 ≡ c .track .subentry .records + 3 + length
+    (rowsOf t) = omega arith in
+    rw (i, n) m
+
+regroup : (hs us ls : List Record) (e : Record) (ts : List Record)
+    → hs ++ (us ++ ls) ++ (e ∷ []) ++ ts ≡ hs ++ (us ++ (ls ++ (e ∷ ts)))
+regroup hs us ls e ts = sym (spread hs us ls e ts)
+
+-- a section that is good, with its marks and headings, in a context that knows the earlier parts
+pub record GoodHere (d : Bool) (c : Context) (part : Section Table) (first common : List Record) (pointers : List ℕ)
+    : Type 0 where
+  pub good : GoodPart d part
+  pub new : (x : ℕ) → x < columnsIn part → NewIn first common [] (headingRows part) x
+  pub found : d ≡ true → (x : ℕ) → x < columnsIn part → Occurs pointers (cell (headingRows part) x)
+  pub follows : Following (identificationIn c) (c .track .subentry .records + 2) (tableRecords part)
+
+rows-follow : (d : Bool) (c : Context) (t : Table) (first common : List Record) (pointers : List ℕ)
+    → GoodHere d c (present t) first common pointers
+    → Here c (t .opening) × Following (identificationIn c) (c .track .subentry .records + 3)
+    (rowsOf t ++ (t .ending ∷ []))
+unfolding Following
+rows-follow d c t first common pointers g = (
+  g .follows .0,
+  following-as (identificationIn c) (identificationIn c) (c .track .subentry .records + 2 + 1)
+      (c .track .subentry .records + 3) (rowsOf t ++ (t .ending ∷ [])) refl (omega arith) (g .follows .1),
+)
+
+here-walked : (d : Bool) (c : Context) (t : Table) (first common : List Record) (pointers : List ℕ)
+    → PartsKnown first common pointers c → GoodHere d c (present t) first common pointers
+    → Walked d c t (columnsOf t) (secondFor d t)
+here-walked d c t first common pointers k g =
+    good-walked d c t (secondFor d t) first common pointers k (good-pieces d t (g .good))
+    (following-left (identificationIn c) (c .track .subentry .records + 3) (rowsOf t) (t .ending ∷ [])
+    (rows-follow d c t first common pointers g .1))
+    (g .new) (g .found)
+
+pub table-behind : (d : Bool) (c : Context) (part : Section Table) (first common : List Record) (pointers : List ℕ)
+    → PartsKnown first common pointers c → (d ≡ false → c .seen .common ≡ []) → GoodHere d c part first common pointers
+    → BehindTable c (afterTable d c part) d part
+table-behind d c (absent r) first common pointers k none g = behind-none d c r none
+table-behind d c (present t) first common pointers k none g =
+    walked-behind d c t (secondFor d t) (here-walked d c t first common pointers k g)
+
+no-name : (d : Bool) (r : Record) → GoodPart d (absent r) → nameOf r ≡ noFor d
+no-name false r e = e
+no-name true r e = e
+
+columns-are : (t : Table) → numberOf (countOf (n1 (t .opening))) ≡ columnsOf t
+unfolding columnsOf
+columns-are t = refl
+
+pub table-pass : (d : Bool) (c : Context) (part : Section Table) (rest : List Record) (z : Context)
+    (first common : List Record) (pointers : List ℕ) → PartsKnown first common pointers c
+    → ((r : Record) → roleOf c r ≡ oneOf (openFor d) (noFor d) (nameOf r)) → GoodHere d c part first common pointers
+    → Passes (afterTable d c part) rest z → Passes c (tableRecords part ++ rest) z
+unfolding afterTable Following
+table-pass d c (absent r) rest z first common pointers k due g p =
+    next-pass c (noFor d) r rest z
+    (due r ∙ either-right (openFor d) (noFor d) (nameOf r) (differ-for d) (no-name d r (g .good)))
+    (free-takes c (noFor d) r (free-for d) (g .follows .0)) p
+table-pass d c (present t) rest z first common pointers k due g p =
+    let a = columnsOf t in
+    let b = secondFor d t in
+    let l = lastFor d b in
+    let r = t .opening in
+    let pc = good-pieces d t (g .good) in
+    let w = here-walked d c t first common pointers k g in
+    let lim = pc .limits in
+    let m = last-least d a b lim in
+    let (first-mark, marks) = rows-follow d c t first common pointers g in
+    let end = following-right (identificationIn c) (c .track .subentry .records + 3) (rowsOf t)
+    (t .ending ∷ []) marks in
+    let (l1, l2) = of-limits d a b lim in
+    let c1 = next c (openFor d) r in
+    let c2 = afterHeadings d c t in
+    let c3 = afterUnits d c t in
+    let c4 = afterRows d c t in
+    let many = pc .many in
+    let te = end-takes c4 (endFor d) (t .ending) (end-for d)
+    (marked-end d c4 (t .ending) (end-here d c t a b (t .ending) w (end .0)))
+    (says-as (n1 (t .ending)) (length (rowsOf t)) (trueCount (c4 .track) (endFor d)) (pc .table .between)
+    (sym (section-count d c4 ∙ walked-section d c t a b w)))
+    (no-keywords d c4) in
+    next-pass c (openFor d) r (rowsOf t ++ (t .ending ∷ []) ++ rest) z
+    (due r ∙ either-left (openFor d) (noFor d) (nameOf r) (pc .opens))
+    (announces-takes c (openFor d) r a b (open-for d) first-mark
+    (record {
+      first = counted-says (n1 r) (pc .table .counted) ∙ ap Number
+          (columns-are t);
+      second = pc .second;
+      limit1 = l1;
+      limit2 = l2;
+    }))
+    (rw (regroup (t .headings) (t .units) (concat (t .lines)) (t .ending) rest)
+    (row-pass d headings a l 1 m (recordsFor a) c1 (t .headings)
+    (t .units ++ (concat (t .lines) ++ (t .ending ∷ rest))) z
+    (in-row d headings a l 1 c1 (w .opened .at) (lim .least)) (w .heads-long) (w .heads-run)
+    (row-pass d units a l 1 m (recordsFor a) c2 (t .units) (concat (t .lines) ++ (t .ending ∷ rest)) z
+    (in-row d units a l 1 c2 (w .heads-at) (lim .least)) (w .units-long) (w .units-run)
+    (lines-pass d a l 1 c3 (t .lines) (t .ending ∷ rest) z (w .units-at) (lim .least) (w .units-behind .blank)
+    (omega arith)
+    (w .lines-run)
+    (next-pass c4 (endFor d) (t .ending) rest z
+    (table-end-role c4 d values a l (1 + length (t .lines)) a (t .ending) (w .lines-behind .at) (omega arith)
+    ∙ only-role (endFor d) (nameOf (t .ending)) (pc .ends))
+    te p)))))
