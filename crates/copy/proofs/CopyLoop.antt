@@ -2,28 +2,27 @@
 -- Assumes nothing.
 use Prim.Native.Nat.{ℕ, _+_, _-_, _*_, _/_, _<_, _≤_}
 use mathlib.Core.Path.{_≡_, refl, sym, _∙_, ap}
-use mathlib.Core.List.{List, [], _++_}
+use mathlib.Core.List.{List, _++_}
 use native.Mathlib.Omega.{arith}
 use native.Mathlib.Nat.{zero-mul}
 use lib.ListN.{length, take, drop, length-drop}
 use lib.Seq.{paste, length-take-le, take-add}
 use Rattle.laws.specs.Blocks.{blockAt}
-use Rattle.laws.specs.Pasting.{Copying, pasteTurn, bytesLeft}
+use Rattle.laws.specs.Pasting.{pasteTurn, bytesLeft}
 use Rattle.laws.specs.Replacing.{replaced, mask}
 use Rattle.laws.proofs.Turns.{Run, run-all, run-next, run-out, run-done}
 use Rattle.record.specs.Columns.{Whole, columnsAt, recordOf}
 use Rattle.record.specs.Identifier.{identifierOf}
-use Rattle.rules.specs.declared.fault.Fault.{Fault}
 use Rattle.rules.specs.declared.fault.Fault.the-variants.{Fine, At}
 use Rattle.rules.specs.State.{MOST-RECORDS, Stands}
 use Rattle.rules.specs.Role.{roleIn}
 use Rattle.entry.specs.declared.step.Judge.{Judge}
 use Rattle.entry.specs.declared.step.Step.{Step}
-use Rattle.entry.specs.Numbers.{contextOf, startJudge, stepOf, onStep, Within, Stepped, Ready}
+use Rattle.entry.specs.Numbers.{contextOf, startJudge, onStep, Within, Stepped, Ready}
 use Rattle.entry.proofs.Numbered.{whole-records}
 use Rattle.entry.proofs.Stepping.{stands-start}
-use Rattle.copy.specs.Copy.{valueField, copyField, copyRecord}
-use Rattle.copy.specs.Storing.{Room, copyStep, startCopying, copiedInto}
+use Rattle.copy.specs.Copy.{valueField, copyField}
+use Rattle.copy.specs.Storing.{Room, copyStep, copiedInto}
 use Rattle.copy.proofs.WholeRecords.{record-copied}
 
 -- the loop over n records has come to the record with the index i

@@ -1,16 +1,16 @@
 -- Demand 3 of the mission: the theorems that specs/Demand.antt states.
 -- Assumes nothing.
-use Prim.Native.Nat.{ℕ, zero, suc, _+_, _*_, _-_, _/_, _%_, _<_, _≤_}
+use Prim.Native.Nat.{ℕ, _+_, _*_, _/_, _%_, _<_}
 use mathlib.Core.Path.{_≡_, refl, sym, _∙_, ap}
 use mathlib.Core.Logic.{_↔_}
 use mathlib.Core.Bool.{Bool, true, false, cond, not, _&&_}
-use mathlib.Core.List.{List, [], _∷_, _++_}
+use mathlib.Core.List.{List, []}
 use native.Mathlib.Omega.{arith}
 use borrow.Author.Tests.{eqb-true}
 use lib.Dec.{eqb, leb}
-use lib.ListN.{length, take, drop, getD, length-drop, List·getD-eq-default}
+use lib.ListN.{length, drop, getD, length-drop, List·getD-eq-default}
 use lib.Seq.{length-take-le, getD-take, getD-drop, ext-getD}
-use Rattle.laws.specs.Walk.{walk, Goes, All}
+use Rattle.laws.specs.Walk.{walk, Goes}
 use Rattle.laws.specs.Blocks.{blocks, joined, blockAt}
 use Rattle.laws.specs.Copies.{copies, marks, Alikes}
 use Rattle.laws.specs.Replacing.{Each, FieldsAlike}

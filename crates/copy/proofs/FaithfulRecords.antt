@@ -1,23 +1,22 @@
 -- The judge's turn at a copied record: it goes on to the same context, and the copy of a record is faithful to it. Of the
 -- rules only 2, 3, 5, 6 and 15 are met here, and these by their laws.
 -- Assumes nothing.
-use Prim.Native.Nat.{ℕ, zero, suc, _+_, _*_, _<_, _≤_}
+use Prim.Native.Nat.{ℕ, _+_, _*_, _<_}
 use mathlib.Core.Path.{_≡_, refl, sym, _∙_, ap}
-use mathlib.Core.Bool.{Bool, true, false, cond, not, _&&_}
-use mathlib.Core.List.{List, [], _∷_}
+use mathlib.Core.Bool.{Bool, true, false, _&&_}
+use mathlib.Core.List.{List, []}
 use native.Mathlib.Omega.{arith}
 use lib.Dec.{ltb}
 use lib.ListN.{length, drop, getD, length-drop}
 use lib.Seq.{length-take-le}
 use Rattle.laws.specs.Turns.{go}
 use Rattle.laws.specs.Copies.{Passing, Passing2, Faithful}
-use Rattle.laws.specs.Replacing.{replaced, Each, FieldsAlike, mask}
+use Rattle.laws.specs.Replacing.{replaced, Each, FieldsAlike}
 use Rattle.laws.proofs.Replacing.{each-of, length-mask, mask-at}
 use Rattle.number.specs.Reading.{readField}
 use Rattle.record.specs.Class.{isPermitted}
 use Rattle.record.specs.Fields.{fieldAt, fieldsOf}
 use Rattle.record.specs.Identifier.{identifierOf}
-use Rattle.record.specs.Numbers.{formAt, noValue}
 use Rattle.record.proofs.ReadColumns.{field-of}
 use Rattle.rules.specs.declared.fault.Fault.the-variants.{Fine}
 use Rattle.rules.specs.State.{Context, used}
@@ -30,7 +29,9 @@ use Rattle.copy.specs.Copy.{numberIn, maskOf, copyField, copyRecord}
 use Rattle.copy.specs.Demand.{AlikeField}
 use Rattle.rules.proofs.WithoutFault.{fine-long, fine-permitted, fine-reads, permitted-alike, judged-alike}
 use Rattle.entry.proofs.GoingOn.{go-fine, fine-go, next-alike}
-use Rattle.copy.proofs.CanonicalFields.{Fit, none-copied, copied-length, copied-field, copied-past, copied-reads, copied-identifier, copied-once, alike-copied, copied-alike, copied-letters}
+use Rattle.copy.proofs.CanonicalFields.{Fit, none-copied, copied-length, copied-past, copied-reads}
+use Rattle.copy.proofs.CanonicalFields.{copied-identifier, copied-once, alike-copied, copied-alike}
+use Rattle.copy.proofs.CanonicalFields.{copied-letters}
 
 -- ---- the six marks of a record
 

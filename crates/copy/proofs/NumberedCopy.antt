@@ -1,13 +1,13 @@
 -- The copy that the code's loop makes, by numbers and into the lent buffer, is the copy.
 -- Assumes nothing.
-use Prim.Native.Nat.{ℕ, zero, suc, _+_, _*_, _/_, _<_, _≤_}
+use Prim.Native.Nat.{ℕ, _+_, _*_, _/_, _<_, _≤_}
 use mathlib.Core.Path.{_≡_, refl, sym, _∙_, ap}
-use mathlib.Core.List.{List, [], _∷_, _++_}
+use mathlib.Core.List.{List, _++_}
 use native.Mathlib.Omega.{arith}
 use lib.ListN.{length, take, drop}
 use lib.Seq.{paste}
 use Rattle.laws.specs.Turns.{Turn, go, out, run}
-use Rattle.laws.specs.Blocks.{blocks, joined, blockAt}
+use Rattle.laws.specs.Blocks.{joined, blockAt}
 use Rattle.laws.specs.Copies.{copies}
 use Rattle.laws.specs.Pasting.{Copying, pasteTurn, copyTurn, bytesLeft}
 use Rattle.laws.proofs.Agree.{Agree, runs-agree}
@@ -16,12 +16,12 @@ use Rattle.rules.specs.State.{Context, startContext, MOST-RECORDS}
 use Rattle.entry.specs.declared.step.Judge.{Judge}
 use Rattle.entry.specs.declared.verdict.Verdict.{Verdict}
 use Rattle.entry.specs.Verdict.{turnOf, Accepted}
-use Rattle.entry.specs.Numbers.{contextOf, startJudge, stepTurn}
+use Rattle.entry.specs.Numbers.{contextOf, stepTurn}
 use Rattle.entry.proofs.Numbered.{Standing, turns, starts, whole-records}
 use Rattle.copy.specs.Copy.{copyRecord, recordsOf, copyOf}
 use Rattle.copy.specs.Storing.{copyStep, startCopying, copiedInto}
 use Rattle.copy.proofs.FaithfulRecords.{faithful}
-use Rattle.copy.proofs.Demand.{Passed, passed}
+use Rattle.copy.proofs.Demand.{passed}
 
 module _ (s : List ℕ) (n : ℕ) (whole : length s ≡ n * 81) (few : n ≤ MOST-RECORDS) where
   -- both have stored the same, and the numbers stand for the context

@@ -1,9 +1,8 @@
 -- What of an accepted entry its copy leaves as it is: contexts and roles, what each field reads to, and every part that has
 -- no byte of a number field.
 -- Assumes nothing.
-use Prim.Native.Nat.{ℕ, zero, suc, _+_, _*_, _-_, _/_, _%_, _<_, _≤_}
-use mathlib.Core.Path.{_≡_, refl, sym, _∙_, ap}
-use mathlib.Core.Bool.{Bool, true, false}
+use Prim.Native.Nat.{ℕ, _+_, _*_, _/_, _<_, _≤_}
+use mathlib.Core.Path.{_≡_, refl, sym, _∙_}
 use mathlib.Core.List.{List, [], _∷_}
 use native.Mathlib.Omega.{arith}
 use lib.ListN.{length, take, drop, getD, length-take, length-drop}
@@ -16,9 +15,9 @@ use Rattle.laws.proofs.Copies.{copies-marks, copies-at}
 use Rattle.number.specs.Reading.{readField}
 use Rattle.record.specs.Fields.{fieldAt}
 use Rattle.rules.specs.State.{startContext}
-use Rattle.entry.specs.Verdict.{roleOf, turnOf, judgeOf, Accepted}
-use Rattle.copy.specs.Copy.{copyRecord, recordsOf, numberField, fieldIn, copyOf}
-use Rattle.copy.specs.Demand.{inNumber, CopyFields, CopyReads, CopyPart, CopyContexts, CopyRoles}
+use Rattle.entry.specs.Verdict.{roleOf, turnOf, Accepted}
+use Rattle.copy.specs.Copy.{copyRecord, recordsOf, fieldIn, copyOf}
+use Rattle.copy.specs.Demand.{CopyFields, CopyReads, CopyPart, CopyContexts, CopyRoles}
 use Rattle.copy.proofs.FaithfulRecords.{role-kept, reads-kept, faithful}
 use Rattle.copy.proofs.Demand.{Passed, passed, copy-long, copy-records, copy-accepted, copy-again, SameFields, one-fields}
 

@@ -11,7 +11,6 @@ use lib.Seq.{take-append-le, drop-append-le}
 use borrow.Author.Tests.{ltb-false, le-ltb}
 use Rattle.laws.proofs.Booleans.{differ}
 use Rattle.laws.proofs.Counting.{first-before}
-use Rattle.laws.specs.Search.{first}
 use Rattle.laws.specs.Turns.{Turn, go, out, after, run}
 use Rattle.laws.specs.Walk.{All}
 use Rattle.laws.specs.Blocks.{joined}

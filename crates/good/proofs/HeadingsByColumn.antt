@@ -11,7 +11,7 @@ use Rattle.laws.proofs.Search.{either}
 use Rattle.record.specs.Columns.{recordsFor}
 use Rattle.record.specs.Fields.{fieldAt}
 use Rattle.record.specs.Word.{equalTo}
-use Rattle.rules.specs.State.{Context, used}
+use Rattle.rules.specs.State.{Context}
 use Rattle.good.specs.Parts.{Record}
 use Rattle.good.specs.Marks.{Following}
 use Rattle.good.specs.Tables.{cell, Heading, BlankCell, GoodHeadings}

@@ -8,7 +8,6 @@ use native.Mathlib.Omega.{arith}
 use lib.Dec.{eqb}
 use borrow.Author.Tests.{eqb-true, eq-eqb, not-false}
 use Rattle.laws.proofs.Booleans.{and-left, and-right}
-use Rattle.laws.specs.Search.{first}
 use Rattle.record.specs.Fields.{fieldsOf}
 use Rattle.record.specs.Identifier.{isEnd}
 use Rattle.record.specs.Expected.{identificationFor}

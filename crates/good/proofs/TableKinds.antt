@@ -22,7 +22,7 @@ use Rattle.good.proofs.Steps.{MarkedFor}
 use Rattle.good.proofs.Marks.{says-as}
 use Rattle.good.proofs.Systems.{Here, FreeRole, OpenRole, EndRole}
 use Rattle.good.proofs.SystemRoles.{free-NOCOMMON, free-NODATA, open-COMMON, open-DATA, end-COMMON, end-DATA}
-use Rattle.good.proofs.Rows.{values, endFor}
+use Rattle.good.proofs.Rows.{endFor}
 use Rattle.good.proofs.Lines.{LinesGood}
 
 -- ---- the two kinds

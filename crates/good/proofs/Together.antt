@@ -11,7 +11,6 @@ use lib.ListN.{length, drop}
 use lib.Seq.{getD-take, getD-drop}
 use Rattle.laws.proofs.Booleans.{differ}
 use Rattle.laws.proofs.Listing.{any-list, any-map, any-none, any-one, list-same, list-split, none-any, one-any}
-use Rattle.laws.specs.Search.{first}
 use Rattle.laws.specs.Members.{listOf, anyOf}
 use Rattle.laws.specs.Walk.{All}
 use Rattle.laws.specs.Blocks.{joined}

@@ -1,51 +1,46 @@
 -- Demand 3, its first half: for an accepted entry every question inside its own shape is answered.
 -- Assumes nothing.
-use Prim.Native.Nat.{ℕ, zero, suc, _+_, _*_, _-_, _/_, _%_, _<_, _≤_}
-use mathlib.Core.Path.{_≡_, refl, sym, _∙_, ap}
-use mathlib.Core.Bool.{Bool, true, false, cond, not, _&&_}
+use Prim.Native.Nat.{ℕ, suc, _+_, _*_, _-_, _/_, _%_, _<_, _≤_}
+use mathlib.Core.Path.{_≡_, refl, sym, _∙_}
+use mathlib.Core.Bool.{Bool, true, false, cond}
 use mathlib.Core.List.{List, [], _∷_}
 use native.Mathlib.Omega.{arith}
 use native.Mathlib.Nat.{suc-mul, zero-mul}
 use lib.Dec.{eqb, leb}
 use lib.ListN.{length, getD}
-use borrow.Author.Tests.{eqb-true, eq-eqb, ne-eqb, le-leb}
+use borrow.Author.Tests.{eqb-true, ne-eqb, le-leb}
 use Rattle.laws.specs.Blocks.{blockAt}
 use Rattle.record.specs.Columns.{recordsFor, placeOf}
 use Rattle.record.specs.Fields.{fieldsOf}
 use Rattle.record.specs.Text.{within}
-use Rattle.record.specs.Word.{pointerOf}
-use Rattle.record.specs.Numbers.{formAt, noValue}
+use Rattle.record.specs.Numbers.{noValue}
 use Rattle.number.specs.Form.{formOf}
-use Rattle.record.specs.Identifier.{SUBENT, COMMON, DATA}
+use Rattle.record.specs.Identifier.{COMMON, DATA}
 use Rattle.record.specs.declared.columns.RecordNo.{RecordNo}
 use Rattle.record.specs.declared.columns.LineNo.{LineNo}
 use Rattle.record.specs.declared.columns.Place.{Place}
 use Rattle.number.specs.Reading.{readField}
 use Rattle.number.specs.declared.value.Reading.{Reading}
 use Rattle.number.specs.declared.value.Reading.the-variants.{Blank, Number, Refused}
-use Rattle.rules.specs.State.{Context}
 use Rattle.rules.specs.System.{countN1, countN2}
 use Rattle.rules.specs.Role.{NOT-DUE, isValue}
-use Rattle.entry.specs.declared.verdict.Verdict.{Verdict}
 use Rattle.entry.specs.Verdict.{roleOf, judgeOf, Accepted}
 use Rattle.rules.proofs.DueRecords.{fine-due}
 use Rattle.rules.proofs.WithoutFault.{fine-reads}
 use Rattle.entry.proofs.GoingOn.{go-fine}
 use Rattle.questions.specs.declared.row.Row.{Row}
 use Rattle.questions.specs.declared.place.Shape.{Shape}
-use Rattle.questions.specs.Row.{NONE, rowOf}
+use Rattle.questions.specs.Row.{rowOf}
 use Rattle.questions.specs.Place.{COMMON-SECTION, DATA-SECTION, fieldsAt, shapeOf, headingPlace, unitPlace}
 use Rattle.questions.specs.Place.{fieldOf, byteOf}
-use Rattle.questions.specs.Ask.{firstOf, refusal, isRefused, isSubent, sectionIn, noSection, noLine, noColumn}
-use Rattle.questions.specs.Ask.{sectionRefusals, valueRefusal, valueBy, valueOf, columnRefusal, headingBy}
-use Rattle.questions.specs.Ask.{headingOf, unitBy, unitOf}
-use Rattle.inside.specs.Inside.{contextAt, roleAt, openedBy, Opens, InsideColumn, linesIn}
-use Rattle.inside.specs.Inside.{InsideValue, isSaid, ValueAnswered, HeadingAnswered, UnitAnswered}
+use Rattle.questions.specs.Ask.{firstOf, refusal, sectionIn, noSection, noLine, noColumn, sectionRefusals, valueRefusal}
+use Rattle.questions.specs.Ask.{valueBy, valueOf, columnRefusal, headingBy, headingOf, unitBy, unitOf}
+use Rattle.inside.specs.Inside.{contextAt, roleAt, Opens, isSaid, ValueAnswered, HeadingAnswered, UnitAnswered}
 use Rattle.questions.proofs.Refusals.{section-none}
-use Rattle.inside.proofs.Contexts.{Walked, walked}
-use Rattle.inside.proofs.Laid.{rowRole, Laid}
+use Rattle.inside.proofs.Contexts.{walked}
+use Rattle.inside.proofs.Laid.{rowRole}
 use Rattle.inside.proofs.TableLaid.{table-laid, sectionRole, linesOf, Opened, opened}
-use Rattle.questions.proofs.RowChanges.{Section, bib, common, table, opener, named}
+use Rattle.questions.proofs.RowChanges.{Section, common, table, opener, named}
 use Rattle.inside.proofs.RowWalked.{fields-at}
 use Rattle.inside.proofs.RowFound.{Opening, row-names, row-subent, row-fields}
 

@@ -4,18 +4,17 @@
 use Prim.Native.Nat.{ℕ, zero, suc, _+_, _*_, _-_, _/_, _<_, _≤_}
 use mathlib.Core.Path.{_≡_, refl, sym, _∙_, ap, subst}
 use mathlib.Core.Bool.{Bool, true, false, cond}
-use mathlib.Core.List.{List, [], _∷_}
+use mathlib.Core.List.{List}
 use native.Mathlib.Omega.{arith}
 use native.Mathlib.Nat.{zero-mul}
 use native.Mathlib.Numerals.{add-one}
 use lib.ListN.{length, take, drop}
-use Rattle.laws.specs.Turns.{Turn, go, out}
+use Rattle.laws.specs.Turns.{go}
 use Rattle.laws.specs.Walk.{walk, Goes}
 use Rattle.laws.specs.Blocks.{blocks, blockAt}
 use Rattle.laws.proofs.Walk.{walk-goes, goes-walk}
 use Rattle.laws.proofs.Blocks.{next-block}
 use Rattle.record.specs.Columns.{recordOf}
-use Rattle.rules.specs.declared.state.Totals.{Totals}
 use Rattle.rules.specs.State.{Context, startContext}
 use Rattle.entry.specs.declared.verdict.Verdict.{Verdict}
 use Rattle.entry.specs.Verdict.{refused, accepted, turnOf, endOf, isDone, lengthGood, judgeOf, Accepted}

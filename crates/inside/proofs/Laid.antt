@@ -5,15 +5,14 @@
 -- A table has rows: the headings, the units, then its lines; row 0, row 1, and row l + 1 for the line l. A row has k
 -- records. `Laid` says that the context before a record stands at the record m of the row q.
 -- Assumes nothing.
-use Prim.Native.Nat.{ℕ, zero, suc, _+_, _*_, _-_, _/_, _<_, _≤_}
-use mathlib.Core.Path.{_≡_, refl, sym, _∙_, ap}
+use Prim.Native.Nat.{ℕ, zero, suc, _+_, _*_, _-_, _<_, _≤_}
+use mathlib.Core.Path.{_≡_, refl, _∙_}
 use mathlib.Core.Bool.{Bool, true, false, cond}
 use mathlib.Core.List.{List, []}
 use native.Mathlib.Omega.{arith}
-use lib.Dec.{eqb, ltb, leb}
 use lib.ListN.{getD}
 use borrow.Author.Tests.{le-leb, lt-leb, le-ltb}
-use Rattle.laws.specs.Turns.{Turn, go}
+use Rattle.laws.specs.Turns.{go}
 use Rattle.record.specs.Fields.{fieldsOf}
 use Rattle.record.specs.Identifier.{identifierOf, isEnd}
 use Rattle.rules.specs.declared.state.Phase.{Phase}

@@ -1,13 +1,13 @@
 -- The nesting as a number that never falls: ten times the subentry's number, and the rank of the phase inside a
 -- subentry. So a record that opens a subentry, BIB, COMMON or DATA is met once for each number. Assumes nothing.
-use Prim.Native.Nat.{ℕ, zero, suc, _+_, _*_, _<_, _≤_}
-use mathlib.Core.Path.{_≡_, refl, sym, _∙_, ap}
-use mathlib.Core.Bool.{Bool, true, false, cond, not, _&&_, _||_}
+use Prim.Native.Nat.{ℕ, _+_, _*_, _<_, _≤_}
+use mathlib.Core.Path.{_≡_, refl, sym, ap}
+use mathlib.Core.Bool.{Bool, true, false, cond, _&&_, _||_}
 use mathlib.Core.List.{List, []}
 use native.Mathlib.Omega.{arith}
 use lib.Dec.{eqb, ltb, leb}
 use lib.ListN.{getD}
-use borrow.Author.Tests.{eqb-true, eqb-false, leb-true, ltb-true}
+use borrow.Author.Tests.{eqb-true, leb-true, ltb-true}
 use Rattle.laws.specs.Turns.{go}
 use Rattle.record.specs.Fields.{fieldsOf}
 use Rattle.record.specs.Identifier.{ENTRY, SUBENT, NOSUBENT, BIB, NOBIB, ENDBIB, COMMON, NOCOMMON, ENDCOMMON, DATA}
@@ -18,13 +18,11 @@ use Rattle.rules.specs.declared.state.Phase.{Phase}
 use Rattle.rules.specs.declared.state.Phase.the-variants.{Start, Opened, InSubentry, InBib, AfterBib, InCommon}
 use Rattle.rules.specs.declared.state.Phase.the-variants.{AfterCommon, InData, AfterData, Between, Done}
 use Rattle.rules.specs.declared.state.Track.{Track}
-use Rattle.rules.specs.State.{Context, HEADINGS, UNITS, counted}
-use Rattle.rules.specs.Role.{TEXT, COMMON-HEADING, COMMON-UNIT, COMMON-VALUE, DATA-HEADING, DATA-UNIT, DATA-VALUE}
-use Rattle.rules.specs.Role.{NOT-DUE, isSystem, opensSubentry, isHeading, isUnit, isValue, only, either, bibRole}
-use Rattle.rules.specs.Role.{allRead, tableRole, dataRole, nextRole, roleIn}
+use Rattle.rules.specs.State.{Context, HEADINGS, UNITS}
+use Rattle.rules.specs.Role.{TEXT, NOT-DUE, isSystem, opensSubentry, isHeading, isUnit, isValue, bibRole, allRead}
+use Rattle.rules.specs.Role.{tableRole, dataRole, roleIn}
 use Rattle.rules.specs.Every.{n1}
 use Rattle.rules.specs.System.{numberDue}
-use Rattle.rules.specs.Values.{valuesFor}
 use Rattle.rules.proofs.DueRecords.{fine-due, fine-number}
 use Rattle.entry.specs.Next.{phaseAfter, textRead, afterSystem, afterInside, trackAfter, contextAfter}
 use Rattle.entry.specs.Verdict.{roleOf, turnOf}

@@ -9,7 +9,6 @@ use native.Mathlib.Omega.{arith}
 use lib.Dec.{eqb}
 use lib.ListN.{length, getD}
 use borrow.Author.Tests.{eqb-true, eqb-false, eq-eqb, ne-eqb, le-leb, lt-ltb, not-true}
-use Rattle.laws.specs.Search.{first}
 use Rattle.laws.proofs.Booleans.{differ, and-left, and-right}
 use Rattle.laws.proofs.Search.{first-from, first-to}
 use Rattle.laws.proofs.Counting.{first-before, first-past}

@@ -1,15 +1,13 @@
 -- The records of a table stand where line and column say: for an accepted entry, the record m of the row q lies q * k +
 -- m records behind the first one of its table, it is in the entry, and its role is that of its row. Assumes nothing.
-use Prim.Native.Nat.{ℕ, zero, suc, _+_, _*_, _-_, _/_, _<_, _≤_}
-use mathlib.Core.Path.{_≡_, refl, sym, _∙_, ap}
-use mathlib.Core.Bool.{Bool, true, false, cond}
+use Prim.Native.Nat.{ℕ, zero, suc, _+_, _*_, _-_, _<_, _≤_}
+use mathlib.Core.Path.{_≡_, refl}
+use mathlib.Core.Bool.{Bool, true, false}
 use mathlib.Core.List.{List}
 use native.Mathlib.Omega.{arith}
 use native.Mathlib.Nat.{zero-mul, suc-mul}
 use native.Mathlib.Numerals.{add-one}
-use lib.ListN.{length}
 use borrow.Author.Tests.{le-leb}
-use Rattle.laws.specs.Turns.{go}
 use Rattle.laws.specs.Blocks.{blockAt}
 use Rattle.laws.proofs.Search.{either}
 use Rattle.record.specs.Columns.{recordsFor}
@@ -20,9 +18,9 @@ use Rattle.rules.specs.State.{Context}
 use Rattle.rules.specs.System.{countN1, countN2}
 use Rattle.rules.proofs.DueRecords.{fine-common, fine-data}
 use Rattle.entry.specs.Next.{phaseAfter, afterSystem, trackAfter, contextAfter}
-use Rattle.entry.specs.Verdict.{roleOf, isDone, turnOf}
+use Rattle.entry.specs.Verdict.{roleOf, isDone}
 use Rattle.entry.proofs.GoingOn.{go-fine}
-use Rattle.inside.specs.Inside.{behind, contextAt, roleAt}
+use Rattle.inside.specs.Inside.{contextAt, roleAt}
 use Rattle.inside.proofs.Contexts.{Walked}
 use Rattle.inside.proofs.Laid.{phaseIn, rowRole, lineOf, Laid, laid-role, laid-on, laid-over}
 

@@ -1,7 +1,6 @@
 use Rattle.copy.proofs.CopyLoop.{copied-before}
 use mathlib.Core.Path.{sym}
 use Rattle.copy.proofs.CopyLoop.{copied-next, copied-out, copied-ready, copied-whole}
-use Rattle.copy.proofs.FaithfulRecords.{fits}
 use mathlib.Core.Path.{_∙_}
 use Prim.Native.Nat.{_-_}
 use Rattle.copy.proofs.CopyLoop.{Copied, copied-done, copied-start}

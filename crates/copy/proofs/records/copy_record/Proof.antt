@@ -1,6 +1,5 @@
 use Rattle.copy.proofs.WholeRecords.{rest-pasted}
 use Rattle.copy.specs.Copy.{valueField}
-use Rattle.laws.proofs.Table.{at}
 use mathlib.Core.Path.{_∙_}
 use native.Mathlib.Omega.{arith}
 use borrow.Author.Needs.{needs}
