@@ -10,7 +10,8 @@ use lib.ListN.{length, take, drop, getD, length-drop, List·getD-append, List·g
 use lib.Seq.{length-take-le, getD-take, getD-drop, getD-append-add, ext-getD}
 use Rattle.laws.specs.Replacing.{replaced, Each, FieldsAlike}
 use Rattle.laws.proofs.Search.{either}
-use Rattle.laws.proofs.Replacing.{length-copy, field-of-copy, past-copy, each-at, copy-twice, alike-copy, copy-alike, alike-behind, alike-at, fields-alike}
+use Rattle.laws.proofs.Replacing.{length-copy, field-of-copy, past-copy, each-at, copy-twice, alike-copy, copy-alike}
+use Rattle.laws.proofs.Replacing.{alike-behind, alike-at, fields-alike}
 use Rattle.number.specs.declared.value.Reading.{Reading}
 use Rattle.number.specs.declared.value.Reading.the-variants.{Blank, Number, Refused}
 use Rattle.number.specs.Reading.{readField}
@@ -64,7 +65,8 @@ identifier-field true f h =
     let good = h .good refl in
     let wide : length (canonical f) ≡ 11 = canonical-length f ∙ h .wide in
     let w : length f ≡ 11 = h .wide in
-    read-identifier (canonical f) (omega arith) (rw (canonical-same f) good) ∙ sym (read-identifier f (omega arith) good)
+    read-identifier (canonical f) (omega arith) (rw (canonical-same f) good)
+    ∙ sym (read-identifier f (omega arith) good)
 identifier-field false f h = refl
 
 letters-field : (m : Bool) (f : List ℕ) → Fit m f → (i : ℕ) → i < 11 → isPermitted (getD f i 0) ≡ true

@@ -1,4 +1,5 @@
--- What the code's loop keeps: the state stands before the record in hand, and its result is that of the copy by numbers.
+-- What the code's loop keeps: the state stands before the record in hand, and its result is that of the copy by
+-- numbers.
 -- Assumes nothing.
 use Prim.Native.Nat.{ℕ, _+_, _-_, _*_, _/_, _<_, _≤_}
 use mathlib.Core.Path.{_≡_, refl, sym, _∙_, ap}

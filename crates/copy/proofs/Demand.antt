@@ -18,7 +18,8 @@ use Rattle.laws.proofs.Walk.{walk-goes, all-at}
 use Rattle.laws.proofs.Search.{either}
 use Rattle.laws.proofs.Blocks.{length-blocks, block-at}
 use Rattle.laws.proofs.Replacing.{each-at}
-use Rattle.laws.proofs.Copies.{length-marks, marks-each, marks-hold, copies-walk, copies-twice, alike-copies, copies-alike, rows-copied, length-copied, alikes-at, at-alikes}
+use Rattle.laws.proofs.Copies.{length-marks, marks-each, marks-hold, copies-walk, copies-twice, alike-copies}
+use Rattle.laws.proofs.Copies.{copies-alike, rows-copied, length-copied, alikes-at, at-alikes}
 use Rattle.number.specs.declared.value.Decimal.{Decimal}
 use Rattle.number.specs.declared.value.Reading.{Reading}
 use Rattle.number.specs.declared.value.Reading.the-variants.{Blank, Number, Refused}
@@ -56,7 +57,8 @@ unfolding judgeOf
 passed s f = by-test (lengthGood (length s)) refl f
   where
     by-test : (t : Bool) → lengthGood (length s) ≡ t
-        → cond t (walk turnOf endOf startContext 0 (recordsOf s)) (refused 1 (record { 0 = 0 }) 0) .refusal ≡ 0 → Passed s
+        → cond t (walk turnOf endOf startContext 0 (recordsOf s)) (refused 1 (record { 0 = 0 }) 0) .refusal ≡ 0
+        → Passed s
     by-test true e g =
         let (z, h) = walk-goes turnOf (λ v. v .refusal ≡ 0) out-refused endOf startContext 0 (recordsOf s) g in
         record { good = e; whole = whole-of (length s) e; last = z; goes = h }
@@ -85,7 +87,8 @@ copy-records s p =
 pub copy-accepted : CopyAccepted
 copy-accepted s f = same (passed s f)
   where
-    walks : Passed s → walk turnOf endOf startContext 0 (recordsOf (copyOf s)) ≡ walk turnOf endOf startContext 0 (recordsOf s)
+    walks : Passed s → walk turnOf endOf startContext 0 (recordsOf (copyOf s))
+        ≡ walk turnOf endOf startContext 0 (recordsOf s)
     walks p = rw (copy-records s p) (copies-walk faithful endOf startContext 0 (recordsOf s) (p .last) (p .goes))
 
     same : Passed s → judgeOf (copyOf s) ≡ judgeOf s
@@ -101,7 +104,8 @@ copy-again s f = same (passed s f)
         let at = copy-at (length s / 81) s refl in
         let long : length (copyOf s) / 81 ≡ length s / 81 = rw (copy-long s p) in
         copy-at (length s / 81) (copyOf s) long
-        ∙ ap (λ (rs : List (List ℕ)). joined (copies turnOf copyRecord startContext 0 rs)) (rw long at (copy-records s p))
+        ∙ ap (λ (rs : List (List ℕ)). joined (copies turnOf copyRecord startContext 0 rs))
+        (rw long at (copy-records s p))
         ∙ ap joined twice
         ∙ sym at
 
@@ -190,7 +194,8 @@ fields-numbers s t p q h =
       outside = h .outside;
       inside = λ i k e.
           read-alike (readField (fieldIn s i k)) (readField (fieldIn t i k)) (number-reads s p i k e)
-          (number-reads t q i k (sym (h .fields i k) ∙ e)) (h .blanks i k e .0) (h .blanks i k e .1) (h .decimals i k e);
+          (number-reads t q i k (sym (h .fields i k) ∙ e)) (h .blanks i k e .0) (h .blanks i k e .1)
+          (h .decimals i k e);
     }
 
 -- alike records are the same fields
@@ -260,7 +265,8 @@ module _ (n : ℕ) (s t : List ℕ) (whole-s : length s ≡ n * 81) (whole-t : l
       let pi : (i * 81 + j) / 81 ≡ i = omega arith in
       let pj : (i * 81 + j) % 81 ≡ j = omega arith in
       let here = outside-of (i * 81 + j) (omega arith) (rw (pi, pj) e) in
-      (let x = byte-of s (i * 81 + j) in rw (pi, pj) at x) ∙ here ∙ sym (let x = byte-of t (i * 81 + j) in rw (pi, pj) at x))
+      (let x = byte-of s (i * 81 + j) in rw (pi, pj) at x) ∙ here
+      ∙ sym (let x = byte-of t (i * 81 + j) in rw (pi, pj) at x))
       (inside-of i)
 
   rows-alike : Alikes (FieldsAlike AlikeField) (masks n s) (blocks 81 n s) (blocks 81 n t)
@@ -290,7 +296,8 @@ module _ (s t : List ℕ) (p : Passed s) (q : Passed t) (long : length s ≡ len
       sym (rows-copied faithful startContext 81 n s (p .whole) (p .last) (p .goes))
       ∙ ap (blocks 81 n) e2
       ∙ rows-copied faithful startContext 81 n t whole-t (q .last) goes-t in
-      let (m, a) = copies-alike faithful startContext 0 (blocks 81 n s) (blocks 81 n t) (p .last) (q .last) (p .goes) goes-t rows in
+      let (m, a) = copies-alike faithful startContext 0 (blocks 81 n s) (blocks 81 n t) (p .last) (q .last)
+      (p .goes) goes-t rows in
       fields-of-alike n s t long (p .whole) (masks-all s p) m a refl tn
 
   one-of-fields : SameFields s t → copyOf s ≡ copyOf t
@@ -298,7 +305,8 @@ module _ (s t : List ℕ) (p : Passed s) (q : Passed t) (long : length s ≡ len
       let n = length s / 81 in
       let m = masks-same n s t (p .whole) whole-t refl tn (masks-all s p) masks-t h in
       let a = rows-alike n s t (p .whole) whole-t refl tn (masks-all s p) masks-t h in
-      let rows = alike-copies faithful startContext 0 (blocks 81 n s) (blocks 81 n t) (p .last) (q .last) (p .goes) goes-t m a in
+      let rows = alike-copies faithful startContext 0 (blocks 81 n s) (blocks 81 n t) (p .last) (q .last)
+      (p .goes) goes-t m a in
       copy-at n s refl ∙ ap joined rows ∙ sym (copy-at n t tn)
 
 -- "Two accepted entries have the same copy exactly when they have the same number fields, equal bytes outside them,

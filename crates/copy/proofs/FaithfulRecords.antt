@@ -1,5 +1,5 @@
--- The judge's turn at a copied record: it goes on to the same context, and the copy of a record is faithful to it. Of the
--- rules only 2, 3, 5, 6 and 15 are met here, and these by their laws.
+-- The judge's turn at a copied record: it goes on to the same context, and the copy of a record is faithful to it. Of
+-- the rules only 2, 3, 5, 6 and 15 are met here, and these by their laws.
 -- Assumes nothing.
 use Prim.Native.Nat.{ℕ, _+_, _*_, _<_}
 use mathlib.Core.Path.{_≡_, refl, sym, _∙_, ap}
@@ -86,12 +86,14 @@ fits c i r d h =
       wide = length-take-le 11 (drop (k * 11) r) (simp length-drop (omega arith));
       good = λ e.
           let value = value-of c (roleOf c r) k (sym (mask-of-at c r k few) ∙ e) in
-          rw (field-of r k few) at (fine-reads (c .track) (c .seen) (roleOf c r) (fieldsOf r) r (fine c i r d h) value k few);
+          rw (field-of r k few) at (fine-reads (c .track) (c .seen) (roleOf c r) (fieldsOf r) r
+          (fine c i r d h) value k few);
     })
 
 -- ---- its copy
 
-module _ (c : Context) (ms : List Bool) (r : List ℕ) (six : length ms ≡ 6) (there : 80 < length r) (fit : Each Fit ms r) where
+module _ (c : Context) (ms : List Bool) (r : List ℕ) (six : length ms ≡ 6) (there : 80 < length r)
+    (fit : Each Fit ms r) where
   abbrev new : List ℕ
   new = replaced copyField ms r
 
@@ -172,8 +174,11 @@ opened c r = refl
 back : Passing2 turnOf
     (λ c r t. copyRecord c r ≡ copyRecord c t → (maskOf c r ≡ maskOf c t) × FieldsAlike AlikeField (maskOf c r) r t)
 back c i r t d e g h q =
-    let m : maskOf c r ≡ maskOf c t = sym (mask-kept c i r d g) ∙ ap (maskOf c) q ∙ mask-kept c i t e h in
-    (m, copied-alike (maskOf c r) r t (fits c i r d g) (rw m (fits c i t e h)) (sym (opened c r) ∙ q ∙ opened c t ∙ rw m))
+    let m : maskOf c r ≡ maskOf c t = sym (mask-kept c i r d g) ∙ ap (maskOf c) q ∙ mask-kept c i t e h in (
+      m,
+      copied-alike (maskOf c r) r t (fits c i r d g) (rw m (fits c i t e h))
+          (sym (opened c r) ∙ q ∙ opened c t ∙ rw m),
+    )
 
 -- all that demand 3 rests on
 pub faithful : Faithful turnOf copyRecord maskOf (FieldsAlike AlikeField)

@@ -1,5 +1,5 @@
--- What the call answers and leaves, by its cases; on an accepted entry and a buffer long enough it is the copy, and behind
--- it the buffer as it was.
+-- What the call answers and leaves, by its cases; on an accepted entry and a buffer long enough it is the copy, and
+-- behind it the buffer as it was.
 -- Assumes nothing.
 use Prim.Native.Nat.{ℕ, _<_, _≤_}
 use mathlib.Core.Path.{_≡_, refl, sym, _∙_, ap}

@@ -50,7 +50,8 @@ module _ (s : List ℕ) (n : ℕ) (whole : length s ≡ n * 81) (few : n ≤ MOS
       → run (copyTurn turnOf copyRecord s) bytesLeft (record { context = startContext; bytes = d }) 0 n
       ≡ run (copyStep s) bytesLeft (startCopying d) 0 n
   copy-runs d =
-      runs-agree (copyTurn turnOf copyRecord s) (copyStep s) bytesLeft bytesLeft Both n (λ a b k. k .same) copy-turns n 0
+      runs-agree (copyTurn turnOf copyRecord s) (copyStep s) bytesLeft bytesLeft Both n
+      (λ a b k. k .same) copy-turns n 0
       (record { context = startContext; bytes = d }) (startCopying d) (omega arith)
       (record { stands = starts s n whole few; same = refl })
 

@@ -1,5 +1,5 @@
--- What of an accepted entry its copy leaves as it is: contexts and roles, what each field reads to, and every part that has
--- no byte of a number field.
+-- What of an accepted entry its copy leaves as it is: contexts and roles, what each field reads to, and every part that
+-- has no byte of a number field.
 -- Assumes nothing.
 use Prim.Native.Nat.{ℕ, _+_, _*_, _/_, _<_, _≤_}
 use mathlib.Core.Path.{_≡_, refl, sym, _∙_}
@@ -19,12 +19,14 @@ use Rattle.entry.specs.Verdict.{roleOf, turnOf, Accepted}
 use Rattle.copy.specs.Copy.{copyRecord, recordsOf, fieldIn, copyOf}
 use Rattle.copy.specs.Demand.{CopyFields, CopyReads, CopyPart, CopyContexts, CopyRoles}
 use Rattle.copy.proofs.FaithfulRecords.{role-kept, reads-kept, faithful}
-use Rattle.copy.proofs.Demand.{Passed, passed, copy-long, copy-records, copy-accepted, copy-again, SameFields, one-fields}
+use Rattle.copy.proofs.Demand.{Passed, passed, copy-long, copy-records, copy-accepted, copy-again, SameFields}
+use Rattle.copy.proofs.Demand.{one-fields}
 
 pub copy-contexts : CopyContexts
 copy-contexts s f =
     let p = passed s f in
-    rw (copy-records s p) (copies-marks faithful (λ c r. c) (λ c i r d h. refl) startContext 0 (recordsOf s) (p .last) (p .goes))
+    rw (copy-records s p) (copies-marks faithful (λ c r. c) (λ c i r d h. refl) startContext 0 (recordsOf s) (p .last)
+    (p .goes))
 
 pub copy-roles : CopyRoles
 copy-roles s f =
@@ -54,7 +56,8 @@ copy-reads s f i k = by-record (passed s f)
         block-at 81 (length (copyOf s) / 81) (copyOf s) i (rw long l) in
         let there : readField (fieldAt (getD (copies turnOf copyRecord startContext 0 (recordsOf s)) i []) k)
         ≡ readField (fieldAt (getD (recordsOf s) i []) k) =
-        copies-at faithful (λ t r. readField (fieldAt t k) ≡ readField (fieldAt r k)) (λ c j r d h. reads-kept c j r d h k)
+        copies-at faithful (λ t r. readField (fieldAt t k) ≡ readField (fieldAt r k))
+        (λ c j r d h. reads-kept c j r d h k)
         startContext 0 (recordsOf s) (p .last) (p .goes) i (rw m l) in
         rw (← e, copy-records s p, ← block-at 81 n s i l) there)
         (λ l. rw (past (copyOf s) i (omega arith), past s i (omega arith)))

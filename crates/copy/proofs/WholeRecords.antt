@@ -41,7 +41,8 @@ module _ (test : ℕ → Bool) (r : List ℕ) (whole : length r ≡ 81) where
       let e : length (mask test 0 6) ≡ 6 = six in
       length-copy copyField Eleven wide (mask test 0 6) r (omega arith) eleven ∙ whole
 
-  pub whole-field : (k : ℕ) → k < 6 → fieldAt (replaced copyField (mask test 0 6) r) k ≡ copyField (test k) (fieldAt r k)
+  pub whole-field : (k : ℕ) → k < 6 → fieldAt (replaced copyField (mask test 0 6) r) k
+      ≡ copyField (test k) (fieldAt r k)
   whole-field k h =
       let z : 0 + k ≡ k = omega arith in
       let e : getD (mask test 0 6) k false ≡ test k = mask-at test false 6 0 k h ∙ ap test z in
@@ -55,7 +56,8 @@ module _ (test : ℕ → Bool) (r : List ℕ) (whole : length r ≡ 81) where
 
   -- the field k behind the fields before it
   pub field-pasted : (d : List ℕ) (at k : ℕ) → at + 66 ≤ length d → k < 6
-      → paste (paste d at (replaced copyField (mask test 0 6) r) (k * 11)) (at + k * 11) (copyField (test k) (fieldAt r k)) 11
+      → paste (paste d at (replaced copyField (mask test 0 6) r) (k * 11)) (at + k * 11)
+      (copyField (test k) (fieldAt r k)) 11
       ≡ paste d at (replaced copyField (mask test 0 6) r) ((k + 1) * 11)
   field-pasted d at k room h =
       let new = replaced copyField (mask test 0 6) r in
@@ -76,7 +78,8 @@ module _ (test : ℕ → Bool) (r : List ℕ) (whole : length r ≡ 81) where
       paste-more d new (drop 66 r) at 66 15 (omega arith) (omega arith) (ap (take 15) (sym whole-rest))
 
 -- what the code stores for a record with its role is its copy
-pub record-copied : (c : Context) (r : List ℕ) (role : ℕ) → role ≡ roleIn (c .phase) (c .track) (identifierOf (fieldAt r 0))
+pub record-copied : (c : Context) (r : List ℕ) (role : ℕ)
+    → role ≡ roleIn (c .phase) (c .track) (identifierOf (fieldAt r 0))
     → replaced copyField (mask (valueField (c .track) role) 0 6) r ≡ copyRecord c r
 unfolding copyRecord maskOf numberIn
 record-copied c r role e =

@@ -1,5 +1,5 @@
--- A row of headings, column by column: the judge goes over its records exactly when each heading is a good one, new, and
--- names a pointer that occurs. Assumes nothing.
+-- A row of headings, column by column: the judge goes over its records exactly when each heading is a good one, new,
+-- and names a pointer that occurs. Assumes nothing.
 use Prim.Native.Nat.{ℕ, suc, _+_, _-_, _*_, _<_, _≤_}
 use mathlib.Core.Path.{_≡_, refl, sym, _∙_, ap}
 use mathlib.Core.Bool.{Bool, true, false}

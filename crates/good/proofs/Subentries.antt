@@ -1,5 +1,5 @@
--- What both kinds of subentry are made of: the lengths and headings of their parts, the records that are due, the context
--- between subentries, SUBENT and ENDSUBENT around the rest. Assumes nothing.
+-- What both kinds of subentry are made of: the lengths and headings of their parts, the records that are due, the
+-- context between subentries, SUBENT and ENDSUBENT around the rest. Assumes nothing.
 use Prim.Native.Nat.{ℕ, _<_}
 use mathlib.Core.Path.{_≡_, refl, _∙_}
 use mathlib.Core.Bool.{Bool, true, false}

@@ -1,5 +1,5 @@
--- COMMON and DATA sections under one name: their identifiers and limits, and the pieces of a good one. Of DATA where the
--- Boolean is true, else of COMMON. Assumes nothing.
+-- COMMON and DATA sections under one name: their identifiers and limits, and the pieces of a good one. Of DATA where
+-- the Boolean is true, else of COMMON. Assumes nothing.
 use Prim.Native.Nat.{ℕ, _+_, _*_, _≤_}
 use mathlib.Core.Path.{_≡_, refl, sym}
 use mathlib.Core.Bool.{Bool, true, false}

@@ -61,7 +61,8 @@ pub record Walked (d : Bool) (c : Context) (t : Table) (a b : ℕ) : Type 0 wher
   pub units-long : length (t .units) ≡ recordsFor a
   pub units-run : Run NoEnd (roleFor units d) (afterHeadings d c t) (t .units)
   pub units-at : RowAt (afterUnits d c t) d values a (lastFor d b) 1 a
-  pub units-behind : BehindRow (afterHeadings d c t) (afterUnits d c t) d units (t .units) (countRow noCount a (t .units))
+  pub units-behind : BehindRow (afterHeadings d c t) (afterUnits d c t) d units (t .units)
+      (countRow noCount a (t .units))
   pub lines-many : 1 + length (t .lines) ≡ lastFor d b + 1
   pub lines-run : LinesRun d a (afterUnits d c t) (t .lines)
   pub lines-behind : BehindLines (afterUnits d c t) (afterRows d c t) d a (lastFor d b) 1 (t .lines)

@@ -1,5 +1,5 @@
--- From the walk to the section: where the judge goes over the records, they begin with a good COMMON section or NOCOMMON,
--- a good DATA section or NODATA. Assumes nothing.
+-- From the walk to the section: where the judge goes over the records, they begin with a good COMMON section or
+-- NOCOMMON, a good DATA section or NODATA. Assumes nothing.
 use Prim.Native.Nat.{ℕ, _+_, _<_, _≤_}
 use mathlib.Core.Path.{_≡_, refl, _∙_, ap}
 use mathlib.Core.Bool.{Bool, true, false}

@@ -147,11 +147,13 @@ module _ (s : List ℕ) (accepted : Accepted s) (n : ℕ) (b : Bool) (a : ℕ) (
   abbrev index : ℕ → ℕ → ℕ
   index q m = suc a + q * k + m
 
-  pub laid-at : (q m : ℕ) → q ≤ linesOf b fs + 1 → m < k → (index q m < length s / 81) × (roleAt s (index q m) ≡ rowRole b q)
+  pub laid-at : (q m : ℕ) → q ≤ linesOf b fs + 1 → m < k → (index q m < length s / 81)
+      × (roleAt s (index q m) ≡ rowRole b q)
   laid-at q m h l =
       let (x, y) =
       table-laid s (length s / 81) (walked s accepted) b (contextAt s a .track .subentry .number) (countN1 fs)
-      (linesOf b fs) (suc a) (begun .columns-from) (begun .lines-from) (omega (arith, o .there)) (begun .laid) q m h l in
+      (linesOf b fs) (suc a) (begun .columns-from) (begun .lines-from) (omega (arith, o .there))
+      (begun .laid) q m h l in
       (x, y .1)
 
   fields-laid : (q m : ℕ) → q ≤ linesOf b fs + 1 → m < k → (r : RecordNo) → r .0 ≡ suc (index q m)
@@ -170,7 +172,8 @@ module _ (s : List ℕ) (accepted : Accepted s) (n : ℕ) (b : Bool) (a : ℕ) (
     value-none : valueRefusal s (judgeOf s) x at shape line column ≡ 0
     unfolding valueRefusal
     value-none =
-        section-none s (judgeOf s) x at (refusal 34 (noLine shape line) ∷ refusal 35 (noColumn shape column) ∷ []) section-there
+        section-none s (judgeOf s) x at (refusal 34 (noLine shape line) ∷ refusal 35 (noColumn shape column) ∷ [])
+        section-there
         ∙ rw (
           shape-lines,
           shape-columns,

@@ -67,7 +67,8 @@ either-as P false x y p q = q refl
 -- a section is opened at its rank; a record that opens no subentry does not lead back, nor into a subentry
 abbrev opensAt : ℕ → ℕ → Bool
 opensAt before role =
-    cond (eqb role BIB) (eqb before 1) (cond (eqb role COMMON) (eqb before 3) (cond (eqb role DATA) (eqb before 5) true))
+    cond (eqb role BIB) (eqb before 1) (cond (eqb role COMMON) (eqb before 3)
+    (cond (eqb role DATA) (eqb before 5) true))
 
 abbrev leads : ℕ → ℕ → ℕ → Bool
 leads before role behind =
@@ -98,14 +99,16 @@ nested AfterBib t k =
 nested InCommon t k =
     two-ways InCommon (allRead t) _ _ (two-ways InCommon (eqb k ENDCOMMON) _ _ refl refl)
     (two-ways InCommon (isEnd k) _ _ refl
-    (two-ways InCommon (eqb (t .table .row) HEADINGS) _ _ refl (two-ways InCommon (eqb (t .table .row) UNITS) _ _ refl refl)))
+    (two-ways InCommon (eqb (t .table .row) HEADINGS) _ _ refl
+    (two-ways InCommon (eqb (t .table .row) UNITS) _ _ refl refl)))
 nested AfterCommon t k =
     two-ways AfterCommon (eqb (t .subentry .number) 1) _ _ (two-ways AfterCommon (eqb k ENDSUBENT) _ _ refl refl)
     (two-ways AfterCommon (eqb k DATA) _ _ refl (two-ways AfterCommon (eqb k NODATA) _ _ refl refl))
 nested InData t k =
     two-ways InData (allRead t) _ _ (two-ways InData (eqb k ENDDATA) _ _ refl refl)
     (two-ways InData (isEnd k) _ _ refl
-    (two-ways InData (eqb (t .table .row) HEADINGS) _ _ refl (two-ways InData (eqb (t .table .row) UNITS) _ _ refl refl)))
+    (two-ways InData (eqb (t .table .row) HEADINGS) _ _ refl
+    (two-ways InData (eqb (t .table .row) UNITS) _ _ refl refl)))
 nested AfterData t k = two-ways AfterData (eqb k ENDSUBENT) _ _ refl refl
 nested Between t k =
     two-ways Between (eqb k SUBENT) _ _ refl
@@ -125,7 +128,8 @@ number-kept t role fs r o =
     (λ e.
     rw o
     (either-as P (eqb role BIB) _ _ (λ e. refl)
-    (λ e. either-as P (eqb role COMMON) _ _ (λ e. refl) (λ e. either-as P (eqb role DATA) _ _ (λ e. refl) (λ e. refl))))))
+    (λ e. either-as P (eqb role COMMON) _ _ (λ e. refl)
+    (λ e. either-as P (eqb role DATA) _ _ (λ e. refl) (λ e. refl))))))
     (λ e.
     either-as P (eqb role TEXT) _ _ (λ e. either-as P (blankTo 10 (getD fs 0 [])) _ _ (λ e. refl) (λ e. refl))
     (λ e.
@@ -168,7 +172,8 @@ unnumbered-next t role fs r u =
     (λ e.
     either-as Unnumbered (eqb role TEXT) _ _
     (λ e.
-    either-as Unnumbered (blankTo 10 (getD fs 0 [])) _ _ (λ e. record { none = u .none }) (λ e. record { none = u .none }))
+    either-as Unnumbered (blankTo 10 (getD fs 0 [])) _ _ (λ e. record { none = u .none })
+    (λ e. record { none = u .none }))
     (λ e.
     either-as Unnumbered (isHeading role) _ _ (λ e. record { none = u .none })
     (λ e.

@@ -135,7 +135,8 @@ module _ (s : List ℕ) (n : ℕ) (w : Walked s n) (fits : n * 81 ≤ length s) 
   nested-at : (i : ℕ) → i < n
       → Nested (contextAt s i) (roleAt s i) (subentryOf (n1 (fieldsOf (blockAt 81 s i)))) (contextAt s (suc i))
   nested-at i h =
-      nested-turn (contextAt s i) i (blockAt 81 s i) (contextAt s (suc i)) (w .turns i h) (unnumbered-at i (omega arith))
+      nested-turn (contextAt s i) i (blockAt 81 s i) (contextAt s (suc i)) (w .turns i h)
+      (unnumbered-at i (omega arith))
 
   key-rises : (i j : ℕ) → i + j ≤ n → key (contextAt s i) ≤ key (contextAt s (i + j))
   key-rises i zero h = let e : i + 0 ≡ i = omega arith in rw e (omega arith)
@@ -163,7 +164,8 @@ module _ (s : List ℕ) (n : ℕ) (w : Walked s n) (fits : n * 81 ≤ length s) 
         rw (same, z)
 
     -- the record a opens the section k of the subentry: the row names it from there on
-    section-named : (k : Section) (a : ℕ) → a < n → roleAt s a ≡ opener k → contextAt s a .track .subentry .number ≡ number
+    section-named : (k : Section) (a : ℕ) → a < n → roleAt s a ≡ opener k
+        → contextAt s a .track .subentry .number ≡ number
         → (j : ℕ) → suc a + j ≤ n → named k (rowAt s number (suc a + j)) .0 ≡ suc a
     section-named k a h e m zero l =
         let c = contextAt s a in

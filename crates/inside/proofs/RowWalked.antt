@@ -54,7 +54,11 @@ module _ (s : List ℕ) (number n : ℕ) (w : Walked s n) where
   unfolding walk blocks rowAt
   walk-rows zero i e = let z : i ≡ n = omega arith in rw z
   walk-rows (suc j) i e =
-      rw (locating-go (stand i) i (blockAt 81 s i) (contextAt s (suc i)) (w .turns i (omega arith)), next-block 81 i s, add-one i)
+      rw (
+        locating-go (stand i) i (blockAt 81 s i) (contextAt s (suc i)) (w .turns i (omega arith)),
+        next-block 81 i s,
+        add-one i,
+      )
       (walk-rows j (suc i) (omega arith))
 
 start-stands : (s : List ℕ) (number : ℕ)
@@ -91,7 +95,8 @@ count-next t role fs r =
     either-as P (opensSubentry role) _ _ (λ e. refl)
     (λ e.
     either-as P (eqb role BIB) _ _ (λ e. refl)
-    (λ e. either-as P (eqb role COMMON) _ _ (λ e. refl) (λ e. either-as P (eqb role DATA) _ _ (λ e. refl) (λ e. refl))))))
+    (λ e. either-as P (eqb role COMMON) _ _ (λ e. refl)
+    (λ e. either-as P (eqb role DATA) _ _ (λ e. refl) (λ e. refl))))))
     (λ e.
     either-as P (eqb role TEXT) _ _ (λ e. either-as P (blankTo 10 (getD fs 0 [])) _ _ (λ e. refl) (λ e. refl))
     (λ e.

@@ -15,7 +15,10 @@ judge-requires c κs = search needs
 
 -- src/copy.rt:159:9
 returns : tie.Need-returns
-returns c = refused-copied (c .before .before .before .before .before .before .args .entry .now) (c .before .before .before .before .before .before .args .out .now) (c .before .before .before .judge .result) (c .before .before .before .judge .ensures) (c .before .if1 .taken)
+returns c =
+    refused-copied (c .before .before .before .before .before .before .args .entry .now)
+    (c .before .before .before .before .before .before .args .out .now) (c .before .before .before .judge .result)
+    (c .before .before .before .judge .ensures) (c .before .if1 .taken)
 
 -- src/copy.rt:167:9
 plain-requires : tie.Need-plain-requires
@@ -23,11 +26,20 @@ plain-requires c κs = search needs
 
 -- src/copy.rt:167:9
 returns-2 : tie.Need-returns-2
-returns-2 c = let p = short-copied (c .before .before .before .before .before .before .before .args .entry .now) (c .before .before .before .before .before .before .before .args .out .now) (c .before .before .before .before .judge .result) (c .before .before .before .before .judge .ensures) (c .before .before .if1 .left) (c .before .if2 .taken) in (c .plain .ensures ∙ p .0, p .1)
+returns-2 c =
+    let p = short-copied (c .before .before .before .before .before .before .before .args .entry .now)
+    (c .before .before .before .before .before .before .before .args .out .now)
+    (c .before .before .before .before .judge .result) (c .before .before .before .before .judge .ensures)
+    (c .before .before .if1 .left) (c .before .if2 .taken) in
+    (c .plain .ensures ∙ p .0, p .1)
 
 -- src/copy.rt:169:5
 copy-records-requires : tie.Need-copy-records-requires
-copy-records-requires c κs = made-room (c .before .before .before .before .before .before .before .args .entry .now) (c .before .before .before .before .before .before .before .args .out .now) (c .before .before .before .before .judge .result) (c .before .before .before .before .judge .ensures) (c .before .before .if1 .left) (c .before .if2 .left)
+copy-records-requires c κs =
+    made-room (c .before .before .before .before .before .before .before .args .entry .now)
+    (c .before .before .before .before .before .before .before .args .out .now)
+    (c .before .before .before .before .judge .result) (c .before .before .before .before .judge .ensures)
+    (c .before .before .if1 .left) (c .before .if2 .left)
 
 -- src/copy.rt:170:5
 plain-requires-2 : tie.Need-plain-requires-2
@@ -39,7 +51,15 @@ same-length c = search needs
 
 -- src/copy.rt:153:1
 returns-3 : tie.Need-returns-3
-returns-3 c = let p = made-copied (c .before .before .before .before .before .before .before .before .before .before .before .args .entry .now) (c .before .before .before .before .before .before .before .before .before .before .before .args .out .now) (c .before .before .before .before .before .before .before .before .judge .result) (c .before .before .before .before .before .before .before .before .judge .ensures) (c .before .before .before .before .before .before .if1 .left) (c .before .before .before .before .before .if2 .left) in (c .plain2 .ensures ∙ p .0, c .before .before .before .copy-records .ensures ∙ p .1)
+returns-3 c =
+    let p = made-copied
+    (c .before .before .before .before .before .before .before .before .before .before .before .args .entry .now)
+    (c .before .before .before .before .before .before .before .before .before .before .before .args .out .now)
+    (c .before .before .before .before .before .before .before .before .judge .result)
+    (c .before .before .before .before .before .before .before .before .judge .ensures)
+    (c .before .before .before .before .before .before .if1 .left)
+    (c .before .before .before .before .before .if2 .left) in
+    (c .plain2 .ensures ∙ p .0, c .before .before .before .copy-records .ensures ∙ p .1)
 
 pub copy-spec : {M : Type 1} → statement M
 copy-spec =

@@ -47,15 +47,26 @@ new-requires c κs = search needs
 
 -- src/copy.rt:131:5
 loop-holds : tie.Need-loop-holds Inv-loop μ-loop
-loop-holds c = rw (c .new .ensures) (copied-start (c .before .before .before .before .before .before .before .args .entry .now) (c .before .before .before .before .before .before .before .args .out .now) (c .before .before .before .before .before .before .before .pre))
+loop-holds c =
+    rw (c .new .ensures) (copied-start (c .before .before .before .before .before .before .before .args .entry .now)
+    (c .before .before .before .before .before .before .before .args .out .now)
+    (c .before .before .before .before .before .before .before .pre))
 
 -- src/copy.rt:132:20
 mul-from : tie.Need-mul-from Inv-loop μ-loop
-mul-from c = let w = c .before .loop .inv .whole in let f = c .before .loop .inv .few in let t = c .loop-test in search needs
+mul-from c =
+    let w = c .before .loop .inv .whole in
+    let f = c .before .loop .inv .few in
+    let t = c .loop-test in
+    search needs
 
 -- src/copy.rt:133:20
 add-past : tie.Need-add-past Inv-loop μ-loop
-add-past c = let w = c .before .loop .inv .whole in let f = c .before .loop .inv .few in let t = c .loop-test in search needs
+add-past c =
+    let w = c .before .loop .inv .whole in
+    let f = c .before .loop .inv .few in
+    let t = c .loop-test in
+    search needs
 
 -- src/copy.rt:135:39
 sub-role-of : tie.Need-sub-role-of Inv-loop μ-loop
@@ -67,11 +78,18 @@ part-role-of-start c = search needs
 
 -- src/copy.rt:135:39
 part-role-of-end : tie.Need-part-role-of-end Inv-loop μ-loop
-part-role-of-end c = let w = c .before .before .before .loop .inv .whole in let t = c .before .before .loop-test in search needs
+part-role-of-end c =
+    let w = c .before .before .before .loop .inv .whole in
+    let t = c .before .before .loop-test in
+    search needs
 
 -- src/copy.rt:135:13
 role-of-requires : tie.Need-role-of-requires Inv-loop μ-loop
-role-of-requires c κs = let t = c .before .before .before .loop-test in (record { same = c .before .before .before .before .before .before .before .before .names .ensures }, copied-whole (c .before .before .before .before .loop .inv) (omega arith))
+role-of-requires c κs =
+    let t = c .before .before .before .loop-test in (
+      record { same = c .before .before .before .before .before .before .before .before .names .ensures },
+      copied-whole (c .before .before .before .before .loop .inv) (omega arith),
+    )
 
 -- src/copy.rt:136:41
 sub-copy-record : tie.Need-sub-copy-record Inv-loop μ-loop
@@ -83,15 +101,28 @@ part-copy-record-start c = search needs
 
 -- src/copy.rt:136:41
 part-copy-record-end : tie.Need-part-copy-record-end Inv-loop μ-loop
-part-copy-record-end c = let w = c .before .before .before .before .before .before .loop .inv .whole in let t = c .before .before .before .before .before .loop-test in search needs
+part-copy-record-end c =
+    let w = c .before .before .before .before .before .before .loop .inv .whole in
+    let t = c .before .before .before .before .before .loop-test in
+    search needs
 
 -- src/copy.rt:136:9
 copy-record-requires : tie.Need-copy-record-requires Inv-loop μ-loop
-copy-record-requires c κs = let t = c .before .before .before .before .before .before .loop-test in let w = c .before .before .before .before .before .before .before .loop .inv .whole in let f = c .before .before .before .before .before .before .before .loop .inv .fits in let l = c .before .before .before .before .before .before .before .loop .inv .long in (omega arith, copied-whole (c .before .before .before .before .before .before .before .loop .inv) (omega arith))
+copy-record-requires c κs =
+    let t = c .before .before .before .before .before .before .loop-test in
+    let w = c .before .before .before .before .before .before .before .loop .inv .whole in
+    let f = c .before .before .before .before .before .before .before .loop .inv .fits in
+    let l = c .before .before .before .before .before .before .before .loop .inv .long in
+    (omega arith, copied-whole (c .before .before .before .before .before .before .before .loop .inv) (omega arith))
 
 -- src/copy.rt:137:59
 slice-aggregate-step : tie.Need-slice-aggregate-step Inv-loop μ-loop
-slice-aggregate-step c = let t = c .before .before .before .before .before .before .before .before .before .before .before .before .before .before .loop-test in sym (copied-before (c .before .before .before .before .before .before .before .before .before .before .before .before .before .before .before .loop .inv) (omega arith))
+slice-aggregate-step c =
+    let t = c .before .before .before .before .before .before .before .before .before .before .before .before .before
+    .before .loop-test in
+    sym (copied-before
+    (c .before .before .before .before .before .before .before .before .before .before .before .before .before .before
+    .before .loop .inv) (omega arith))
 
 -- src/copy.rt:137:75
 sub-step : tie.Need-sub-step Inv-loop μ-loop
@@ -103,11 +134,44 @@ part-step-start c = search needs
 
 -- src/copy.rt:137:75
 part-step-end : tie.Need-part-step-end Inv-loop μ-loop
-part-step-end c = let w = c .before .before .before .before .before .before .before .before .before .before .before .before .before .before .before .loop .inv .whole in let t = c .before .before .before .before .before .before .before .before .before .before .before .before .before .before .loop-test in search needs
+part-step-end c =
+    let w = c .before .before .before .before .before .before .before .before .before .before .before .before .before
+    .before .before .loop .inv .whole in
+    let t = c .before .before .before .before .before .before .before .before .before .before .before .before .before
+    .before .loop-test in
+    search needs
 
 -- src/copy.rt:137:13
 step-requires : tie.Need-step-requires Inv-loop μ-loop
-step-requires c κs = let t = c .before .before .before .before .before .before .before .before .before .before .before .before .before .before .before .loop-test in (record { same = c .before .before .before .before .before .before .before .before .before .before .before .before .before .before .before .before .before .before .before .before .before .classes .ensures }, (record { same = c .before .before .before .before .before .before .before .before .before .before .before .before .before .before .before .before .before .before .before .before .names .ensures }, (record { kinds-right = c .before .before .before .before .before .before .before .before .before .before .before .before .before .before .before .before .before .before .before .kinds .ensures; nexts-right = c .before .before .before .before .before .before .before .before .before .before .before .before .before .before .before .before .before .before .nexts .ensures }, copied-ready (c .before .before .before .before .before .before .before .before .before .before .before .before .before .before .before .before .loop .inv) (omega arith))))
+step-requires c κs =
+    let t = c .before .before .before .before .before .before .before .before .before .before .before .before .before
+    .before .before .loop-test in (
+      record {
+        same =
+            c .before .before .before .before .before .before .before .before .before .before .before .before .before
+            .before .before .before .before .before .before .before .before .classes .ensures;
+      },
+      (
+        record {
+          same =
+              c .before .before .before .before .before .before .before .before .before .before .before .before .before
+              .before .before .before .before .before .before .before .names .ensures;
+        },
+        (
+          record {
+            kinds-right =
+                c .before .before .before .before .before .before .before .before .before .before .before .before
+                .before .before .before .before .before .before .before .kinds .ensures;
+            nexts-right =
+                c .before .before .before .before .before .before .before .before .before .before .before .before
+                .before .before .before .before .before .before .nexts .ensures;
+          },
+          copied-ready
+              (c .before .before .before .before .before .before .before .before .before .before .before .before .before
+              .before .before .before .loop .inv) (omega arith),
+        ),
+      ),
+    )
 
 -- src/copy.rt:142:17
 enum-told : tie.Need-enum-told Inv-loop μ-loop
@@ -119,23 +183,63 @@ enum-known-fault c = search needs
 
 -- src/copy.rt:145:17
 same-length : tie.Need-same-length Inv-loop μ-loop
-same-length c = let l = c .before .before .before .before .before .before .before .before .before .before .before .before .before .copy-record .kept .0 in l ∙ c .before .before .before .before .before .before .before .before .before .before .before .before .before .before .before .before .before .before .before .before .before .loop .inv .long
+same-length c =
+    let l = c .before .before .before .before .before .before .before .before .before .before .before .before .before
+    .copy-record .kept .0 in
+    l ∙ c .before .before .before .before .before .before .before .before .before .before .before .before .before
+    .before .before .before .before .before .before .before .before .loop .inv .long
 
 -- src/copy.rt:145:17
 returns : tie.Need-returns Inv-loop μ-loop
-returns c = let t = c .before .before .before .before .before .before .before .before .before .before .before .before .before .before .before .before .before .before .before .before .loop-test in c .before .before .before .before .before .before .before .before .before .before .before .before .before .copy-record .ensures ∙ copied-out (c .before .before .before .before .before .before .before .before .before .before .before .before .before .before .before .before .before .before .before .before .before .loop .inv) (omega arith) (c .before .before .before .before .step .result) (c .before .before .before .before .step .ensures) (c .before .before .before .before .before .before .before .before .before .before .before .before .before .before .before .before .role-of .result) (c .before .before .before .before .before .before .before .before .before .before .before .before .before .before .before .before .role-of .ensures) _ _ (c .before .fault .given .1)
+returns c =
+    let t = c .before .before .before .before .before .before .before .before .before .before .before .before .before
+    .before .before .before .before .before .before .before .loop-test in
+    c .before .before .before .before .before .before .before .before .before .before .before .before .before
+    .copy-record .ensures
+    ∙ copied-out
+    (c .before .before .before .before .before .before .before .before .before .before .before .before .before .before
+    .before .before .before .before .before .before .before .loop .inv) (omega arith)
+    (c .before .before .before .before .step .result) (c .before .before .before .before .step .ensures)
+    (c .before .before .before .before .before .before .before .before .before .before .before .before .before .before
+    .before .before .role-of .result)
+    (c .before .before .before .before .before .before .before .before .before .before .before .before .before .before
+    .before .before .role-of .ensures) _ _ (c .before .fault .given .1)
 
 -- src/copy.rt:148:9
 add-i : tie.Need-add-i Inv-loop μ-loop
-add-i c = let w = c .before .before .before .before .before .before .before .before .before .before .before .before .before .before .before .before .before .before .before .before .loop .inv .whole in let f = c .before .before .before .before .before .before .before .before .before .before .before .before .before .before .before .before .before .before .before .before .loop .inv .few in let t = c .before .before .before .before .before .before .before .before .before .before .before .before .before .before .before .before .before .before .before .loop-test in search needs
+add-i c =
+    let w = c .before .before .before .before .before .before .before .before .before .before .before .before .before
+    .before .before .before .before .before .before .before .loop .inv .whole in
+    let f = c .before .before .before .before .before .before .before .before .before .before .before .before .before
+    .before .before .before .before .before .before .before .loop .inv .few in
+    let t = c .before .before .before .before .before .before .before .before .before .before .before .before .before
+    .before .before .before .before .before .before .loop-test in
+    search needs
 
 -- src/copy.rt:131:5
 loop-less : tie.Need-loop-less Inv-loop μ-loop
-loop-less c = let t = c .before .before .before .before .before .before .before .before .before .before .before .before .before .before .before .before .before .before .before .loop-test in omega arith
+loop-less c =
+    let t = c .before .before .before .before .before .before .before .before .before .before .before .before .before
+    .before .before .before .before .before .before .loop-test in
+    omega arith
 
 -- src/copy.rt:131:5
 loop-again : tie.Need-loop-again Inv-loop μ-loop
-loop-again c = let t = c .before .before .before .before .before .before .before .before .before .before .before .before .before .before .before .before .before .before .before .loop-test in let l = c .before .before .before .before .before .before .before .before .before .before .before .before .copy-record .kept .0 in copied-next (c .before .before .before .before .before .before .before .before .before .before .before .before .before .before .before .before .before .before .before .before .loop .inv) (omega arith) (c .before .before .before .step .result) (c .before .before .before .step .ensures) (c .before .before .before .before .before .before .before .before .before .before .before .before .before .before .before .role-of .result) (c .before .before .before .before .before .before .before .before .before .before .before .before .before .before .before .role-of .ensures) (c .enum-told .given .1) _ (c .before .before .before .before .before .before .before .before .before .before .before .before .copy-record .ensures) l
+loop-again c =
+    let t = c .before .before .before .before .before .before .before .before .before .before .before .before .before
+    .before .before .before .before .before .before .loop-test in
+    let l = c .before .before .before .before .before .before .before .before .before .before .before .before
+    .copy-record .kept .0 in
+    copied-next
+    (c .before .before .before .before .before .before .before .before .before .before .before .before .before .before
+    .before .before .before .before .before .before .loop .inv) (omega arith) (c .before .before .before .step .result)
+    (c .before .before .before .step .ensures)
+    (c .before .before .before .before .before .before .before .before .before .before .before .before .before .before
+    .before .role-of .result)
+    (c .before .before .before .before .before .before .before .before .before .before .before .before .before .before
+    .before .role-of .ensures) (c .enum-told .given .1) _
+    (c .before .before .before .before .before .before .before .before .before .before .before .before .copy-record
+    .ensures) l
 
 -- src/copy.rt:120:1
 same-length-2 : tie.Need-same-length-2 Inv-loop μ-loop

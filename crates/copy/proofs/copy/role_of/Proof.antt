@@ -21,7 +21,8 @@ role-requires c κs = search needs
 
 -- src/copy.rt:108:1
 returns : tie.Need-returns
-returns c = rw (← c .before .before .before .field .ensures, ← c .before .before .identifier-of .ensures) (c .role .ensures)
+returns c =
+    rw (← c .before .before .before .field .ensures, ← c .before .before .identifier-of .ensures) (c .role .ensures)
 
 pub role-of-spec : {M : Type 1} → statement M
 role-of-spec = tie.close (tie.spec field-requires identifier-of-requires role-requires returns)

@@ -28,7 +28,12 @@ enum-known-r c = search needs
 
 -- src/fields.rt:44:31
 put-number-requires : tie.Need-put-number-requires
-put-number-requires c κs = (search needs, written (c .before .before .before .before .before .before .args .f) _ (c .before .before .before .before .before .before .good .1 .1 .0 .1 .0 .1) (sym (c .before .before .before .before .read-field .ensures) ∙ c .before .before .r .given .1))
+put-number-requires c κs = (
+  search needs,
+  written (c .before .before .before .before .before .before .args .f) _
+      (c .before .before .before .before .before .before .good .1 .1 .0 .1 .0 .1)
+      (sym (c .before .before .before .before .read-field .ensures) ∙ c .before .before .r .given .1),
+)
 
 -- src/fields.rt:45:26
 enum-known-r-2 : tie.Need-enum-known-r-2
@@ -44,7 +49,9 @@ same-length c = search needs
 
 -- src/fields.rt:37:1
 returns : tie.Need-returns
-returns c = rw (canonical-read _ _ (sym (c .before .before .before .before .before .before .read-field .ensures) ∙ c .before .before .before .before .enum-told .given .1)) (c .before .before .put-plain .ensures)
+returns c =
+    rw (canonical-read _ _ (sym (c .before .before .before .before .before .before .read-field .ensures)
+    ∙ c .before .before .before .before .enum-told .given .1)) (c .before .before .put-plain .ensures)
 
 -- src/fields.rt:37:1
 same-length-2 : tie.Need-same-length-2
@@ -52,7 +59,13 @@ same-length-2 c = search needs
 
 -- src/fields.rt:37:1
 returns-2 : tie.Need-returns-2
-returns-2 c = rw (canonical-read _ _ (sym (c .before .before .before .before .before .before .before .read-field .ensures) ∙ c .before .before .before .before .before .r .given .1), c .before .before .before .before .before .before .before .before .before .good .1 .1 .0 .1 .0 .1) (c .before .before .put-number .ensures)
+returns-2 c =
+    rw (
+      canonical-read _ _ (sym (c .before .before .before .before .before .before .before .read-field .ensures)
+          ∙ c .before .before .before .before .before .r .given .1),
+      c .before .before .before .before .before .before .before .before .before .good .1 .1 .0 .1 .0 .1,
+    )
+    (c .before .before .put-number .ensures)
 
 -- src/fields.rt:37:1
 same-length-3 : tie.Need-same-length-3
@@ -60,7 +73,9 @@ same-length-3 c = search needs
 
 -- src/fields.rt:37:1
 returns-3 : tie.Need-returns-3
-returns-3 c = rw (canonical-read _ _ (sym (c .before .before .before .before .before .before .before .read-field .ensures) ∙ c .before .before .before .before .before .r2 .given .1)) (c .before .before .put-plain2 .ensures)
+returns-3 c =
+    rw (canonical-read _ _ (sym (c .before .before .before .before .before .before .before .read-field .ensures)
+    ∙ c .before .before .before .before .before .r2 .given .1)) (c .before .before .put-plain2 .ensures)
 
 pub put-canonical-spec : {M : Type 1} → statement M
 put-canonical-spec =

@@ -36,7 +36,12 @@ same-length c = search needs
 -- src/fields.rt:29:1
 returns : tie.Need-returns
 returns c = let p = toZ-ofZ w32 (c .before .before .before .before .before .before .args .v .power) (search needs) in
-    number-pasted (c .before .before .before .before .before .before .args .out .now) _ (c .before .before .before .before .before .before .args .at) (c .before .before .before .before .before .before .args .v) (c .before .before .before .before .before .before .pre .0) (c .before .before .before .before .before .before .pre .1) (rw p at (c .before .before .write-number .ensures .1 .0))
+    number-pasted (c .before .before .before .before .before .before .args .out .now) _
+    (c .before .before .before .before .before .before .args .at)
+    (c .before .before .before .before .before .before .args .v)
+    (c .before .before .before .before .before .before .pre .0)
+    (c .before .before .before .before .before .before .pre .1)
+    (rw p at (c .before .before .write-number .ensures .1 .0))
 
 pub put-number-spec : {M : Type 1} → statement M
 put-number-spec =

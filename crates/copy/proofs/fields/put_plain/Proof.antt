@@ -19,7 +19,9 @@ abbrev μ-loop : tie.MeasureT-loop
 
 -- src/fields.rt:21:5
 loop-holds : tie.Need-loop-holds Inv-loop μ-loop
-loop-holds c = let a = c .args in (search needs, c .good .1 .1 .0 .1 .0 .1, paste-zero (a .out .now) (a .at) (a .t3), refl)
+loop-holds c =
+    let a = c .args in
+    (search needs, c .good .1 .1 .0 .1 .0 .1, paste-zero (a .out .now) (a .at) (a .t3), refl)
 
 -- src/fields.rt:22:18
 add-to : tie.Need-add-to Inv-loop μ-loop
@@ -43,8 +45,13 @@ loop-less c = search needs
 
 -- src/fields.rt:21:5
 loop-again : tie.Need-loop-again Inv-loop μ-loop
-loop-again c = let a = c .before .before .args in
-    (search needs, c .before .loop .inv .1, rw (c .before .loop .inv .2, add-one) (paste-suc (a .out .now) (a .at) (a .t3) (c .before .loop .i) 0 (omega arith) (omega arith)), simp length-set (c .before .loop .inv .3))
+loop-again c = let a = c .before .before .args in (
+  search needs,
+  c .before .loop .inv .1,
+  rw (c .before .loop .inv .2, add-one)
+      (paste-suc (a .out .now) (a .at) (a .t3) (c .before .loop .i) 0 (omega arith) (omega arith)),
+  simp length-set (c .before .loop .inv .3),
+)
 
 -- src/fields.rt:16:1
 same-length : tie.Need-same-length Inv-loop μ-loop

@@ -16,14 +16,23 @@ use Rattle.copy.proofs.records.is_value_field.Reads as is-value-field-r
 use Rattle.record.proofs.fields.field.Reads as field-reads
 
 abbrev Inv-loop : tie.InvT-loop
-Inv-loop out₀ at t role rec k₀ out k = (k ≤ 6) × (length rec ≡ 81) × (length out ≡ length out₀) × (out ≡ paste out₀ at (replaced copyField (mask (valueField t role) 0 6) rec) (k * 11))
+Inv-loop out₀ at t role rec k₀ out k =
+    (k ≤ 6) × (length rec ≡ 81) × (length out ≡ length out₀)
+    × (out ≡ paste out₀ at (replaced copyField (mask (valueField t role) 0 6) rec) (k * 11))
 
 abbrev μ-loop : tie.MeasureT-loop
 μ-loop out₀ at t role rec k₀ out k = 6 - k
 
 -- src/records.rt:30:5
 loop-holds : tie.Need-loop-holds Inv-loop μ-loop
-loop-holds c = let a = c .before .before .args in (search needs, c .before .before .pre .1 .long, refl, paste-zero (a .out .now) (a .at) (replaced copyField (mask (valueField (a .t) (a .role)) 0 6) (a .rec .now)))
+loop-holds c =
+    let a = c .before .before .args in (
+      search needs,
+      c .before .before .pre .1 .long,
+      refl,
+      paste-zero (a .out .now) (a .at)
+          (replaced copyField (mask (valueField (a .t) (a .role)) 0 6) (a .rec .now)),
+    )
 
 -- src/records.rt:31:22
 mul-column : tie.Need-mul-column Inv-loop μ-loop
@@ -43,7 +52,10 @@ is-value-field-requires c κs = search needs
 
 -- src/records.rt:35:9
 put-field-requires : tie.Need-put-field-requires Inv-loop μ-loop
-put-field-requires c κs = let l = c .before .before .before .before .loop .inv .2 in let w = c .before .before .before .before .before .before .before .pre .0 in omega arith
+put-field-requires c κs =
+    let l = c .before .before .before .before .loop .inv .2 in
+    let w = c .before .before .before .before .before .before .before .pre .0 in
+    omega arith
 
 -- src/records.rt:36:9
 add-k : tie.Need-add-k Inv-loop μ-loop
@@ -55,8 +67,23 @@ loop-less c = search needs
 
 -- src/records.rt:30:5
 loop-again : tie.Need-loop-again Inv-loop μ-loop
-loop-again c = let a = c .before .before .before .before .before .before .before .before .before .before .args in let l = c .before .before .put-field .kept .0 in
-    (omega arith, c .before .before .before .before .before .before .before .loop .inv .1, omega arith, c .before .before .put-field .ensures ∙ (rw (c .before .before .before .before .before .before .before .loop .inv .3, c .before .before .before .before .is-value-field .ensures, c .before .before .before .before .before .field .ensures) (field-pasted (valueField (a .t) (a .role)) (a .rec .now) (c .before .before .before .before .before .before .before .loop .inv .1) (a .out .now) (a .at) (c .before .before .before .before .before .before .before .loop .k) (c .before .before .before .before .before .before .before .before .before .before .pre .0) (omega arith))))
+loop-again c =
+    let a = c .before .before .before .before .before .before .before .before .before .before .args in
+    let l = c .before .before .put-field .kept .0 in (
+      omega arith,
+      c .before .before .before .before .before .before .before .loop .inv .1,
+      omega arith,
+      c .before .before .put-field .ensures
+          ∙ (rw (
+            c .before .before .before .before .before .before .before .loop .inv .3,
+            c .before .before .before .before .is-value-field .ensures,
+            c .before .before .before .before .before .field .ensures,
+          )
+          (field-pasted (valueField (a .t) (a .role)) (a .rec .now)
+          (c .before .before .before .before .before .before .before .loop .inv .1) (a .out .now) (a .at)
+          (c .before .before .before .before .before .before .before .loop .k)
+          (c .before .before .before .before .before .before .before .before .before .before .pre .0) (omega arith))),
+    )
 
 -- src/records.rt:25:1
 same-length : tie.Need-same-length Inv-loop μ-loop

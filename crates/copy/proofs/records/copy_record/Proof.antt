@@ -29,7 +29,10 @@ same-length c = search needs
 -- src/records.rt:55:1
 returns : tie.Need-returns
 returns c = let a = c .before .before .before .before .before .before .before .before .before .before .args in
-    c .before .before .copy-rest .ensures ∙ rw (c .before .before .before .before .before .before .copy-fields .ensures) (rest-pasted (valueField (a .t) (a .role)) (a .rec .now) (c .before .before .before .before .before .before .before .before .before .before .pre .1 .long) (a .out .now) (a .at) (omega (arith, c .before .before .before .before .before .before .before .before .before .before .pre .0)))
+    c .before .before .copy-rest .ensures ∙ rw (c .before .before .before .before .before .before .copy-fields .ensures)
+    (rest-pasted (valueField (a .t) (a .role)) (a .rec .now)
+    (c .before .before .before .before .before .before .before .before .before .before .pre .1 .long) (a .out .now)
+    (a .at) (omega (arith, c .before .before .before .before .before .before .before .before .before .before .pre .0)))
 
 pub copy-record-spec : {M : Type 1} → statement M
 copy-record-spec =

@@ -11,14 +11,17 @@ use Rattle.copy.proofs.records.copy_rest.Reads as reads
 use Rattle.copy.proofs.records.copy_rest.Lts as lts
 
 abbrev Inv-loop : tie.InvT-loop
-Inv-loop out₀ at rec i₀ out i = (i ≤ 15) × (length rec ≡ 81) × (out ≡ paste out₀ at (drop 66 rec) i) × (length out ≡ length out₀)
+Inv-loop out₀ at rec i₀ out i =
+    (i ≤ 15) × (length rec ≡ 81) × (out ≡ paste out₀ at (drop 66 rec) i) × (length out ≡ length out₀)
 
 abbrev μ-loop : tie.MeasureT-loop
 μ-loop out₀ at rec i₀ out i = 15 - i
 
 -- src/records.rt:46:5
 loop-holds : tie.Need-loop-holds Inv-loop μ-loop
-loop-holds c = let a = c .args in (search needs, c .pre .1 .long, paste-zero (a .out .now) (a .at) (drop 66 (a .rec .now)), refl)
+loop-holds c =
+    let a = c .args in
+    (search needs, c .pre .1 .long, paste-zero (a .out .now) (a .at) (drop 66 (a .rec .now)), refl)
 
 -- src/records.rt:47:20
 add-from : tie.Need-add-from Inv-loop μ-loop
@@ -46,8 +49,14 @@ loop-less c = search needs
 
 -- src/records.rt:46:5
 loop-again : tie.Need-loop-again Inv-loop μ-loop
-loop-again c = let a = c .before .before .before .args in let l = c .before .before .loop .inv .1 in
-    (search needs, c .before .before .loop .inv .1, rw (c .before .before .loop .inv .2, add-one, ← getD-drop 66 (a .rec .now) (c .before .before .loop .i) 0) (paste-suc (a .out .now) (a .at) (drop 66 (a .rec .now)) (c .before .before .loop .i) 0 (omega arith) (simp length-drop (omega arith))), simp length-set (c .before .before .loop .inv .3))
+loop-again c = let a = c .before .before .before .args in let l = c .before .before .loop .inv .1 in (
+  search needs,
+  c .before .before .loop .inv .1,
+  rw (c .before .before .loop .inv .2, add-one, ← getD-drop 66 (a .rec .now) (c .before .before .loop .i) 0)
+      (paste-suc (a .out .now) (a .at) (drop 66 (a .rec .now)) (c .before .before .loop .i) 0 (omega arith)
+      (simp length-drop (omega arith))),
+  simp length-set (c .before .before .loop .inv .3),
+)
 
 -- src/records.rt:41:1
 same-length : tie.Need-same-length Inv-loop μ-loop
