@@ -1,6 +1,6 @@
-// Copies the sample, which is the first 26 records of the input, and the larger entry behind it, into a buffer that fits,
-// one that is a byte short and one that is longer; then the sample without its last record. Of each it says what the call
-// answers and leaves. Every buffer is full of stars before.
+// Copies the sample, which is the first 26 records of the input, and the larger entry behind it, into a buffer that
+// fits, one that is a byte short and one that is longer; then the sample without its last record. Of each it says what
+// the call answers and leaves. Every buffer is full of stars before.
 ghost use Prim.Native.Nat.{_≤_};
 use copy::copy::Copied;
 use copy::copy::copy;

@@ -1,7 +1,8 @@
 -- What the call answers, and what the buffer then holds (document 01):
 --
 --   "31 entry refused (its refusal, record and column beside it, zeros with any other answer)"
---   "Copy: 31, then 37 buffer shorter than the entry; bytes past the entry's length stay." "A refused call stores nothing."
+--   "Copy: 31, then 37 buffer shorter than the entry; bytes past the entry's length stay." "A refused call stores
+--   nothing."
 use Prim.Native.Nat.{ℕ}
 use mathlib.Core.Bool.{cond}
 use mathlib.Core.List.{List, _++_}

@@ -1,7 +1,7 @@
 -- The canonical copy of an entry (document 01):
 --
---   "The canonical copy replaces each non-blank value field of COMMON and DATA by its canonical field and keeps every other
---   byte."
+--   "The canonical copy replaces each non-blank value field of COMMON and DATA by its canonical field and keeps every
+--   other byte."
 use Prim.Native.Nat.{ℕ, _/_}
 use mathlib.Core.Bool.{Bool, true, false, _&&_}
 use mathlib.Core.List.{List, []}

@@ -1,9 +1,9 @@
 -- Demand 3 of the mission, as far as it speaks of the copy itself. Each statement is a type; the law that proves it has
 -- its name in small letters (proofs/Demand, Made and Unchanged).
 --
---   "Its canonical copy, made in a buffer long enough, is accepted, answers every such question with the same values and
---   words at the same places, and is its own copy. Two accepted entries have the same copy exactly when they have the
---   same number fields, equal bytes outside them, blanks in the same ones, and equal decimals in the rest."
+--   "Its canonical copy, made in a buffer long enough, is accepted, answers every such question with the same values
+--   and words at the same places, and is its own copy. Two accepted entries have the same copy exactly when they have
+--   the same number fields, equal bytes outside them, blanks in the same ones, and equal decimals in the rest."
 use Prim.Native.Nat.{ℕ, _+_, _/_, _%_, _<_, _≤_}
 use mathlib.Core.Path.{_≡_}
 use mathlib.Core.Logic.{_↔_}
@@ -50,7 +50,8 @@ abbrev pub CopyFields : Type 0
 CopyFields = (s : List ℕ) → Accepted s → (i k : ℕ) → numberField (copyOf s) i k ≡ numberField s i k
 
 abbrev pub CopyReads : Type 0
-CopyReads = (s : List ℕ) → Accepted s → (i k : ℕ) → Alike (readField (fieldIn (copyOf s) i k)) (readField (fieldIn s i k))
+CopyReads =
+    (s : List ℕ) → Accepted s → (i k : ℕ) → Alike (readField (fieldIn (copyOf s) i k)) (readField (fieldIn s i k))
 
 -- the byte p stands in a number field
 abbrev pub inNumber : List ℕ → ℕ → Bool

@@ -1,5 +1,5 @@
--- The copy as the code makes it: by the judge's own step, record by record into the lent buffer. That it is the copy of the
--- definitions is the law `numbers-copy`.
+-- The copy as the code makes it: by the judge's own step, record by record into the lent buffer. That it is the copy of
+-- the definitions is the law `numbers-copy`.
 use Prim.Native.Nat.{ℕ, _*_, _/_, _≤_}
 use mathlib.Core.Path.{_≡_}
 use mathlib.Core.Bool.{true}

@@ -18,8 +18,8 @@ use record::identifier::identifier_of;
 use record::identifier::names;
 use rules::fault::Fault;
 
-// Document 01's number: 0 copied, 31 entry refused, 37 buffer shorter than the entry. Beside 31 stand the entry's refusal,
-// its record and its column; else zeros.
+// Document 01's number: 0 copied, 31 entry refused, 37 buffer shorter than the entry. Beside 31 stand the entry's
+// refusal, its record and its column; else zeros.
 pub struct Copied {
     pub number: u8,
     pub refusal: u8,
@@ -92,7 +92,8 @@ fn copy_records(entry: &[u8], out: &mut [u8])
 
 // The canonical copy of an entry, stored in a buffer that may be longer.
 pub fn copy(entry: &[u8], out: &mut [u8]) -> Copied
-    ensures { λ r. ⌜ (r ≡ copied (now (entry .entry)) (length (now (out .entry)))) × (now (out .exit) ≡ stored (now (entry .entry)) (now (out .entry))) ⌝ }
+    ensures { λ r. ⌜ (r ≡ copied (now (entry .entry)) (length (now (out .entry))))
+        × (now (out .exit) ≡ stored (now (entry .entry)) (now (out .entry))) ⌝ }
 {
     let v = judge(entry);
     if v.refusal != 0 {

@@ -28,7 +28,8 @@ fn is_value_field(t: Track, role: usize, k: usize) -> bool
 // The six fields.
 fn copy_fields(out: &mut [u8], at: usize, t: Track, role: usize, rec: &[u8])
     requires { ⌜ (at + 66 ≤ length (now out)) × Whole (now rec) ⌝ }
-    ensures { λ _. ⌜ now (out .exit) ≡ paste (now (out .entry)) at (replaced copyField (mask (valueField t role) 0 6) (now (rec .entry))) 66 ⌝ }
+    ensures { λ _. ⌜ now (out .exit)
+        ≡ paste (now (out .entry)) at (replaced copyField (mask (valueField t role) 0 6) (now (rec .entry))) 66 ⌝ }
 {
     let mut k = 0;
     while k < 6 {
@@ -58,7 +59,8 @@ fn copy_rest(out: &mut [u8], at: usize, rec: &[u8])
 // A record with its role, in its place.
 pub(crate) fn copy_record(out: &mut [u8], at: usize, t: Track, role: usize, rec: &[u8])
     requires { ⌜ (at + 81 ≤ length (now out)) × Whole (now rec) ⌝ }
-    ensures { λ _. ⌜ now (out .exit) ≡ paste (now (out .entry)) at (replaced copyField (mask (valueField t role) 0 6) (now (rec .entry))) 81 ⌝ }
+    ensures { λ _. ⌜ now (out .exit)
+        ≡ paste (now (out .entry)) at (replaced copyField (mask (valueField t role) 0 6) (now (rec .entry))) 81 ⌝ }
 {
     copy_fields(out, at, t, role, rec);
     let rest = at + 66;

@@ -1,5 +1,5 @@
--- The judge's turn at a record: it goes on exactly where no rule is broken, and hands out nothing but refusals. Behind a
--- value record the context goes by what the fields read to.
+-- The judge's turn at a record: it goes on exactly where no rule is broken, and hands out nothing but refusals. Behind
+-- a value record the context goes by what the fields read to.
 -- Assumes nothing.
 use mathlib.Core.Path.{_≡_, refl, sym, ap, _∙_}
 use mathlib.Core.Bool.{Bool, true, false, cond}
@@ -22,13 +22,15 @@ use Rattle.rules.specs.Fault.{leftmost, Finding, firstFault}
 use Rattle.rules.specs.Values.{optional, valuesFor}
 use Rattle.rules.specs.Order.{findings, faultOf}
 use Rattle.entry.specs.declared.verdict.Verdict.{Verdict}
-use Rattle.entry.specs.Next.{phaseAfter, trackAfter, afterInside, partAfter, bibChange, underChange, tableChange, seenAfter, contextAfter}
+use Rattle.entry.specs.Next.{phaseAfter, trackAfter, afterInside, partAfter, bibChange, underChange, tableChange}
+use Rattle.entry.specs.Next.{seenAfter, contextAfter}
 use Rattle.entry.specs.Verdict.{roleOf, refused, onFault, turnAs, turnOf}
 use Rattle.record.proofs.Readings.{values-same}
 use Rattle.rules.proofs.WithoutFault.{of-values}
 
 pub go-fine : Passing turnOf
-    (λ c i r d. (faultOf (c .track) (c .seen) (roleOf c r) (fieldsOf r) r ≡ Fine) × (contextAfter c (roleOf c r) (fieldsOf r) r ≡ d))
+    (λ c i r d. (faultOf (c .track) (c .seen) (roleOf c r) (fieldsOf r) r ≡ Fine)
+    × (contextAfter c (roleOf c r) (fieldsOf r) r ≡ d))
 unfolding turnOf turnAs
 go-fine c i r d h = by-fault (faultOf (c .track) (c .seen) (roleOf c r) (fieldsOf r) r) h
   where
@@ -38,7 +40,8 @@ go-fine c i r d h = by-fault (faultOf (c .track) (c .seen) (roleOf c r) (fieldsO
     by-fault Fine e = (refl, cc)
     by-fault (At n k) e = let z : _≡_ {A = ℕ} 0 1 = cc in absurd (omega arith)
 
-pub fine-go : (c : Context) (i : ℕ) (r : List ℕ) (role : ℕ) → roleOf c r ≡ role → faultOf (c .track) (c .seen) role (fieldsOf r) r ≡ Fine
+pub fine-go : (c : Context) (i : ℕ) (r : List ℕ) (role : ℕ) → roleOf c r ≡ role
+    → faultOf (c .track) (c .seen) role (fieldsOf r) r ≡ Fine
     → turnOf c i r ≡ go (contextAfter c role (fieldsOf r) r)
 unfolding turnOf turnAs
 fine-go c i r role e h = rw (e, h)
@@ -58,7 +61,8 @@ fault-number (f ∷ fs) a n k e =
 one : {n : ℕ} → 0 < suc n
 one = omega arith
 
-numbered : (c : Context) (role : ℕ) (fs : List (List ℕ)) (r : List ℕ) → All (λ f. 0 < f .number) (findings (c .track) (c .seen) role fs r)
+numbered : (c : Context) (role : ℕ) (fs : List (List ℕ)) (r : List ℕ)
+    → All (λ f. 0 < f .number) (findings (c .track) (c .seen) role fs r)
 numbered c role fs r =
     (one, (one, (one, (one, (one, (one, (one, (one, (one, (one, (one, (one, (one, (one, tt))))))))))))))
 
@@ -86,7 +90,8 @@ module _ (c : Context) (r t : List ℕ)
   unfolding valuesFor
   values-for role = rw (values-same (fieldsOf t) (fieldsOf r) reads (optional role) (used (c .track)))
 
-  pub next-alike : (role : ℕ) → isValue role ≡ true → contextAfter c role (fieldsOf t) t ≡ contextAfter c role (fieldsOf r) r
+  pub next-alike : (role : ℕ) → isValue role ≡ true
+      → contextAfter c role (fieldsOf t) t ≡ contextAfter c role (fieldsOf r) r
   unfolding contextAfter trackAfter afterInside seenAfter partAfter bibChange underChange tableChange
   next-alike =
       of-values (λ role. contextAfter c role (fieldsOf t) t ≡ contextAfter c role (fieldsOf r) r)

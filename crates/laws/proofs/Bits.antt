@@ -1,5 +1,5 @@
--- Signed numbers of the code, which the logic keeps as bits: what `toZ` and `ofZ` leave in a need, and what a test of the
--- sign tells.
+-- Signed numbers of the code, which the logic keeps as bits: what `toZ` and `ofZ` leave in a need, and what a test of
+-- the sign tells.
 -- Assumes nothing.
 use mathlib.Core.Path.{_≡_, refl, subst}
 use mathlib.Core.Bool.{Bool, true, false}

@@ -172,7 +172,8 @@ module _ {C R M : Type 0} {turn : C → ℕ → List ℕ → Turn C R} {copy : C
       long : length (copies turn copy start 0 (rows s)) ≡ n
       long = length-copies start 0 (rows s) z goes ∙ length-blocks w n s
 
-      pub rows-copied : blocks w n (joined (copies turn copy start 0 (blocks w n s))) ≡ copies turn copy start 0 (blocks w n s)
+      pub rows-copied : blocks w n (joined (copies turn copy start 0 (blocks w n s)))
+          ≡ copies turn copy start 0 (blocks w n s)
       rows-copied = rw long at (blocks-joined w (copies turn copy start 0 (rows s)) wide)
 
       pub length-copied : length (joined (copies turn copy start 0 (blocks w n s))) ≡ length s

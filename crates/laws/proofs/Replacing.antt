@@ -1,4 +1,5 @@
--- Fields replaced, one after the other: what stands in the field of a copy, what behind it, and when two copies are equal.
+-- Fields replaced, one after the other: what stands in the field of a copy, what behind it, and when two copies are
+-- equal.
 -- Rests on the laws of the replacement that stand in the parameters.
 use Prim.Native.Nat.{ℕ, zero, suc, _+_, _*_, _-_, _<_, _≤_}
 use mathlib.Core.Path.{_≡_, refl, sym, _∙_, ap, subst}

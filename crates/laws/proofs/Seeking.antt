@@ -1,5 +1,5 @@
--- What is sought over a list and over its copy is found at the same place and gives the same, whatever note is kept on the
--- way; and a loop over indices that leaves at the first that fits seeks over the records.
+-- What is sought over a list and over its copy is found at the same place and gives the same, whatever note is kept on
+-- the way; and a loop over indices that leaves at the first that fits seeks over the records.
 -- Rests on the laws in the parameters.
 use Prim.Native.Nat.{ℕ, _+_}
 use mathlib.Core.Path.{_≡_, refl, sym, _∙_, ap}
@@ -70,7 +70,8 @@ module _ {A C R N : Type 0} (turn : C → ℕ → A → Turn C R) (note : C → 
     noted-keeps m i r e h =
         let p = go-noted m i r e h in
         noted-go m i (copy (m .context) r) (e .context) (keeps (m .context) i r (e .context) p)
-        ∙ ap (λ (x : N). go (record { context = e .context; note = x })) (notes (m .context) i r (e .context) (m .note) p)
+        ∙ ap (λ (x : N). go (record { context = e .context; note = x }))
+        (notes (m .context) i r (e .context) (m .note) p)
         ∙ sym (noted-go m i r (e .context) p)
         ∙ h
 
@@ -116,7 +117,8 @@ module _ {A C R B : Type 0} (turn : C → ℕ → A → Turn C R) (test : C → 
       by-test false (go d) same = same d
       by-test false (out v) same = refl
 
-module _ {C R B : Type 0} (turn : C → ℕ → List ℕ → Turn C R) (test : C → List ℕ → Bool) (give : C → ℕ → List ℕ → B) where
+module _ {C R B : Type 0} (turn : C → ℕ → List ℕ → Turn C R) (test : C → List ℕ → Bool)
+    (give : C → ℕ → List ℕ → B) where
   pub seek-run : (w : ℕ) (s : List ℕ) (n : ℕ) (c : C)
       → run (λ d i. seekTurn turn test give d i (blockAt w s i)) nowhere c 0 n ≡ seek turn test give c 0 (blocks w n s)
   seek-run w s n c =

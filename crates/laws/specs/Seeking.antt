@@ -1,4 +1,5 @@
--- What is sought on the way: the first record at which a test holds gives the answer; a note may be kept beside the context.
+-- What is sought on the way: the first record at which a test holds gives the answer; a note may be kept beside the
+-- context.
 use Prim.Native.Nat.{ℕ, _+_}
 use mathlib.Core.Bool.{Bool, cond}
 use mathlib.Core.List.{List, [], _∷_}

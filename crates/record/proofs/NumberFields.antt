@@ -80,7 +80,8 @@ name-second : (k : ℕ) → k < 14 → nameLetter (getD (nameAt k) 1 0) ≡ true
 unfolding second nameLetter nameTable joinOf
 name-second k h =
     let m : (11 * k + 1) % 11 ≡ 1 = omega arith in
-    let t : T (second (11 * k + 1) (getD nameTable (11 * k + 1) 0)) = at second nameTable tt (11 * k + 1) (omega arith) in
+    let t : T (second (11 * k + 1) (getD nameTable (11 * k + 1) 0)) = at second nameTable tt (11 * k + 1)
+    (omega arith) in
     let u : T (cond (eqb ((11 * k + 1) % 11) 1) (nameLetter (getD nameTable (11 * k + 1) 0)) true) = t in
     let v : T (nameLetter (getD nameTable (11 * k + 1) 0)) = rw m at u in
     rw (← name-at k 1 h (omega arith)) (true-of (nameLetter (getD nameTable (11 * k + 1) 0)) v)

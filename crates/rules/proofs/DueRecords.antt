@@ -18,7 +18,8 @@ use Rattle.rules.specs.State.{Seen, MOST-COLUMNS, MOST-LINES}
 use Rattle.rules.specs.Role.{NOT-DUE, opensSubentry}
 use Rattle.rules.specs.Fault.{on, when, leftmost}
 use Rattle.rules.specs.Every.{rule4, n1}
-use Rattle.rules.specs.System.{countN1, countN2, limitN1, limitN2, announcedFault, rule8, numberDue, accessionN1, rule9}
+use Rattle.rules.specs.System.{countN1, countN2, limitN1, limitN2, announcedFault, rule8, numberDue, accessionN1}
+use Rattle.rules.specs.System.{rule9}
 use Rattle.rules.specs.Order.{faultOf}
 use Rattle.rules.proofs.WithoutFault.{none-found}
 
@@ -73,7 +74,8 @@ module _ (t : Track) (seen : Seen) (role : ℕ) (fs : List (List ℕ)) (r : List
   pub fine-number : opensSubentry role ≡ true → numberDue t (subentryOf (n1 fs)) ≡ true
   unfolding rule9
   fine-number e =
-      let found : leftmost (on (opensSubentry role) (rule9 t fs)) ≡ 0 = none-found t seen role fs r fine .1 .1 .1 .1 .1 .1 .1 .0 in
+      let found : leftmost (on (opensSubentry role) (rule9 t fs)) ≡ 0 = none-found t seen role fs r
+      fine .1 .1 .1 .1 .1 .1 .1 .0 in
       second (equalTo 5 (accessionN1 fs) (t .accession)) (numberDue t (subentryOf (n1 fs)))
       (one-none (equalTo 5 (accessionN1 fs) (t .accession) && numberDue t (subentryOf (n1 fs))) 11 (rw e at found))
     where

@@ -23,7 +23,8 @@ use Rattle.rules.specs.declared.fault.Fault.the-variants.{Fine, At}
 use Rattle.rules.specs.declared.state.Track.{Track}
 use Rattle.rules.specs.State.{Seen, used}
 use Rattle.rules.specs.Role.{COMMON-VALUE, DATA-VALUE, isValue}
-use Rattle.rules.specs.Fault.{on, when, columnsFrom, columnsWhere, fieldColumn, columnAt, leftmost, Finding, orElse, firstFault}
+use Rattle.rules.specs.Fault.{on, when, columnsFrom, columnsWhere, fieldColumn, columnAt, leftmost, Finding}
+use Rattle.rules.specs.Fault.{orElse, firstFault}
 use Rattle.rules.specs.Every.{rule2, rule3, rule4, rule5, rule6, expectedIdentification}
 use Rattle.rules.specs.Values.{optional, lineBlank, rule15}
 use Rattle.rules.specs.Order.{findings, faultOf}
@@ -138,7 +139,8 @@ module _ (track : Track) (seen : Seen) (r t : List ℕ) (letters : rule3 t ≡ r
 
   rule5-same : (role : ℕ) → isValue role ≡ true → rule5 track role (fieldsOf t) t ≡ rule5 track role (fieldsOf r) r
   unfolding rule5 expectedIdentification
-  rule5-same = of-values (λ role. rule5 track role (fieldsOf t) t ≡ rule5 track role (fieldsOf r) r) (rw behind) (rw behind)
+  rule5-same =
+      of-values (λ role. rule5 track role (fieldsOf t) t ≡ rule5 track role (fieldsOf r) r) (rw behind) (rw behind)
 
   rule6-same : (role : ℕ) → rule6 track role t ≡ rule6 track role r
   unfolding rule6
@@ -160,9 +162,11 @@ module _ (track : Track) (seen : Seen) (r t : List ℕ) (letters : rule3 t ≡ r
   unfolding rule15
   rule15-same role = rw (line-same role, columns-same role)
 
-  pub judged-alike : (role : ℕ) → isValue role ≡ true → faultOf track seen role (fieldsOf t) t ≡ faultOf track seen role (fieldsOf r) r
+  pub judged-alike : (role : ℕ) → isValue role ≡ true
+      → faultOf track seen role (fieldsOf t) t ≡ faultOf track seen role (fieldsOf r) r
   unfolding faultOf
   judged-alike role e =
-      of-values (λ role. firstFault (findings track seen role (fieldsOf t) t) ≡ firstFault (findings track seen role (fieldsOf r) r))
+      of-values (λ role. firstFault (findings track seen role (fieldsOf t) t)
+      ≡ firstFault (findings track seen role (fieldsOf r) r))
       (rw (rule2-same, letters, rule5-same COMMON-VALUE refl, rule6-same COMMON-VALUE, rule15-same COMMON-VALUE))
       (rw (rule2-same, letters, rule5-same DATA-VALUE refl, rule6-same DATA-VALUE, rule15-same DATA-VALUE)) role e

@@ -22,7 +22,8 @@ use Rattle.record_cases.proofs.say_record.Reads as say-record-reads
 use Rattle.record_cases.proofs.say_values.Reads as say-values-reads
 
 abbrev Inv-loop : tie.InvT-loop
-Inv-loop t n kinds nexts rec₀ number₀ t7 rec number = (ClassesLent t) × (NamesLent n) × (Tables kinds nexts) × (length rec ≡ 81)
+Inv-loop t n kinds nexts rec₀ number₀ t7 rec number =
+    (ClassesLent t) × (NamesLent n) × (Tables kinds nexts) × (length rec ≡ 81)
 
 abbrev μ-loop : tie.MeasureT-loop
 μ-loop t n kinds nexts rec₀ number₀ t7 rec number = 250 - number
@@ -53,7 +54,12 @@ nexts-requires c κs = search needs
 
 -- src/main.rt:176:5
 loop-holds : tie.Need-loop-holds Inv-loop μ-loop
-loop-holds c = (record { same = c .before .before .before .classes .ensures }, record { same = c .before .before .names .ensures }, record { kinds-right = c .before .kinds .ensures; nexts-right = c .nexts .ensures }, refl)
+loop-holds c = (
+  record { same = c .before .before .before .classes .ensures },
+  record { same = c .before .before .names .ensures },
+  record { kinds-right = c .before .kinds .ensures; nexts-right = c .nexts .ensures },
+  refl,
+)
 
 -- src/main.rt:177:29
 slice-aggregate-read-full : tie.Need-slice-aggregate-read-full Inv-loop μ-loop
@@ -113,7 +119,19 @@ loop-less c = search needs
 
 -- src/main.rt:176:5
 loop-again : tie.Need-loop-again Inv-loop μ-loop
-loop-again c = let l = c .before .before .before .before .before .before .before .before .before .before .before .before .before .read-full .kept .1 .0 in (c .before .before .before .before .before .before .before .before .before .before .before .before .before .before .before .before .loop .inv .0, c .before .before .before .before .before .before .before .before .before .before .before .before .before .before .before .before .loop .inv .1, c .before .before .before .before .before .before .before .before .before .before .before .before .before .before .before .before .loop .inv .2, l ∙ c .before .before .before .before .before .before .before .before .before .before .before .before .before .before .before .before .loop .inv .3)
+loop-again c =
+    let l = c .before .before .before .before .before .before .before .before .before .before .before .before .before
+    .read-full .kept .1 .0 in (
+      c .before .before .before .before .before .before .before .before .before .before .before .before .before .before
+          .before .before .loop .inv .0,
+      c .before .before .before .before .before .before .before .before .before .before .before .before .before .before
+          .before .before .loop .inv .1,
+      c .before .before .before .before .before .before .before .before .before .before .before .before .before .before
+          .before .before .loop .inv .2,
+      l
+          ∙ c .before .before .before .before .before .before .before .before .before .before .before .before .before
+          .before .before .before .loop .inv .3,
+    )
 
 -- src/main.rt:167:1
 returns-2 : tie.Need-returns-2 Inv-loop μ-loop

@@ -23,7 +23,9 @@ loop-holds c = (c .pre .0, c .pre .1, omega arith)
 
 -- src/main.rt:92:13
 place-of-requires : tie.Need-place-of-requires Inv-loop μ-loop
-place-of-requires c κs = in-table _ _ _ _ 2 (c .before .loop .inv .0) (c .before .loop .inv .1) (c .before .loop .inv .2) (omega arith) (omega arith)
+place-of-requires c κs =
+    in-table _ _ _ _ 2 (c .before .loop .inv .0) (c .before .loop .inv .1) (c .before .loop .inv .2) (omega arith)
+    (omega arith)
 
 -- src/main.rt:94:13
 slice-aggregate-say : tie.Need-slice-aggregate-say Inv-loop μ-loop
@@ -59,7 +61,11 @@ loop-less c = search needs
 
 -- src/main.rt:91:5
 loop-again : tie.Need-loop-again Inv-loop μ-loop
-loop-again c = (c .before .before .before .before .before .before .before .before .before .loop .inv .0, c .before .before .before .before .before .before .before .before .before .loop .inv .1, omega arith)
+loop-again c = (
+  c .before .before .before .before .before .before .before .before .before .loop .inv .0,
+  c .before .before .before .before .before .before .before .before .before .loop .inv .1,
+  omega arith,
+)
 
 -- src/main.rt:98:22
 slice-aggregate-write-all : tie.Need-slice-aggregate-write-all Inv-loop μ-loop

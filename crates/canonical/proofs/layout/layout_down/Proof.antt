@@ -20,7 +20,8 @@ add-if2 c = search needs
 
 -- src/layout.rt:186:9
 returns-2 : tie.Need-returns-2
-returns-2 c = down-behind (c .before .before .args .d) (c .before .before .args .t) (c .before .if1 .left) (c .if2 .taken)
+returns-2 c =
+    down-behind (c .before .before .args .d) (c .before .before .args .t) (c .before .if1 .left) (c .if2 .taken)
 
 -- src/layout.rt:196:5
 layout-raised-requires : tie.Need-layout-raised-requires

@@ -34,11 +34,17 @@ sub-t11 c = search needs
 
 -- src/layout.rt:113:9
 returns-2 : tie.Need-returns-2
-returns-2 c = up-ten (c .before .before .before .args .d) (c .before .before .before .args .p) (c .before .before .if1 .left) (c .before .measured .result .digits) (c .before .measured .ensures .0) (c .if2 .taken ∙ c .before .measured .ensures .1)
+returns-2 c =
+    up-ten (c .before .before .before .args .d) (c .before .before .before .args .p) (c .before .before .if1 .left)
+    (c .before .measured .result .digits) (c .before .measured .ensures .0)
+    (c .if2 .taken ∙ c .before .measured .ensures .1)
 
 -- src/layout.rt:93:1
 returns-3 : tie.Need-returns-3
-returns-3 c = up-one (c .before .before .before .args .d) (c .before .before .before .args .p) (c .before .before .if1 .left) (c .before .measured .result .digits) (c .before .measured .ensures .0) (λ e. c .if2 .left (e ∙ sym (c .before .measured .ensures .1)))
+returns-3 c =
+    up-one (c .before .before .before .args .d) (c .before .before .before .args .p) (c .before .before .if1 .left)
+    (c .before .measured .result .digits) (c .before .measured .ensures .0)
+    (λ e. c .if2 .left (e ∙ sym (c .before .measured .ensures .1)))
 
 pub layout-up-spec : {M : Type 1} → statement M
 layout-up-spec =

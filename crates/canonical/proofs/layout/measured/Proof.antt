@@ -30,12 +30,22 @@ add-t6 c = omega arith
 
 -- src/layout.rt:33:13
 returns : tie.Need-returns Inv-loop μ-loop
-returns c = let e = count-is (c .before .before .loop .i) (c .before .before .before .args .v) (c .before .before .loop .inv .1 .1) (omega (arith, c .before .before .loop .inv .1 .0, ten-suc (c .before .before .loop .i))) in
-    (rw (e, add-one (c .before .before .loop .i)) refl, rw (e, suc-less (c .before .before .loop .i)) (c .before .before .loop .inv .1 .0))
+returns c =
+    let e = count-is (c .before .before .loop .i) (c .before .before .before .args .v)
+    (c .before .before .loop .inv .1 .1) (omega (
+      arith,
+      c .before .before .loop .inv .1 .0,
+      ten-suc (c .before .before .loop .i),
+    )) in (
+      rw (e, add-one (c .before .before .loop .i)) refl,
+      rw (e, suc-less (c .before .before .loop .i))
+          (c .before .before .loop .inv .1 .0),
+    )
 
 -- src/layout.rt:38:17
 mul-least : tie.Need-mul-least Inv-loop μ-loop
-mul-least c = omega (arith, c .before .before .loop .inv .1 .0, ten-le {i = c .before .before .loop .i} {j = 18} (omega arith))
+mul-least c =
+    omega (arith, c .before .before .loop .inv .1 .0, ten-le {i = c .before .before .loop .i} {j = 18} (omega arith))
 
 -- src/layout.rt:31:9
 add-i : tie.Need-add-i Inv-loop μ-loop
@@ -47,11 +57,22 @@ loop-less c = omega arith
 
 -- src/layout.rt:31:5
 loop-again : tie.Need-loop-again Inv-loop μ-loop
-loop-again c = let t = ten-more (c .before .before .loop .i) in (omega arith, (omega (arith, c .before .before .loop .inv .1 .0), λ h. omega (arith, c .before .before .loop .inv .1 .0)))
+loop-again c =
+    let t = ten-more (c .before .before .loop .i) in (
+      omega arith,
+      (
+        omega (arith, c .before .before .loop .inv .1 .0),
+        λ h. omega (arith, c .before .before .loop .inv .1 .0),
+      ),
+    )
 
 -- src/layout.rt:27:1
 returns-2 : tie.Need-returns-2 Inv-loop μ-loop
-returns-2 c = let f : c .before .loop .i ≡ 19 = omega arith in let e = count-is 19 (c .before .before .args .v) (λ h. rw f at (c .before .loop .inv .1 .1 (omega arith))) (omega arith) in (rw e refl, c .before .loop .inv .1 .0 ∙ (ap (λ (k : ℕ). 10 ^ k) f ∙ rw e refl))
+returns-2 c =
+    let f : c .before .loop .i ≡ 19 = omega arith in
+    let e = count-is 19 (c .before .before .args .v) (λ h. rw f at (c .before .loop .inv .1 .1 (omega arith)))
+    (omega arith) in
+    (rw e refl, c .before .loop .inv .1 .0 ∙ (ap (λ (k : ℕ). 10 ^ k) f ∙ rw e refl))
 
 pub measured-spec : {M : Type 1} → statement M
 measured-spec =

@@ -16,7 +16,8 @@ use Rattle.canonical.proofs.layout.without_zeros.Reads as without-zeros
 
 -- src/layout.rt:232:9
 returns : tie.Need-returns
-returns c = zero-prepared (c .before .args .negative) (c .before .args .coefficient) (c .before .args .power) (c .if1 .taken)
+returns c =
+    zero-prepared (c .before .args .negative) (c .before .args .coefficient) (c .before .args .power) (c .if1 .taken)
 
 -- src/layout.rt:238:9
 without-zeros-requires : tie.Need-without-zeros-requires
@@ -28,11 +29,27 @@ measured-requires c κs = search needs
 
 -- src/layout.rt:243:9
 layout-of-requires : tie.Need-layout-of-requires
-layout-of-requires c κs = (omega (arith, c .measured .ensures .0, count-short (c .before .without-zeros .result .number) 20 (omega arith) (omega arith)), zeros-few (c .before .before .before .args .coefficient) (c .before .without-zeros .result .number) (c .before .without-zeros .result .zeros) (c .before .without-zeros .ensures .whole) (above-zero (c .before .without-zeros .result .number) (c .before .without-zeros .ensures .bare)) (omega arith))
+layout-of-requires c κs = (
+  omega (
+    arith,
+    c .measured .ensures .0,
+    count-short (c .before .without-zeros .result .number) 20 (omega arith)
+        (omega arith),
+  ),
+  zeros-few (c .before .before .before .args .coefficient) (c .before .without-zeros .result .number)
+      (c .before .without-zeros .result .zeros) (c .before .without-zeros .ensures .whole)
+      (above-zero (c .before .without-zeros .result .number) (c .before .without-zeros .ensures .bare)) (omega arith),
+)
 
 -- src/layout.rt:219:1
 returns-2 : tie.Need-returns-2
-returns-2 c = bare-prepared (c .before .before .before .before .args .negative) (c .before .before .before .before .args .coefficient) (c .before .before .before .before .args .power) (c .before .before .without-zeros .result .number) (c .before .before .without-zeros .result .zeros) (c .before .measured .result .digits) (c .layout-of .result) (c .before .before .without-zeros .ensures) (c .before .measured .ensures .0) (rw (flat-power (c .before .before .before .before .args .power) (c .before .before .before .before .fits .power)) at (c .layout-of .ensures))
+returns-2 c =
+    bare-prepared (c .before .before .before .before .args .negative)
+    (c .before .before .before .before .args .coefficient) (c .before .before .before .before .args .power)
+    (c .before .before .without-zeros .result .number) (c .before .before .without-zeros .result .zeros)
+    (c .before .measured .result .digits) (c .layout-of .result) (c .before .before .without-zeros .ensures)
+    (c .before .measured .ensures .0) (rw (flat-power (c .before .before .before .before .args .power)
+    (c .before .before .before .before .fits .power)) at (c .layout-of .ensures))
 
 pub prepare-spec : {M : Type 1} → statement M
 prepare-spec =

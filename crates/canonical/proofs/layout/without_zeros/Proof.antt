@@ -21,7 +21,12 @@ loop-holds c = (c .pre, sym (mul-one (c .args .c)))
 
 -- src/layout.rt:60:9
 add-z : tie.Need-add-z Inv-loop μ-loop
-add-z c = omega (arith, zeros-few (c .before .before .args .c) (c .before .loop .w) (c .before .loop .z) (c .before .loop .inv .1) (c .before .loop .inv .0) (omega arith))
+add-z c =
+    omega (
+      arith,
+      zeros-few (c .before .before .args .c) (c .before .loop .w) (c .before .loop .z)
+          (c .before .loop .inv .1) (c .before .loop .inv .0) (omega arith),
+    )
 
 -- src/layout.rt:58:5
 loop-less : tie.Need-loop-less Inv-loop μ-loop
@@ -29,7 +34,11 @@ loop-less c = omega arith
 
 -- src/layout.rt:58:5
 loop-again : tie.Need-loop-again Inv-loop μ-loop
-loop-again c = (omega arith, zeros-go (c .before .before .args .c) (c .before .loop .w) (c .before .loop .z) (c .before .loop .inv .1) (omega arith))
+loop-again c = (
+  omega arith,
+  zeros-go (c .before .before .args .c) (c .before .loop .w) (c .before .loop .z)
+      (c .before .loop .inv .1) (omega arith),
+)
 
 -- src/layout.rt:52:1
 returns : tie.Need-returns Inv-loop μ-loop

@@ -21,19 +21,45 @@ sign-columns-requires c κs = search needs
 
 -- src/store.rt:64:45
 add-result : tie.Need-add-result
-add-result c = omega (arith, c .before .exponent-columns .ensures, one-if (c .before .before .args .p .raised) (1 + c .before .before .args .p .long))
+add-result c =
+    omega (
+      arith,
+      c .before .exponent-columns .ensures,
+      one-if (c .before .before .args .p .raised)
+          (1 + c .before .before .args .p .long),
+    )
 
 -- src/store.rt:64:40
 add-result-2 : tie.Need-add-result-2
-add-result-2 c = omega (arith, c .before .exponent-columns .ensures, one-if (c .before .before .args .p .raised) (1 + c .before .before .args .p .long))
+add-result-2 c =
+    omega (
+      arith,
+      c .before .exponent-columns .ensures,
+      one-if (c .before .before .args .p .raised)
+          (1 + c .before .before .args .p .long),
+    )
 
 -- src/store.rt:64:31
 add-result-3 : tie.Need-add-result-3
-add-result-3 c = omega (arith, c .before .exponent-columns .ensures, one-if (c .before .before .args .p .raised) (1 + c .before .before .args .p .long))
+add-result-3 c =
+    omega (
+      arith,
+      c .before .exponent-columns .ensures,
+      one-if (c .before .before .args .p .raised)
+          (1 + c .before .before .args .p .long),
+    )
 
 -- src/store.rt:64:5
 add-result-4 : tie.Need-add-result-4
-add-result-4 c = omega (arith, c .before .exponent-columns .ensures, one-if (c .before .before .args .p .raised) (1 + c .before .before .args .p .long), c .sign-columns .ensures, one-if (c .before .before .args .negative) 1)
+add-result-4 c =
+    omega (
+      arith,
+      c .before .exponent-columns .ensures,
+      one-if (c .before .before .args .p .raised)
+          (1 + c .before .before .args .p .long),
+      c .sign-columns .ensures,
+      one-if (c .before .before .args .negative) 1,
+    )
 
 -- src/store.rt:57:1
 returns : tie.Need-returns

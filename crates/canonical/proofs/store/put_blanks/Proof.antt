@@ -36,7 +36,14 @@ loop-less c = omega arith
 
 -- src/store.rt:22:5
 loop-again : tie.Need-loop-again Inv-loop μ-loop
-loop-again c = (omega arith, (rw (c .before .loop .inv .1 .0) (fill-more (c .before .loop .i) 32 (c .before .before .args .out .now) (omega arith)), length-set (c .before .loop .out) (c .before .loop .i) 32 ∙ c .before .loop .inv .1 .1))
+loop-again c = (
+  omega arith,
+  (
+    rw (c .before .loop .inv .1 .0)
+        (fill-more (c .before .loop .i) 32 (c .before .before .args .out .now) (omega arith)),
+    length-set (c .before .loop .out) (c .before .loop .i) 32 ∙ c .before .loop .inv .1 .1,
+  ),
+)
 
 -- src/store.rt:18:1
 same-length : tie.Need-same-length Inv-loop μ-loop

@@ -43,7 +43,28 @@ same-length c = search needs
 
 -- src/store.rt:83:1
 returns : tie.Need-returns
-returns c = filled-body (c .before .before .before .before .before .before .before .before .before .before .before .before .before .args .out .now) (c .before .before .before .before .before .before .before .before .before .before .put-digits .last .0) (c .before .before .before .before .before .before .put-byte .last .0) (c .before .before .put-digits2 .last .0) (c .before .before .before .before .before .before .before .before .before .before .before .before .before .args .at) (c .before .before .before .before .before .before .before .before .before .before .before .before .before .args .whole) (c .before .before .before .before .before .before .before .before .before .before .before .before .before .args .part) (c .before .before .before .before .before .before .before .before .before .before .before .before .before .args .v) (c .before .before .before .before .before .before .before .before .before .before .put-digits .ensures .1) (c .before .before .before .before .before .before .put-byte .ensures) (c .before .before .put-digits2 .ensures .1 ∙ ap (λ (x : ℕ). put (c .before .before .before .before .before .before .put-byte .last .0) (c .before .before .before .before .before .before .before .before .before .before .before .before .before .args .at) (text (digitsN (c .before .before .before .before .before .before .before .before .before .before .before .before .before .args .whole) x))) (c .before .before .before .before .before .before .before .before .before .before .put-digits .ensures .0)) (c .before .before .before .before .before .before .before .before .before .before .before .before .before .pre)
+returns c =
+    filled-body
+    (c .before .before .before .before .before .before .before .before .before .before .before .before .before .args
+    .out .now) (c .before .before .before .before .before .before .before .before .before .before .put-digits .last .0)
+    (c .before .before .before .before .before .before .put-byte .last .0) (c .before .before .put-digits2 .last .0)
+    (c .before .before .before .before .before .before .before .before .before .before .before .before .before .args
+    .at) (c .before .before .before .before .before .before .before .before .before .before .before .before .before
+    .args .whole)
+    (c .before .before .before .before .before .before .before .before .before .before .before .before .before .args
+    .part) (c .before .before .before .before .before .before .before .before .before .before .before .before .before
+    .args .v)
+    (c .before .before .before .before .before .before .before .before .before .before .put-digits .ensures .1)
+    (c .before .before .before .before .before .before .put-byte .ensures)
+    (c .before .before .put-digits2 .ensures .1 ∙ ap (λ (x : ℕ). put
+    (c .before .before .before .before .before .before .put-byte .last .0)
+    (c .before .before .before .before .before .before .before .before .before .before .before .before .before .args
+    .at) (text
+    (digitsN
+    (c .before .before .before .before .before .before .before .before .before .before .before .before .before .args
+    .whole) x)))
+    (c .before .before .before .before .before .before .before .before .before .before .put-digits .ensures .0))
+    (c .before .before .before .before .before .before .before .before .before .before .before .before .before .pre)
 
 pub put-body-spec : {M : Type 1} → statement M
 put-body-spec =

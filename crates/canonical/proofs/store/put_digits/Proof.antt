@@ -13,7 +13,8 @@ use Rattle.canonical.proofs.store.put_digits.Reads as reads
 use Rattle.canonical.proofs.store.put_digits.Lts as lts
 
 abbrev Inv-loop : tie.InvT-loop
-Inv-loop out₀ at n v w₀ k₀ out w k = (k ≤ n) × ((length out ≡ length out₀) × ((putDigits out₀ at n v ≡ putDigits out at k w) × (shift n v ≡ shift k w)))
+Inv-loop out₀ at n v w₀ k₀ out w k =
+    (k ≤ n) × ((length out ≡ length out₀) × ((putDigits out₀ at n v ≡ putDigits out at k w) × (shift n v ≡ shift k w)))
 
 abbrev μ-loop : tie.MeasureT-loop
 μ-loop out₀ at n v w₀ k₀ out w k = k
@@ -51,9 +52,11 @@ loop-again : tie.Need-loop-again Inv-loop μ-loop
 loop-again c = (
   omega arith,
   (
-    length-set (c .before .loop .out) (c .before .before .args .at + (c .before .loop .k - 1)) (48 + c .before .loop .w % 10) ∙ c .before .loop .inv .1 .0,
+    length-set (c .before .loop .out) (c .before .before .args .at + (c .before .loop .k - 1))
+        (48 + c .before .loop .w % 10) ∙ c .before .loop .inv .1 .0,
     (
-      c .before .loop .inv .1 .1 .0 ∙ digits-go (c .before .loop .k) (c .loop-test .taken) (c .before .loop .out) (c .before .before .args .at) (c .before .loop .w),
+      c .before .loop .inv .1 .1 .0 ∙ digits-go (c .before .loop .k) (c .loop-test .taken) (c .before .loop .out)
+          (c .before .before .args .at) (c .before .loop .w),
       c .before .loop .inv .1 .1 .1 ∙ shift-go (c .before .loop .k) (c .loop-test .taken) (c .before .loop .w),
     ),
   ),
@@ -67,8 +70,10 @@ same-length c = c .before .loop .inv .1 .0
 returns : tie.Need-returns Inv-loop μ-loop
 returns c = (
   sym (c .before .loop .inv .1 .1 .1 ∙ shift-out (c .before .loop .k) (c .before .loop .w) (c .loop-test .left)),
-  sym (c .before .loop .inv .1 .1 .0 ∙ digits-out (c .before .loop .k) (c .before .loop .out) (c .before .before .args .at) (c .before .loop .w) (c .loop-test .left))
-      ∙ put-digits (c .before .before .args .n) (c .before .before .args .out .now) (c .before .before .args .at) (c .before .before .args .v) (c .before .before .pre),
+  sym (c .before .loop .inv .1 .1 .0 ∙ digits-out (c .before .loop .k) (c .before .loop .out)
+      (c .before .before .args .at) (c .before .loop .w) (c .loop-test .left))
+      ∙ put-digits (c .before .before .args .n) (c .before .before .args .out .now) (c .before .before .args .at)
+      (c .before .before .args .v) (c .before .before .pre),
 )
 
 pub put-digits-spec : {M : Type 1} → statement M

@@ -30,7 +30,10 @@ sign-byte-requires c κs = search needs
 
 -- src/store.rt:98:9
 put-byte-requires : tie.Need-put-byte-requires
-put-byte-requires c κs = let h = rw (c .before .before .before .before .before .before .if1 .taken) at (c .before .before .before .before .before .before .before .before .pre) in omega (arith, c .before .before .before .before .put-digits .kept)
+put-byte-requires c κs =
+    let h = rw (c .before .before .before .before .before .before .if1 .taken) at
+    (c .before .before .before .before .before .before .before .before .pre) in
+    omega (arith, c .before .before .before .before .put-digits .kept)
 
 -- src/store.rt:92:1
 same-length : tie.Need-same-length
@@ -38,8 +41,23 @@ same-length c = search needs
 
 -- src/store.rt:92:1
 returns : tie.Need-returns
-returns c = let h = rw (c .before .before .before .before .before .before .before .before .before .if1 .taken) at (c .before .before .before .before .before .before .before .before .before .before .before .pre) in
-    rw (c .before .before .before .before .before .before .before .before .before .if1 .taken) (filled-exponent (c .before .before .before .before .before .before .before .before .before .before .before .args .out .now) (c .before .before .before .before .before .before .before .put-digits .last .0) (c .before .before .put-byte .last .0) (c .before .before .before .before .before .before .before .before .before .before .before .args .at) (c .before .before .before .before .before .before .before .before .before .before .before .args .below) (c .before .before .before .before .before .before .before .before .before .before .before .args .long) (c .before .before .before .before .before .before .before .before .before .before .before .args .e) (c .before .before .before .before .before .before .before .put-digits .ensures .1) (c .before .before .put-byte .ensures ∙ ap (λ (s : ℕ). put (c .before .before .before .before .before .before .before .put-digits .last .0) (c .before .before .before .before .before .before .before .before .before .before .before .args .at) (s ∷ [])) (c .before .before .before .sign-byte .ensures)) h)
+returns c =
+    let h = rw (c .before .before .before .before .before .before .before .before .before .if1 .taken) at
+    (c .before .before .before .before .before .before .before .before .before .before .before .pre) in
+    rw (c .before .before .before .before .before .before .before .before .before .if1 .taken)
+    (filled-exponent
+    (c .before .before .before .before .before .before .before .before .before .before .before .args .out .now)
+    (c .before .before .before .before .before .before .before .put-digits .last .0)
+    (c .before .before .put-byte .last .0)
+    (c .before .before .before .before .before .before .before .before .before .before .before .args .at)
+    (c .before .before .before .before .before .before .before .before .before .before .before .args .below)
+    (c .before .before .before .before .before .before .before .before .before .before .before .args .long)
+    (c .before .before .before .before .before .before .before .before .before .before .before .args .e)
+    (c .before .before .before .before .before .before .before .put-digits .ensures .1)
+    (c .before .before .put-byte .ensures ∙ ap (λ (s : ℕ). put
+    (c .before .before .before .before .before .before .before .put-digits .last .0)
+    (c .before .before .before .before .before .before .before .before .before .before .before .args .at) (s ∷ []))
+    (c .before .before .before .sign-byte .ensures)) h)
 
 -- src/store.rt:92:1
 returns-2 : tie.Need-returns-2

@@ -20,7 +20,8 @@ use Rattle.canonical.proofs.store.with_zeros.Reads as with-zeros-reads
 
 -- src/store.rt:128:28
 layout-columns-requires : tie.Need-layout-columns-requires
-layout-columns-requires c κs = (c .before .pre .sound .whole, (c .before .pre .sound .part, c .before .pre .sound .long))
+layout-columns-requires c κs =
+    (c .before .pre .sound .whole, (c .before .pre .sound .part, c .before .pre .sound .long))
 
 -- src/store.rt:128:16
 sub-lead : tie.Need-sub-lead
@@ -32,7 +33,14 @@ sign-columns-requires c κs = search needs
 
 -- src/store.rt:129:14
 add-at : tie.Need-add-at
-add-at c = omega (arith, c .before .layout-columns .ensures, c .sign-columns .ensures, c .before .before .before .pre .fits, column-parts (c .before .before .before .args .negative) (c .before .before .before .args .p))
+add-at c =
+    omega (
+      arith,
+      c .before .layout-columns .ensures,
+      c .sign-columns .ensures,
+      c .before .before .before .pre .fits,
+      column-parts (c .before .before .before .args .negative) (c .before .before .before .args .p),
+    )
 
 -- src/store.rt:130:9
 with-zeros-requires : tie.Need-with-zeros-requires
@@ -44,27 +52,82 @@ add-put-exponent c = omega (arith, c .before .before .before .before .before .pr
 
 -- src/store.rt:131:29
 add-put-exponent-2 : tie.Need-add-put-exponent-2
-add-put-exponent-2 c = omega (arith, c .before .before .before .before .before .pre .sound .part, c .before .before .before .before .before .pre .sound .whole)
+add-put-exponent-2 c =
+    omega (
+      arith,
+      c .before .before .before .before .before .pre .sound .part,
+      c .before .before .before .before .before .pre .sound .whole,
+    )
 
 -- src/store.rt:131:23
 add-put-exponent-3 : tie.Need-add-put-exponent-3
-add-put-exponent-3 c = omega (arith, c .before .before .before .layout-columns .ensures, c .before .before .sign-columns .ensures, c .before .before .before .before .before .pre .fits, column-parts (c .before .before .before .before .before .args .negative) (c .before .before .before .before .before .args .p))
+add-put-exponent-3 c =
+    omega (
+      arith,
+      c .before .before .before .layout-columns .ensures,
+      c .before .before .sign-columns .ensures,
+      c .before .before .before .before .before .pre .fits,
+      column-parts (c .before .before .before .before .before .args .negative)
+          (c .before .before .before .before .before .args .p),
+    )
 
 -- src/store.rt:131:5
 put-exponent-requires : tie.Need-put-exponent-requires
-put-exponent-requires c κs = omega (arith, c .before .before .before .layout-columns .ensures, c .before .before .sign-columns .ensures, c .before .before .before .before .before .pre .fits, column-parts (c .before .before .before .before .before .args .negative) (c .before .before .before .before .before .args .p))
+put-exponent-requires c κs =
+    omega (
+      arith,
+      c .before .before .before .layout-columns .ensures,
+      c .before .before .sign-columns .ensures,
+      c .before .before .before .before .before .pre .fits,
+      column-parts (c .before .before .before .before .before .args .negative)
+          (c .before .before .before .before .before .args .p),
+    )
 
 -- src/store.rt:132:5
 put-body-requires : tie.Need-put-body-requires
-put-body-requires c κs = omega (arith, c .before .before .before .before .before .before .before .layout-columns .ensures, c .before .before .before .before .before .before .sign-columns .ensures, c .before .before .before .before .before .before .before .before .before .pre .fits, column-parts (c .before .before .before .before .before .before .before .before .before .args .negative) (c .before .before .before .before .before .before .before .before .before .args .p), c .before .before .before .put-exponent .kept)
+put-body-requires c κs =
+    omega (
+      arith,
+      c .before .before .before .before .before .before .before .layout-columns .ensures,
+      c .before .before .before .before .before .before .sign-columns .ensures,
+      c .before .before .before .before .before .before .before .before .before .pre .fits,
+      column-parts (c .before .before .before .before .before .before .before .before .before .args .negative)
+          (c .before .before .before .before .before .before .before .before .before .args .p),
+      c .before .before .before .put-exponent .kept,
+    )
 
 -- src/store.rt:133:5
 put-sign-requires : tie.Need-put-sign-requires
-put-sign-requires c κs = omega (arith, c .before .before .before .before .before .before .before .before .before .before .before .layout-columns .ensures, c .before .before .before .before .before .before .before .before .before .before .sign-columns .ensures, c .before .before .before .before .before .before .before .before .before .before .before .before .before .pre .fits, column-parts (c .before .before .before .before .before .before .before .before .before .before .before .before .before .args .negative) (c .before .before .before .before .before .before .before .before .before .before .before .before .before .args .p), c .before .before .before .before .before .before .before .put-exponent .kept, c .before .before .before .put-body .kept)
+put-sign-requires c κs =
+    omega (
+      arith,
+      c .before .before .before .before .before .before .before .before .before .before .before .layout-columns
+          .ensures,
+      c .before .before .before .before .before .before .before .before .before .before .sign-columns .ensures,
+      c .before .before .before .before .before .before .before .before .before .before .before .before .before .pre
+          .fits,
+      column-parts
+          (c .before .before .before .before .before .before .before .before .before .before .before .before .before
+          .args .negative)
+          (c .before .before .before .before .before .before .before .before .before .before .before .before .before
+          .args .p),
+      c .before .before .before .before .before .before .before .put-exponent .kept,
+      c .before .before .before .put-body .kept,
+    )
 
 -- src/store.rt:134:5
 put-blanks-requires : tie.Need-put-blanks-requires
-put-blanks-requires c κs = omega (arith, c .before .before .before .before .before .before .before .before .before .before .before .before .before .before .before .layout-columns .ensures, c .before .before .before .before .before .before .before .before .before .before .before .before .before .before .before .before .before .pre .fits, c .before .before .before .before .before .before .before .before .before .before .before .put-exponent .kept, c .before .before .before .before .before .before .before .put-body .kept, c .before .before .before .put-sign .kept)
+put-blanks-requires c κs =
+    omega (
+      arith,
+      c .before .before .before .before .before .before .before .before .before .before .before .before .before .before
+          .before .layout-columns .ensures,
+      c .before .before .before .before .before .before .before .before .before .before .before .before .before .before
+          .before .before .before .pre .fits,
+      c .before .before .before .before .before .before .before .before .before .before .before .put-exponent .kept,
+      c .before .before .before .before .before .before .before .put-body .kept,
+      c .before .before .before .put-sign .kept,
+    )
 
 -- src/store.rt:117:1
 same-length : tie.Need-same-length
@@ -72,15 +135,38 @@ same-length c = search needs
 
 -- src/store.rt:117:1
 returns : tie.Need-returns
-returns c = let p = c .before .before .before .before .before .before .before .before .before .before .before .before .before .before .before .before .before .before .before .before .args .p in
-    let n = c .before .before .before .before .before .before .before .before .before .before .before .before .before .before .before .before .before .before .before .before .args .negative in
-    let l = c .before .before .before .before .before .before .before .before .before .before .before .before .before .before .before .before .before .before .before .before .args .out .now in
-    let C = c .before .before .before .before .before .before .before .before .before .before .before .before .before .before .before .before .before .before .layout-columns .result in
-    let S = c .before .before .before .before .before .before .before .before .before .before .before .before .before .before .before .before .before .sign-columns .result in
-    let z = c .before .before .before .before .before .before .before .before .before .before .before .before .before .before .before .before .with-zeros .ensures in
-    filled-field n (c .before .before .before .before .before .before .before .before .before .before .before .before .before .before .before .before .before .before .before .before .args .c) p l (c .before .before .before .before .before .before .before .before .before .before .before .before .before .before .put-exponent .last .0) (c .before .before .before .before .before .before .before .before .before .before .put-body .last .0) (c .before .before .before .before .before .before .put-sign .last .0) (c .before .before .put-blanks .last .0) (c .before .before .before .before .before .before .before .before .before .before .before .before .before .before .before .before .before .before .before .before .pre .fits)
-    (length l - C) (length l - C + S) (ap (λ (k : ℕ). length l - k) (c .before .before .before .before .before .before .before .before .before .before .before .before .before .before .before .before .before .before .layout-columns .ensures)) (ap (λ (k : ℕ). length l - C + k) (c .before .before .before .before .before .before .before .before .before .before .before .before .before .before .before .before .before .sign-columns .ensures))
-    (c .before .before .before .before .before .before .before .before .before .before .before .before .before .before .put-exponent .ensures) (rw z at (c .before .before .before .before .before .before .before .before .before .before .put-body .ensures)) (c .before .before .before .before .before .before .put-sign .ensures) (c .before .before .put-blanks .ensures)
+returns c =
+    let p = c .before .before .before .before .before .before .before .before .before .before .before .before .before
+    .before .before .before .before .before .before .before .args .p in
+    let n = c .before .before .before .before .before .before .before .before .before .before .before .before .before
+    .before .before .before .before .before .before .before .args .negative in
+    let l = c .before .before .before .before .before .before .before .before .before .before .before .before .before
+    .before .before .before .before .before .before .before .args .out .now in
+    let C = c .before .before .before .before .before .before .before .before .before .before .before .before .before
+    .before .before .before .before .before .layout-columns .result in
+    let S = c .before .before .before .before .before .before .before .before .before .before .before .before .before
+    .before .before .before .before .sign-columns .result in
+    let z = c .before .before .before .before .before .before .before .before .before .before .before .before .before
+    .before .before .before .with-zeros .ensures in
+    filled-field n
+    (c .before .before .before .before .before .before .before .before .before .before .before .before .before .before
+    .before .before .before .before .before .before .args .c) p l
+    (c .before .before .before .before .before .before .before .before .before .before .before .before .before .before
+    .put-exponent .last .0)
+    (c .before .before .before .before .before .before .before .before .before .before .put-body .last .0)
+    (c .before .before .before .before .before .before .put-sign .last .0) (c .before .before .put-blanks .last .0)
+    (c .before .before .before .before .before .before .before .before .before .before .before .before .before .before
+    .before .before .before .before .before .before .pre .fits)
+    (length l - C) (length l - C + S) (ap (λ (k : ℕ). length l - k)
+    (c .before .before .before .before .before .before .before .before .before .before .before .before .before .before
+    .before .before .before .before .layout-columns .ensures))
+    (ap (λ (k : ℕ). length l - C + k)
+    (c .before .before .before .before .before .before .before .before .before .before .before .before .before .before
+    .before .before .before .sign-columns .ensures))
+    (c .before .before .before .before .before .before .before .before .before .before .before .before .before .before
+    .put-exponent .ensures)
+    (rw z at (c .before .before .before .before .before .before .before .before .before .before .put-body .ensures))
+    (c .before .before .before .before .before .before .put-sign .ensures) (c .before .before .put-blanks .ensures)
 
 pub put-field-spec : {M : Type 1} → statement M
 put-field-spec =

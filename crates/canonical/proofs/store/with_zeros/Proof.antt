@@ -23,7 +23,9 @@ returns-2 c = rw (c .if2 .taken) refl
 
 -- src/store.rt:113:5
 mul-result-2 : tie.Need-mul-result-2
-mul-result-2 c = let e : c .before .before .args .zeros ≡ 2 = omega arith in omega (arith, rw e at (c .before .before .pre .1))
+mul-result-2 c =
+    let e : c .before .before .args .zeros ≡ 2 = omega arith in
+    omega (arith, rw e at (c .before .before .pre .1))
 
 -- src/store.rt:103:1
 returns-3 : tie.Need-returns-3

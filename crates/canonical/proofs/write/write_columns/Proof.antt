@@ -19,15 +19,42 @@ prepare-requires c κs = search needs
 
 -- src/write.rt:25:20
 layout-columns-requires : tie.Need-layout-columns-requires
-layout-columns-requires c κs = let e = rw (flat-power (c .before .before .before .args .power) (c .before .before .before .fits .power)) at (c .before .prepare .ensures) in let s = prepared-sound (c .before .before .before .args .negative) (c .before .before .before .args .coefficient) (c .before .before .before .args .power) (c .before .prepare .result) e (omega arith) (omega (arith, c .before .before .before .fits .power .sfits)) in (s .whole, (s .part, s .long))
+layout-columns-requires c κs =
+    let e = rw (flat-power (c .before .before .before .args .power)
+    (c .before .before .before .fits .power)) at (c .before .prepare .ensures) in
+    let s = prepared-sound (c .before .before .before .args .negative) (c .before .before .before .args .coefficient)
+    (c .before .before .before .args .power) (c .before .prepare .result) e (omega arith)
+    (omega (arith, c .before .before .before .fits .power .sfits)) in
+    (s .whole, (s .part, s .long))
 
 -- src/write.rt:26:9
 returns : tie.Need-returns
-returns c = let e = rw (flat-power (c .before .before .before .before .before .args .power) (c .before .before .before .before .before .fits .power)) at (c .before .before .before .prepare .ensures) in refused-wide (c .before .before .before .before .before .args .out .now) (c .before .before .before .before .before .args .negative) (c .before .before .before .before .before .args .coefficient) (c .before .before .before .before .before .args .power) (c .before .before .before .prepare .result) e (rw (c .before .layout-columns .ensures) at (c .if1 .taken))
+returns c =
+    let e = rw (flat-power (c .before .before .before .before .before .args .power)
+    (c .before .before .before .before .before .fits .power)) at (c .before .before .before .prepare .ensures) in
+    refused-wide (c .before .before .before .before .before .args .out .now)
+    (c .before .before .before .before .before .args .negative)
+    (c .before .before .before .before .before .args .coefficient)
+    (c .before .before .before .before .before .args .power) (c .before .before .before .prepare .result) e
+    (rw (c .before .layout-columns .ensures) at (c .if1 .taken))
 
 -- src/write.rt:28:5
 put-field-requires : tie.Need-put-field-requires
-put-field-requires c κs = let e = rw (flat-power (c .before .before .before .before .before .before .args .power) (c .before .before .before .before .before .before .fits .power)) at (c .before .before .before .before .prepare .ensures) in ready (c .before .before .before .before .prepare .result .negative) (c .before .before .before .before .prepare .result .coefficient) (c .before .before .before .before .prepare .result .layout) (length (c .before .before .before .before .before .before .args .out .now)) (c .before .before .before .before .before .before .pre) (rw (c .before .before .layout-columns .ensures) at (c .before .if1 .left)) (prepared-sound (c .before .before .before .before .before .before .args .negative) (c .before .before .before .before .before .before .args .coefficient) (c .before .before .before .before .before .before .args .power) (c .before .before .before .before .prepare .result) e (omega arith) (omega (arith, c .before .before .before .before .before .before .fits .power .sfits)))
+put-field-requires c κs =
+    let e = rw (flat-power (c .before .before .before .before .before .before .args .power)
+    (c .before .before .before .before .before .before .fits .power)) at
+    (c .before .before .before .before .prepare .ensures) in
+    ready (c .before .before .before .before .prepare .result .negative)
+    (c .before .before .before .before .prepare .result .coefficient)
+    (c .before .before .before .before .prepare .result .layout)
+    (length (c .before .before .before .before .before .before .args .out .now))
+    (c .before .before .before .before .before .before .pre)
+    (rw (c .before .before .layout-columns .ensures) at (c .before .if1 .left))
+    (prepared-sound (c .before .before .before .before .before .before .args .negative)
+    (c .before .before .before .before .before .before .args .coefficient)
+    (c .before .before .before .before .before .before .args .power)
+    (c .before .before .before .before .prepare .result) e (omega arith)
+    (omega (arith, c .before .before .before .before .before .before .fits .power .sfits)))
 
 -- src/write.rt:17:1
 same-length : tie.Need-same-length
@@ -35,7 +62,17 @@ same-length c = search needs
 
 -- src/write.rt:17:1
 returns-2 : tie.Need-returns-2
-returns-2 c = let e = rw (flat-power (c .before .before .before .before .before .before .before .before .before .args .power) (c .before .before .before .before .before .before .before .before .before .fits .power)) at (c .before .before .before .before .before .before .before .prepare .ensures) in done-wide (c .before .before .before .before .before .before .before .before .before .args .out .now) (c .before .before .before .before .before .before .before .before .before .args .negative) (c .before .before .before .before .before .before .before .before .before .args .coefficient) (c .before .before .before .before .before .before .before .before .before .args .power) (c .before .before .before .before .before .before .before .prepare .result) e (c .before .before .put-field .last .0) (rw (c .before .before .before .before .before .layout-columns .ensures) at (c .before .before .before .before .if1 .left)) (c .before .before .put-field .ensures)
+returns-2 c =
+    let e = rw (flat-power (c .before .before .before .before .before .before .before .before .before .args .power)
+    (c .before .before .before .before .before .before .before .before .before .fits .power)) at
+    (c .before .before .before .before .before .before .before .prepare .ensures) in
+    done-wide (c .before .before .before .before .before .before .before .before .before .args .out .now)
+    (c .before .before .before .before .before .before .before .before .before .args .negative)
+    (c .before .before .before .before .before .before .before .before .before .args .coefficient)
+    (c .before .before .before .before .before .before .before .before .before .args .power)
+    (c .before .before .before .before .before .before .before .prepare .result) e
+    (c .before .before .put-field .last .0) (rw (c .before .before .before .before .before .layout-columns .ensures) at
+    (c .before .before .before .before .if1 .left)) (c .before .before .put-field .ensures)
 
 pub write-columns-spec : {M : Type 1} → statement M
 write-columns-spec =

@@ -12,8 +12,18 @@ use Rattle.canonical.proofs.write.write_columns.Reads as write-columns-
 
 -- src/write.rt:38:9
 returns : tie.Need-returns
-returns c = let a = not-eleven (c .before .before .args .out .now) (valueOf (c .before .before .args .negative) (c .before .before .args .coefficient) (c .before .before .args .power)) (c .if1 .taken) in
-    (a .0, (a .1, answer-number (c .before .before .args .out .now) (valueOf (c .before .before .args .negative) (c .before .before .args .coefficient) (c .before .before .args .power)) (Refused 40) (a .0)))
+returns c =
+    let a = not-eleven (c .before .before .args .out .now)
+    (valueOf (c .before .before .args .negative) (c .before .before .args .coefficient)
+    (c .before .before .args .power)) (c .if1 .taken) in (
+      a .0,
+      (
+        a .1,
+        answer-number (c .before .before .args .out .now)
+            (valueOf (c .before .before .args .negative) (c .before .before .args .coefficient)
+            (c .before .before .args .power)) (Refused 40) (a .0),
+      ),
+    )
 
 -- src/write.rt:40:5
 write-columns-requires : tie.Need-write-columns-requires
@@ -25,8 +35,25 @@ same-length c = search needs
 
 -- src/write.rt:33:1
 returns-2 : tie.Need-returns-2
-returns-2 c = let a = in-eleven (c .before .before .before .before .before .before .args .out .now) (valueOf (c .before .before .before .before .before .before .args .negative) (c .before .before .before .before .before .before .args .coefficient) (c .before .before .before .before .before .before .args .power)) (c .before .before .write-columns .result) (c .before .before .write-columns .last .1 .1 .1 .0) (c .before .before .before .before .if1 .left) (rw (flat-power (c .before .before .before .before .before .before .args .power) (c .before .before .before .before .before .before .fits .power)) at (c .before .before .write-columns .ensures)) in
-    (a .0, (a .1, answer-number (c .before .before .before .before .before .before .args .out .now) (valueOf (c .before .before .before .before .before .before .args .negative) (c .before .before .before .before .before .before .args .coefficient) (c .before .before .before .before .before .before .args .power)) (c .before .before .write-columns .result) (a .0)))
+returns-2 c =
+    let a = in-eleven (c .before .before .before .before .before .before .args .out .now)
+    (valueOf (c .before .before .before .before .before .before .args .negative)
+    (c .before .before .before .before .before .before .args .coefficient)
+    (c .before .before .before .before .before .before .args .power)) (c .before .before .write-columns .result)
+    (c .before .before .write-columns .last .1 .1 .1 .0) (c .before .before .before .before .if1 .left)
+    (rw (flat-power (c .before .before .before .before .before .before .args .power)
+    (c .before .before .before .before .before .before .fits .power)) at
+    (c .before .before .write-columns .ensures)) in (
+      a .0,
+      (
+        a .1,
+        answer-number (c .before .before .before .before .before .before .args .out .now)
+            (valueOf (c .before .before .before .before .before .before .args .negative)
+            (c .before .before .before .before .before .before .args .coefficient)
+            (c .before .before .before .before .before .before .args .power)) (c .before .before .write-columns .result)
+            (a .0),
+      ),
+    )
 
 pub write-number-spec : {M : Type 1} → statement M
 write-number-spec = tie.close (tie.spec returns write-columns-requires same-length returns-2)

@@ -42,7 +42,14 @@ with-table-requires c κs = search needs
 -- src/next.rt:379:9
 returns-2 : tie.Need-returns-2
 unfolding afterInside
-returns-2 c = rw (ne-eqb _ _ (c .before .before .before .before .if1 .left), ← c .before .before .before .is-heading .ensures, c .before .before .if2 .taken, c .with-table .ensures, c .before .headings-read .ensures)
+returns-2 c =
+    rw (
+      ne-eqb _ _ (c .before .before .before .before .if1 .left),
+      ← c .before .before .before .is-heading .ensures,
+      c .before .before .if2 .taken,
+      c .with-table .ensures,
+      c .before .headings-read .ensures,
+    )
 
 -- src/next.rt:381:8
 is-unit-requires : tie.Need-is-unit-requires
@@ -59,7 +66,16 @@ with-table-requires-2 c κs = search needs
 -- src/next.rt:382:9
 returns-3 : tie.Need-returns-3
 unfolding afterInside
-returns-3 c = rw (ne-eqb _ _ (c .before .before .before .before .before .before .if1 .left), ← c .before .before .before .before .before .is-heading .ensures, c .before .before .before .before .if2 .left, ← c .before .before .before .is-unit .ensures, c .before .before .if3 .taken, c .with-table2 .ensures, c .before .units-read .ensures)
+returns-3 c =
+    rw (
+      ne-eqb _ _ (c .before .before .before .before .before .before .if1 .left),
+      ← c .before .before .before .before .before .is-heading .ensures,
+      c .before .before .before .before .if2 .left,
+      ← c .before .before .before .is-unit .ensures,
+      c .before .before .if3 .taken,
+      c .with-table2 .ensures,
+      c .before .units-read .ensures,
+    )
 
 -- src/next.rt:384:8
 is-value-requires : tie.Need-is-value-requires
@@ -72,12 +88,31 @@ numbers-read-requires c κs = search needs
 -- src/next.rt:385:9
 returns-4 : tie.Need-returns-4
 unfolding afterInside
-returns-4 c = rw (ne-eqb _ _ (c .before .before .before .before .before .before .before .if1 .left), ← c .before .before .before .before .before .before .is-heading .ensures, c .before .before .before .before .before .if2 .left, ← c .before .before .before .before .is-unit .ensures, c .before .before .before .if3 .left, ← c .before .before .is-value .ensures, c .before .if4 .taken) (c .numbers-read .ensures)
+returns-4 c =
+    rw (
+      ne-eqb _ _ (c .before .before .before .before .before .before .before .if1 .left),
+      ← c .before .before .before .before .before .before .is-heading .ensures,
+      c .before .before .before .before .before .if2 .left,
+      ← c .before .before .before .before .is-unit .ensures,
+      c .before .before .before .if3 .left,
+      ← c .before .before .is-value .ensures,
+      c .before .if4 .taken,
+    )
+    (c .numbers-read .ensures)
 
 -- src/next.rt:368:1
 returns-5 : tie.Need-returns-5
 unfolding afterInside
-returns-5 c = rw (ne-eqb _ _ (c .before .before .before .before .before .before .if1 .left), ← c .before .before .before .before .before .is-heading .ensures, c .before .before .before .before .if2 .left, ← c .before .before .before .is-unit .ensures, c .before .before .if3 .left, ← c .before .is-value .ensures, c .if4 .left)
+returns-5 c =
+    rw (
+      ne-eqb _ _ (c .before .before .before .before .before .before .if1 .left),
+      ← c .before .before .before .before .before .is-heading .ensures,
+      c .before .before .before .before .if2 .left,
+      ← c .before .before .before .is-unit .ensures,
+      c .before .before .if3 .left,
+      ← c .before .is-value .ensures,
+      c .if4 .left,
+    )
 
 pub after-inside-spec : {M : Type 1} → statement M
 after-inside-spec =

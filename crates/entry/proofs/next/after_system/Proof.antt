@@ -52,7 +52,13 @@ open-subentry-requires c κs = search needs
 -- src/next.rt:229:9
 returns-2 : tie.Need-returns-2
 unfolding afterSystem
-returns-2 c = rw (ne-eqb _ _ (c .before .before .before .before .if1 .left), ← c .before .before .before .opens-subentry .ensures, c .before .before .if2 .taken, ← c .before .subentry-of .ensures .0) (c .open-subentry .ensures)
+returns-2 c =
+    rw (
+      ne-eqb _ _ (c .before .before .before .before .if1 .left),
+      ← c .before .before .before .opens-subentry .ensures,
+      c .before .before .if2 .taken,
+      ← c .before .subentry-of .ensures .0,
+    ) (c .open-subentry .ensures)
 
 -- src/next.rt:232:38
 count-of-requires : tie.Need-count-of-requires
@@ -77,7 +83,18 @@ open-bib-requires c κs = search needs
 -- src/next.rt:232:9
 returns-3 : tie.Need-returns-3
 unfolding afterSystem
-returns-3 c = rw (ne-eqb _ _ (c .before .before .before .before .before .before .before .before .if1 .left), ← c .before .before .before .before .before .before .before .opens-subentry .ensures, c .before .before .before .before .before .before .if2 .left, eq-eqb _ _ (c .before .before .before .before .before .if3 .taken), ← c .before .before .before .before .count-of .ensures, ← c .before .before .before .number-of .ensures, ← c .before .before .count-of2 .ensures, ← c .before .number-of2 .ensures) (c .open-bib .ensures)
+returns-3 c =
+    rw (
+      ne-eqb _ _ (c .before .before .before .before .before .before .before .before .if1 .left),
+      ← c .before .before .before .before .before .before .before .opens-subentry .ensures,
+      c .before .before .before .before .before .before .if2 .left,
+      eq-eqb _ _
+          (c .before .before .before .before .before .if3 .taken),
+      ← c .before .before .before .before .count-of .ensures,
+      ← c .before .before .before .number-of .ensures,
+      ← c .before .before .count-of2 .ensures,
+      ← c .before .number-of2 .ensures,
+    ) (c .open-bib .ensures)
 
 -- src/next.rt:235:53
 count-of-requires-3 : tie.Need-count-of-requires-3
@@ -98,7 +115,19 @@ open-table-requires c κs = search needs
 -- src/next.rt:236:9
 returns-4 : tie.Need-returns-4
 unfolding afterSystem
-returns-4 c = rw (ne-eqb _ _ (c .before .before .before .before .before .before .before .before .if1 .left), ← c .before .before .before .before .before .before .before .opens-subentry .ensures, c .before .before .before .before .before .before .if2 .left, ne-eqb _ _ (c .before .before .before .before .before .if3 .left), eq-eqb _ _ (c .before .before .before .before .if4 .taken), ← c .before .before .before .count-of3 .ensures, ← c .before .before .number-of3 .ensures, ← c .before .up-to .ensures) (c .open-table .ensures)
+returns-4 c =
+    rw (
+      ne-eqb _ _ (c .before .before .before .before .before .before .before .before .if1 .left),
+      ← c .before .before .before .before .before .before .before .opens-subentry .ensures,
+      c .before .before .before .before .before .before .if2 .left,
+      ne-eqb _ _
+          (c .before .before .before .before .before .if3 .left),
+      eq-eqb _ _
+          (c .before .before .before .before .if4 .taken),
+      ← c .before .before .before .count-of3 .ensures,
+      ← c .before .before .number-of3 .ensures,
+      ← c .before .up-to .ensures,
+    ) (c .open-table .ensures)
 
 -- src/next.rt:239:53
 count-of-requires-4 : tie.Need-count-of-requires-4
@@ -131,12 +160,41 @@ open-table-requires-2 c κs = search needs
 -- src/next.rt:241:9
 returns-5 : tie.Need-returns-5
 unfolding afterSystem
-returns-5 c = rw (ne-eqb _ _ (c .before .before .before .before .before .before .before .before .before .before .before .before .if1 .left), ← c .before .before .before .before .before .before .before .before .before .before .before .opens-subentry .ensures, c .before .before .before .before .before .before .before .before .before .before .if2 .left, ne-eqb _ _ (c .before .before .before .before .before .before .before .before .before .if3 .left), ne-eqb _ _ (c .before .before .before .before .before .before .before .before .if4 .left), eq-eqb _ _ (c .before .before .before .before .before .before .before .if5 .taken), ← c .before .before .before .before .before .before .count-of4 .ensures, ← c .before .before .before .before .before .number-of4 .ensures, ← c .before .before .before .before .up-to2 .ensures, ← c .before .before .before .count-of5 .ensures, ← c .before .before .number-of5 .ensures, ← c .before .up-to3 .ensures) (c .open-table2 .ensures)
+returns-5 c =
+    rw (
+      ne-eqb _ _
+          (c .before .before .before .before .before .before .before .before .before .before .before .before .if1
+          .left),
+      ← c .before .before .before .before .before .before .before .before .before .before .before .opens-subentry
+          .ensures,
+      c .before .before .before .before .before .before .before .before .before .before .if2 .left,
+      ne-eqb _ _
+          (c .before .before .before .before .before .before .before .before .before .if3 .left),
+      ne-eqb _ _
+          (c .before .before .before .before .before .before .before .before .if4 .left),
+      eq-eqb _ _
+          (c .before .before .before .before .before .before .before .if5 .taken),
+      ← c .before .before .before .before .before .before .count-of4 .ensures,
+      ← c .before .before .before .before .before .number-of4 .ensures,
+      ← c .before .before .before .before .up-to2 .ensures,
+      ← c .before .before .before .count-of5 .ensures,
+      ← c .before .before .number-of5 .ensures,
+      ← c .before .up-to3 .ensures,
+    ) (c .open-table2 .ensures)
 
 -- src/next.rt:218:1
 returns-6 : tie.Need-returns-6
 unfolding afterSystem
-returns-6 c = rw (ne-eqb _ _ (c .before .before .before .before .before .if1 .left), ← c .before .before .before .before .opens-subentry .ensures, c .before .before .before .if2 .left, ne-eqb _ _ (c .before .before .if3 .left), ne-eqb _ _ (c .before .if4 .left), ne-eqb _ _ (c .if5 .left))
+returns-6 c =
+    rw (
+      ne-eqb _ _ (c .before .before .before .before .before .if1 .left),
+      ← c .before .before .before .before .opens-subentry .ensures,
+      c .before .before .before .if2 .left,
+      ne-eqb _ _
+          (c .before .before .if3 .left),
+      ne-eqb _ _ (c .before .if4 .left),
+      ne-eqb _ _ (c .if5 .left),
+    )
 
 pub after-system-spec : {M : Type 1} → statement M
 after-system-spec =

@@ -17,11 +17,13 @@ row-ends-requires c κs = search needs
 
 -- src/next.rt:349:9
 returns-2 : tie.Need-returns-2
-returns-2 c = (rw (eq-eqb _ _ (c .before .before .if1 .left), ← c .before .row-ends .ensures, c .if2 .taken), omega arith)
+returns-2 c =
+    (rw (eq-eqb _ _ (c .before .before .if1 .left), ← c .before .row-ends .ensures, c .if2 .taken), omega arith)
 
 -- src/next.rt:341:1
 returns-3 : tie.Need-returns-3
-returns-3 c = (rw (eq-eqb _ _ (c .before .before .if1 .left), ← c .before .row-ends .ensures, c .if2 .left), omega arith)
+returns-3 c =
+    (rw (eq-eqb _ _ (c .before .before .if1 .left), ← c .before .row-ends .ensures, c .if2 .left), omega arith)
 
 pub lines-read-spec : {M : Type 1} → statement M
 lines-read-spec = tie.close (tie.spec returns row-ends-requires returns-2 returns-3)

@@ -31,7 +31,14 @@ with-table-requires c κs = search needs
 
 -- src/next.rt:354:1
 returns : tie.Need-returns
-returns c = rw (c .with-table .ensures, c .before .with-totals .ensures, c .before .before .before .more-numbers .ensures, c .before .before .values-read .ensures, ← c .before .before .before .before .lines-read .ensures .0)
+returns c =
+    rw (
+      c .with-table .ensures,
+      c .before .with-totals .ensures,
+      c .before .before .before .more-numbers .ensures,
+      c .before .before .values-read .ensures,
+      ← c .before .before .before .before .lines-read .ensures .0,
+    )
 
 pub numbers-read-spec : {M : Type 1} → statement M
 numbers-read-spec =

@@ -46,7 +46,9 @@ kept-or-requires-2 c κs = search needs
 
 -- src/next.rt:525:9
 common-after-requires : tie.Need-common-after-requires
-common-after-requires c κs = c .before .before .before .before .before .before .before .before .before .before .before .before .before .before .before .pre
+common-after-requires c κs =
+    c .before .before .before .before .before .before .before .before .before .before .before .before .before .before
+    .before .pre
 
 -- src/next.rt:526:29
 table-change-requires : tie.Need-table-change-requires
@@ -54,12 +56,27 @@ table-change-requires c κs = search needs
 
 -- src/next.rt:526:9
 range-after-requires-3 : tie.Need-range-after-requires-3
-range-after-requires-3 c κs = c .before .before .before .before .before .before .before .before .before .before .before .before .before .before .before .before .before .pre
+range-after-requires-3 c κs =
+    c .before .before .before .before .before .before .before .before .before .before .before .before .before .before
+    .before .before .before .pre
 
 -- src/next.rt:508:1
 returns : tie.Need-returns
 unfolding rangesAfter
-returns c = rw (c .before .before .before .before .before .before .before .range-after .ensures, c .before .before .before .before .before .before .before .before .bib-change .ensures, c .before .before .before .before .before .range-after2 .ensures, c .before .before .before .before .before .before .under-change .ensures, c .before .before .before .before .kept-or .ensures, c .before .before .before .kept-or2 .ensures, c .before .before .before .before .before .before .before .before .before .before .before .before .before .before .before .ends001 .ensures, c .before .before .common-after .ensures, c .range-after3 .ensures, c .before .table-change .ensures)
+returns c =
+    rw (
+      c .before .before .before .before .before .before .before .range-after .ensures,
+      c .before .before .before .before .before .before .before .before .bib-change .ensures,
+      c .before .before .before .before .before .range-after2 .ensures,
+      c .before .before .before .before .before .before .under-change .ensures,
+      c .before .before .before .before .kept-or .ensures,
+      c .before .before .before .kept-or2 .ensures,
+      c .before .before .before .before .before .before .before .before .before .before .before .before .before .before
+          .before .ends001 .ensures,
+      c .before .before .common-after .ensures,
+      c .range-after3 .ensures,
+      c .before .table-change .ensures,
+    )
 
 pub ranges-after-spec : {M : Type 1} → statement M
 ranges-after-spec =

@@ -23,12 +23,24 @@ is-heading-requires c κs = search needs
 -- src/next.rt:469:9
 returns-2 : tie.Need-returns-2
 unfolding tableChange
-returns-2 c = rw (← c .before .before .before .is-either .ensures, c .before .before .if1 .left, ← c .before .is-heading .ensures, c .if2 .taken)
+returns-2 c =
+    rw (
+      ← c .before .before .before .is-either .ensures,
+      c .before .before .if1 .left,
+      ← c .before .is-heading .ensures,
+      c .if2 .taken,
+    )
 
 -- src/next.rt:462:1
 returns-3 : tie.Need-returns-3
 unfolding tableChange
-returns-3 c = rw (← c .before .before .before .is-either .ensures, c .before .before .if1 .left, ← c .before .is-heading .ensures, c .if2 .left)
+returns-3 c =
+    rw (
+      ← c .before .before .before .is-either .ensures,
+      c .before .before .if1 .left,
+      ← c .before .is-heading .ensures,
+      c .if2 .left,
+    )
 
 pub table-change-spec : {M : Type 1} → statement M
 table-change-spec =

@@ -37,7 +37,14 @@ with-bib-requires c κs = search needs
 -- src/next.rt:246:1
 returns-2 : tie.Need-returns-2
 unfolding textRead
-returns-2 c = rw (← c .before .before .before .before .before .before .before .is-keyword-blank .ensures, c .before .before .before .before .before .before .if1 .left, c .with-bib .ensures, c .before .with-totals .ensures, c .before .before .before .one-keyword .ensures)
+returns-2 c =
+    rw (
+      ← c .before .before .before .before .before .before .before .is-keyword-blank .ensures,
+      c .before .before .before .before .before .before .if1 .left,
+      c .with-bib .ensures,
+      c .before .with-totals .ensures,
+      c .before .before .before .one-keyword .ensures,
+    )
 
 pub text-read-spec : {M : Type 1} → statement M
 text-read-spec =

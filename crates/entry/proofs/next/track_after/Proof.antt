@@ -21,21 +21,38 @@ is-system-requires c κs = search needs
 
 -- src/next.rt:405:9
 after-system-requires : tie.Need-after-system-requires
-after-system-requires c κs = (rw (c .before .before .counted .ensures) (counted-follows _ (c .before .before .before .before .pre .0) (c .before .before .before .before .pre .1 .0) .bounded), c .before .before .before .before .pre .1 .1 .0)
+after-system-requires c κs = (
+  rw (c .before .before .counted .ensures) (counted-follows _ (c .before .before .before .before .pre .0)
+      (c .before .before .before .before .pre .1 .0) .bounded),
+  c .before .before .before .before .pre .1 .1 .0,
+)
 
 -- src/next.rt:405:9
 returns : tie.Need-returns
 unfolding trackAfter
-returns c = rw (← c .before .before .is-system .ensures, c .before .if1 .taken, ← c .before .before .before .counted .ensures) (c .after-system .ensures)
+returns c =
+    rw (← c .before .before .is-system .ensures, c .before .if1 .taken, ← c .before .before .before .counted .ensures)
+    (c .after-system .ensures)
 
 -- src/next.rt:408:5
 after-inside-requires : tie.Need-after-inside-requires
-after-inside-requires c κs = (rw (c .before .before .counted .ensures) (counted-follows _ (c .before .before .before .before .pre .0) (c .before .before .before .before .pre .1 .0) .bounded), rw (c .before .before .before .before .pre .1 .1 .1) (numbers-few _ _ _))
+after-inside-requires c κs = (
+  rw (c .before .before .counted .ensures) (counted-follows _ (c .before .before .before .before .pre .0)
+      (c .before .before .before .before .pre .1 .0) .bounded),
+  rw (c .before .before .before .before .pre .1 .1 .1)
+      (numbers-few _ _ _),
+)
 
 -- src/next.rt:390:1
 returns-2 : tie.Need-returns-2
 unfolding trackAfter
-returns-2 c = rw (← c .before .before .is-system .ensures, c .before .if1 .left, ← c .before .before .before .counted .ensures, ← c .before .before .before .before .before .pre .1 .1 .1) (c .after-inside .ensures)
+returns-2 c =
+    rw (
+      ← c .before .before .is-system .ensures,
+      c .before .if1 .left,
+      ← c .before .before .before .counted .ensures,
+      ← c .before .before .before .before .before .pre .1 .1 .1,
+    ) (c .after-inside .ensures)
 
 pub track-after-spec : {M : Type 1} → statement M
 track-after-spec =

@@ -29,12 +29,28 @@ is-keyword-blank-requires c κs = search needs
 -- src/next.rt:457:9
 returns-3 : tie.Need-returns-3
 unfolding underChange
-returns-3 c = rw (← c .before .before .before .before .empties-bib .ensures, c .before .before .before .if1 .left, eq-eqb _ _ (c .before .before .if2 .left), ← c .before .is-keyword-blank .ensures, c .if3 .taken)
+returns-3 c =
+    rw (
+      ← c .before .before .before .before .empties-bib .ensures,
+      c .before .before .before .if1 .left,
+      eq-eqb _ _
+          (c .before .before .if2 .left),
+      ← c .before .is-keyword-blank .ensures,
+      c .if3 .taken,
+    )
 
 -- src/next.rt:447:1
 returns-4 : tie.Need-returns-4
 unfolding underChange
-returns-4 c = rw (← c .before .before .before .before .empties-bib .ensures, c .before .before .before .if1 .left, eq-eqb _ _ (c .before .before .if2 .left), ← c .before .is-keyword-blank .ensures, c .if3 .left)
+returns-4 c =
+    rw (
+      ← c .before .before .before .before .empties-bib .ensures,
+      c .before .before .before .if1 .left,
+      eq-eqb _ _
+          (c .before .before .if2 .left),
+      ← c .before .is-keyword-blank .ensures,
+      c .if3 .left,
+    )
 
 pub under-change-spec : {M : Type 1} → statement M
 under-change-spec =

@@ -32,7 +32,10 @@ use Rattle.record.proofs.columns.record_of.Reads as record-of-reads
 use Rattle.record.proofs.identifier.names.Reads as names-reads
 
 abbrev Inv-loop : tie.InvT-loop
-Inv-loop entry bytes n classes names kinds nexts j₀ i₀ j i = (n ≡ length entry / 81) × (length entry ≡ length entry / 81 * 81) × (length entry / 81 ≤ MOST-RECORDS) × (j .track .records .0 ≡ i) × Stands (j .track) (j .ranges) (take (i * 81) entry) × Run (stepTurn entry) finishOf (judgeByNumbers entry) j i n
+Inv-loop entry bytes n classes names kinds nexts j₀ i₀ j i =
+    (n ≡ length entry / 81) × (length entry ≡ length entry / 81 * 81) × (length entry / 81 ≤ MOST-RECORDS)
+    × (j .track .records .0 ≡ i) × Stands (j .track) (j .ranges) (take (i * 81) entry)
+    × Run (stepTurn entry) finishOf (judgeByNumbers entry) j i n
 
 abbrev μ-loop : tie.MeasureT-loop
 μ-loop entry bytes n classes names kinds nexts j₀ i₀ j i = n - i
@@ -48,7 +51,12 @@ refused-requires c κs = search needs
 -- src/verdict.rt:104:9
 returns : tie.Need-returns Inv-loop μ-loop
 unfolding judgeOf
-returns c = rw (← c .before .before .length-good .ensures, not-true (c .before .before .length-good .result) (c .before .if1 .taken)) (c .refused .ensures)
+returns c =
+    rw (
+      ← c .before .before .length-good .ensures,
+      not-true (c .before .before .length-good .result)
+          (c .before .if1 .taken),
+    ) (c .refused .ensures)
 
 -- src/verdict.rt:107:19
 classes-requires : tie.Need-classes-requires Inv-loop μ-loop
@@ -72,7 +80,19 @@ new-requires c κs = search needs
 
 -- src/verdict.rt:113:5
 loop-holds : tie.Need-loop-holds Inv-loop μ-loop
-loop-holds c = let e = sym (c .before .before .before .before .before .before .length-good .ensures) ∙ not-false (c .before .before .before .before .before .before .length-good .result) (c .before .before .before .before .before .if1 .left) in let g = whole-records _ e in (search needs, g .0, g .1, rw (c .new .ensures) refl, rw (c .new .ensures) stands-start, rw (c .new .ensures) (run-start _ e))
+loop-holds c =
+    let e = sym (c .before .before .before .before .before .before .length-good .ensures)
+    ∙ not-false (c .before .before .before .before .before .before .length-good .result)
+    (c .before .before .before .before .before .if1 .left) in
+    let g = whole-records _ e in (
+      search needs,
+      g .0,
+      g .1,
+      rw (c .new .ensures) refl,
+      rw (c .new .ensures) stands-start,
+      rw (c .new .ensures)
+          (run-start _ e),
+    )
 
 -- src/verdict.rt:114:20
 mul-from : tie.Need-mul-from Inv-loop μ-loop
@@ -104,7 +124,35 @@ part-step-end c = search needs
 
 -- src/verdict.rt:118:13
 step-requires : tie.Need-step-requires Inv-loop μ-loop
-step-requires c κs = (record { same = c .before .before .before .before .before .before .before .before .before .before .before .before .before .before .classes .ensures }, (record { same = c .before .before .before .before .before .before .before .before .before .before .before .before .before .names .ensures }, (record { kinds-right = c .before .before .before .before .before .before .before .before .before .before .before .before .kinds .ensures; nexts-right = c .before .before .before .before .before .before .before .before .before .before .before .nexts .ensures }, record { stands = c .before .before .before .before .before .before .before .before .before .loop .inv .4; few = omega arith; whole = record { long = simp (length-take, length-drop) (omega arith) } })))
+step-requires c κs = (
+  record {
+    same =
+        c .before .before .before .before .before .before .before .before .before .before .before .before .before
+        .before .classes .ensures;
+  },
+  (
+    record {
+      same =
+          c .before .before .before .before .before .before .before .before .before .before .before .before .before
+          .names .ensures;
+    },
+    (
+      record {
+        kinds-right =
+            c .before .before .before .before .before .before .before .before .before .before .before .before .kinds
+            .ensures;
+        nexts-right =
+            c .before .before .before .before .before .before .before .before .before .before .before .nexts .ensures;
+      },
+      record {
+        stands = c .before .before .before .before .before .before .before .before .before .loop .inv .4;
+        few =
+            omega arith;
+        whole = record { long = simp (length-take, length-drop) (omega arith) };
+      },
+    ),
+  ),
+)
 
 -- src/verdict.rt:130:17
 enum-told : tie.Need-enum-told Inv-loop μ-loop
@@ -120,7 +168,19 @@ refused-requires-2 c κs = search needs
 
 -- src/verdict.rt:133:17
 returns-2 : tie.Need-returns-2 Inv-loop μ-loop
-returns-2 c = let h = rw add-sub-cancel-left at (c .before .before .before .before .before .step .ensures .same) in c .refused2 .ensures ∙ run-out (c .before .before .before .before .before .before .before .before .before .before .before .before .before .before .before .loop .inv .5) (c .before .before .before .before .before .before .before .before .before .before .before .before .before .before .loop-test .taken) (rw (← h, c .before .before .found .given .1, c .before .before .before .before .before .before .before .before .before .before .before .before .record-of .ensures)) ∙ numbers-judge _
+returns-2 c =
+    let h = rw add-sub-cancel-left at (c .before .before .before .before .before .step .ensures .same) in
+    c .refused2 .ensures
+    ∙ run-out
+    (c .before .before .before .before .before .before .before .before .before .before .before .before .before .before
+    .before .loop .inv .5)
+    (c .before .before .before .before .before .before .before .before .before .before .before .before .before .before
+    .loop-test .taken) (rw (
+      ← h,
+      c .before .before .found .given .1,
+      c .before .before .before .before .before .before .before .before .before .before .before .before .record-of
+          .ensures,
+    )) ∙ numbers-judge _
 
 -- src/verdict.rt:136:9
 add-i : tie.Need-add-i Inv-loop μ-loop
@@ -132,7 +192,25 @@ loop-less c = search needs
 
 -- src/verdict.rt:113:5
 loop-again : tie.Need-loop-again Inv-loop μ-loop
-loop-again c = let h = rw add-sub-cancel-left at (c .before .before .before .step .ensures .same) in let w = rw (add-sub-cancel-left, c .enum-told .given .1, ← next-bytes _ _) at (c .before .before .before .step .ensures .within) in (c .before .before .before .before .before .before .before .before .before .before .before .before .before .loop .inv .0, c .before .before .before .before .before .before .before .before .before .before .before .before .before .loop .inv .1, c .before .before .before .before .before .before .before .before .before .before .before .before .before .loop .inv .2, records-counted _ _ (c .before .before .before .step .result .next) (omega arith) w, w, run-next (c .before .before .before .before .before .before .before .before .before .before .before .before .before .loop .inv .5) (omega arith) (rw (← h, c .enum-told .given .1)))
+loop-again c =
+    let h = rw add-sub-cancel-left at (c .before .before .before .step .ensures .same) in
+    let w = rw (
+      add-sub-cancel-left,
+      c .enum-told .given .1,
+      ← next-bytes _ _,
+    ) at (c .before .before .before .step .ensures .within) in (
+      c .before .before .before .before .before .before .before .before .before .before .before .before .before .loop
+          .inv .0,
+      c .before .before .before .before .before .before .before .before .before .before .before .before .before .loop
+          .inv .1,
+      c .before .before .before .before .before .before .before .before .before .before .before .before .before .loop
+          .inv .2,
+      records-counted _ _ (c .before .before .before .step .result .next) (omega arith) w,
+      w,
+      run-next
+          (c .before .before .before .before .before .before .before .before .before .before .before .before .before
+          .loop .inv .5) (omega arith) (rw (← h, c .enum-told .given .1)),
+    )
 
 -- src/verdict.rt:138:5
 finish-requires : tie.Need-finish-requires Inv-loop μ-loop

@@ -33,7 +33,9 @@ class-of-requires c κs = search needs
 
 -- src/class.rt:291:13
 returns : tie.Need-returns Inv-loop μ-loop
-returns c = scan-found (c .before .before .before .before .loop .inv) (omega arith) (rw (permitted-class, eq-eqb _ _ (sym (c .before .class-of .ensures) ∙ c .if1 .taken)))
+returns c =
+    scan-found (c .before .before .before .before .loop .inv) (omega arith)
+    (rw (permitted-class, eq-eqb _ _ (sym (c .before .class-of .ensures) ∙ c .if1 .taken)))
 
 -- src/class.rt:293:9
 add-i : tie.Need-add-i Inv-loop μ-loop
@@ -45,7 +47,9 @@ loop-less c = search needs
 
 -- src/class.rt:289:5
 loop-again : tie.Need-loop-again Inv-loop μ-loop
-loop-again c = scan-next (c .before .before .before .before .loop .inv) (omega arith) (rw (permitted-class, ne-eqb _ _ (λ e. c .if1 .left (c .before .class-of .ensures ∙ e))))
+loop-again c =
+    scan-next (c .before .before .before .before .loop .inv) (omega arith)
+    (rw (permitted-class, ne-eqb _ _ (λ e. c .if1 .left (c .before .class-of .ensures ∙ e))))
 
 -- src/class.rt:283:1
 returns-2 : tie.Need-returns-2 Inv-loop μ-loop

@@ -56,17 +56,23 @@ mul-number c = search needs
 -- src/columns.rt:62:38
 add-number : tie.Need-add-number
 unfolding placeOf
-add-number c = let h = rw (← c .before .before .records-for .ensures) at (c .before .before .before .pre .number) in omega (arith, h)
+add-number c =
+    let h = rw (← c .before .before .records-for .ensures) at (c .before .before .before .pre .number) in
+    omega (arith, h)
 
 -- src/columns.rt:62:18
 add-number-2 : tie.Need-add-number-2
 unfolding placeOf
-add-number-2 c = let h = rw (← c .before .before .records-for .ensures) at (c .before .before .before .pre .number) in omega (arith, h)
+add-number-2 c =
+    let h = rw (← c .before .before .records-for .ensures) at (c .before .before .before .pre .number) in
+    omega (arith, h)
 
 -- src/columns.rt:63:23
 cast-t13 : tie.Need-cast-t13
 unfolding placeOf
-cast-t13 c = let h = rw (← c .before .before .records-for .ensures) at (c .before .before .before .pre .number) in omega (arith, h)
+cast-t13 c =
+    let h = rw (← c .before .before .records-for .ensures) at (c .before .before .before .pre .number) in
+    omega (arith, h)
 
 -- src/columns.rt:53:1
 returns : tie.Need-returns

@@ -40,7 +40,8 @@ shared-slice-read-t17 c = search needs
 
 -- src/expected.rt:18:1
 returns : tie.Need-returns
-returns c = columns-read (c .before .before .before .before .before .before .before .before .args .rec .now) 66 8 (omega arith)
+returns c =
+    columns-read (c .before .before .before .before .before .before .before .before .args .rec .now) 66 8 (omega arith)
 
 pub identification-spec : {M : Type 1} → statement M
 identification-spec =

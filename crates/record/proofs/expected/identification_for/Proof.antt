@@ -46,7 +46,9 @@ array-read-t29 c = search needs
 -- src/expected.rt:65:1
 returns : tie.Need-returns
 unfolding identificationFor
-returns c = rw (← c .three-digits .ensures) (both-read (c .before .args .t1) (c .three-digits .result) 5 3 (search needs) (search needs))
+returns c =
+    rw (← c .three-digits .ensures) (both-read (c .before .args .t1) (c .three-digits .result) 5 3 (search needs)
+    (search needs))
 
 pub identification-for-spec : {M : Type 1} → statement M
 identification-for-spec =

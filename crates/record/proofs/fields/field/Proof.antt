@@ -93,7 +93,12 @@ shared-slice-read-t34 c = search needs
 
 -- src/fields.rt:8:1
 returns : tie.Need-returns
-returns c = rw (add-zero (c .before .before .before .before .before .before .before .before .before .before .before .args .at)) at (columns-read (c .before .before .before .before .before .before .before .before .before .before .before .args .part .now) (c .before .before .before .before .before .before .before .before .before .before .before .args .at) 11 (omega arith))
+returns c =
+    rw (add-zero (c .before .before .before .before .before .before .before .before .before .before .before .args .at))
+    at (columns-read
+    (c .before .before .before .before .before .before .before .before .before .before .before .args .part .now)
+    (c .before .before .before .before .before .before .before .before .before .before .before .args .at) 11
+    (omega arith))
 
 pub field-spec : {M : Type 1} → statement M
 field-spec =

@@ -27,7 +27,9 @@ is-name-requires c κs = search needs
 
 -- src/identifier.rt:70:13
 returns : tie.Need-returns Inv-loop μ-loop
-returns c = scan-found (c .before .before .before .loop .inv .1) (omega arith) (sym (c .before .is-name .ensures) ∙ c .if1 .taken)
+returns c =
+    scan-found (c .before .before .before .loop .inv .1) (omega arith)
+    (sym (c .before .is-name .ensures) ∙ c .if1 .taken)
 
 -- src/identifier.rt:72:9
 add-k : tie.Need-add-k Inv-loop μ-loop
@@ -39,7 +41,11 @@ loop-less c = search needs
 
 -- src/identifier.rt:68:5
 loop-again : tie.Need-loop-again Inv-loop μ-loop
-loop-again c = (c .before .before .before .loop .inv .0, scan-next (c .before .before .before .loop .inv .1) (omega arith) (sym (c .before .is-name .ensures) ∙ c .if1 .left))
+loop-again c = (
+  c .before .before .before .loop .inv .0,
+  scan-next (c .before .before .before .loop .inv .1) (omega arith)
+      (sym (c .before .is-name .ensures) ∙ c .if1 .left),
+)
 
 -- src/identifier.rt:63:1
 returns-2 : tie.Need-returns-2 Inv-loop μ-loop

@@ -24,7 +24,14 @@ element-copy-out-if2 c = search needs
 
 -- src/identifier.rt:87:9
 returns-2 : tie.Need-returns-2
-returns-2 c = rw (end-letters (c .before .before .before .args .k), ne-eqb _ _ (λ e. c .if2 .taken (name-begins (c .before .before .before .pre) (c .before .before .before .args .k) (omega arith) ∙ e)))
+returns-2 c =
+    rw (
+      end-letters (c .before .before .before .args .k),
+      ne-eqb _ _
+          (λ e. c .if2 .taken (name-begins (c .before .before .before .pre) (c .before .before .before .args .k)
+          (omega arith)
+          ∙ e)),
+    )
 
 -- src/identifier.rt:89:10
 add-if3 : tie.Need-add-if3
@@ -36,7 +43,16 @@ element-copy-out-if3 c = search needs
 
 -- src/identifier.rt:90:9
 returns-3 : tie.Need-returns-3
-returns-3 c = rw (end-letters (c .before .before .before .before .before .args .k), eq-eqb _ _ (sym (name-begins (c .before .before .before .before .before .pre) (c .before .before .before .before .before .args .k) (omega arith)) ∙ c .before .before .if2 .left), ne-eqb _ _ (λ e. c .if3 .taken (name-read (c .before .before .before .before .before .pre) (c .before .before .before .before .before .args .k) 1 (omega arith) (omega arith) ∙ e)))
+returns-3 c =
+    rw (
+      end-letters (c .before .before .before .before .before .args .k),
+      eq-eqb _ _
+          (sym (name-begins (c .before .before .before .before .before .pre)
+          (c .before .before .before .before .before .args .k) (omega arith)) ∙ c .before .before .if2 .left),
+      ne-eqb _ _
+          (λ e. c .if3 .taken (name-read (c .before .before .before .before .before .pre)
+          (c .before .before .before .before .before .args .k) 1 (omega arith) (omega arith) ∙ e)),
+    )
 
 -- src/identifier.rt:92:7
 add-result : tie.Need-add-result
@@ -48,7 +64,19 @@ element-copy-out-result c = search needs
 
 -- src/identifier.rt:78:1
 returns-4 : tie.Need-returns-4
-returns-4 c = rw (end-letters (c .before .before .before .before .before .before .args .k), eq-eqb _ _ (sym (name-begins (c .before .before .before .before .before .before .pre) (c .before .before .before .before .before .before .args .k) (omega arith)) ∙ c .before .before .before .if2 .left), eq-eqb _ _ (sym (name-read (c .before .before .before .before .before .before .pre) (c .before .before .before .before .before .before .args .k) 1 (omega arith) (omega arith)) ∙ c .before .if3 .left)) (ap (λ (x : ℕ). eqb x 68) (name-read (c .before .before .before .before .before .before .pre) (c .before .before .before .before .before .before .args .k) 2 (omega arith) (omega arith)))
+returns-4 c =
+    rw (
+      end-letters (c .before .before .before .before .before .before .args .k),
+      eq-eqb _ _
+          (sym (name-begins (c .before .before .before .before .before .before .pre)
+          (c .before .before .before .before .before .before .args .k) (omega arith))
+          ∙ c .before .before .before .if2 .left),
+      eq-eqb _ _ (sym (name-read (c .before .before .before .before .before .before .pre)
+          (c .before .before .before .before .before .before .args .k) 1 (omega arith) (omega arith))
+          ∙ c .before .if3 .left),
+    )
+    (ap (λ (x : ℕ). eqb x 68) (name-read (c .before .before .before .before .before .before .pre)
+    (c .before .before .before .before .before .before .args .k) 2 (omega arith) (omega arith)))
 
 pub is-end-spec : {M : Type 1} → statement M
 is-end-spec =

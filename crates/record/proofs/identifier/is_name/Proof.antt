@@ -42,7 +42,10 @@ element-copy-out-if1 c = search needs
 -- src/identifier.rt:55:13
 returns : tie.Need-returns Inv-loop μ-loop
 unfolding isName equalTo
-returns c = scan-stopped (c .before .before .before .loop .inv .2) (omega arith) (rw (ne-eqb _ _ (λ e. c .if1 .taken (e ∙ sym (name-read (c .before .before .before .loop .inv .0) _ _ (omega arith) (omega arith))))))
+returns c =
+    scan-stopped (c .before .before .before .loop .inv .2) (omega arith)
+    (rw (ne-eqb _ _ (λ e. c .if1 .taken (e ∙ sym (name-read (c .before .before .before .loop .inv .0) _ _ (omega arith)
+    (omega arith))))))
 
 -- src/identifier.rt:57:9
 add-i : tie.Need-add-i Inv-loop μ-loop
@@ -54,7 +57,13 @@ loop-less c = search needs
 
 -- src/identifier.rt:53:5
 loop-again : tie.Need-loop-again Inv-loop μ-loop
-loop-again c = (c .before .before .before .loop .inv .0, c .before .before .before .loop .inv .1, scan-next (c .before .before .before .loop .inv .2) (omega arith) (rw (eq-eqb _ _ (c .if1 .left ∙ name-read (c .before .before .before .loop .inv .0) _ _ (omega arith) (omega arith)))))
+loop-again c = (
+  c .before .before .before .loop .inv .0,
+  c .before .before .before .loop .inv .1,
+  scan-next (c .before .before .before .loop .inv .2) (omega arith)
+      (rw (eq-eqb _ _ (c .if1 .left ∙ name-read (c .before .before .before .loop .inv .0) _ _ (omega arith)
+      (omega arith)))),
+)
 
 -- src/identifier.rt:47:1
 returns-2 : tie.Need-returns-2 Inv-loop μ-loop

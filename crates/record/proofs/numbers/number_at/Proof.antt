@@ -17,11 +17,13 @@ is-number-form-requires c κs = search needs
 
 -- src/numbers.rt:69:9
 returns-2 : tie.Need-returns-2
-returns-2 c = (rw (lt-ltb _ _ (c .before .before .if1 .left), ← c .before .is-number-form .ensures, c .if2 .taken), omega arith)
+returns-2 c =
+    (rw (lt-ltb _ _ (c .before .before .if1 .left), ← c .before .is-number-form .ensures, c .if2 .taken), omega arith)
 
 -- src/numbers.rt:61:1
 returns-3 : tie.Need-returns-3
-returns-3 c = (rw (lt-ltb _ _ (c .before .before .if1 .left), ← c .before .is-number-form .ensures, c .if2 .left), omega arith)
+returns-3 c =
+    (rw (lt-ltb _ _ (c .before .before .if1 .left), ← c .before .is-number-form .ensures, c .if2 .left), omega arith)
 
 pub number-at-spec : {M : Type 1} → statement M
 number-at-spec = tie.close (tie.spec returns is-number-form-requires returns-2 returns-3)

@@ -18,7 +18,10 @@ use Rattle.record.proofs.numbers.is_value_fault.Reads as is-value-fault
 use Rattle.record.proofs.numbers.number_at.Reads as number-at-reads
 
 abbrev Inv-loop : tie.InvT-loop
-Inv-loop kinds nexts used optional fields numbers₀ k₀ numbers k = (Tables kinds nexts) × Scan (inField (valueFault optional used) fields) (firstField (valueFault optional used) fields) k 6 × (numbers ≡ howMany (inField (isNumberAt used) fields) 0 k) × (numbers ≤ k)
+Inv-loop kinds nexts used optional fields numbers₀ k₀ numbers k =
+    (Tables kinds nexts) × Scan (inField (valueFault optional used) fields)
+    (firstField (valueFault optional used) fields) k 6 × (numbers ≡ howMany (inField (isNumberAt used) fields) 0 k)
+    × (numbers ≤ k)
 
 abbrev μ-loop : tie.MeasureT-loop
 μ-loop kinds nexts used optional fields numbers₀ k₀ numbers k = 6 - k
@@ -47,7 +50,12 @@ is-value-fault-requires c κs = search needs
 -- src/numbers.rt:91:13
 returns : tie.Need-returns Inv-loop μ-loop
 unfolding valuesOf valueFault
-returns c = rw (← scan-found (c .before .before .before .before .before .loop .inv .1) (omega arith) (rw (← c .before .before .form-of-field .ensures) (sym (c .before .is-value-fault .ensures) ∙ c .if1 .taken)), ← c .before .before .before .before .before .loop .inv .2)
+returns c =
+    rw (
+      ← scan-found (c .before .before .before .before .before .loop .inv .1) (omega arith)
+          (rw (← c .before .before .form-of-field .ensures) (sym (c .before .is-value-fault .ensures) ∙ c .if1 .taken)),
+      ← c .before .before .before .before .before .loop .inv .2,
+    )
 
 -- src/numbers.rt:93:20
 number-at-requires : tie.Need-number-at-requires Inv-loop μ-loop
@@ -68,12 +76,27 @@ loop-less c = search needs
 -- src/numbers.rt:87:5
 loop-again : tie.Need-loop-again Inv-loop μ-loop
 unfolding valueFault howMany isNumberAt
-loop-again c = (c .before .before .before .before .before .before .loop .inv .0, scan-next (c .before .before .before .before .before .before .loop .inv .1) (omega arith) (rw (← c .before .before .before .form-of-field .ensures) (sym (c .before .before .is-value-fault .ensures) ∙ c .before .if1 .left)), rw (add-one, c .number-at .ensures .0, c .before .before .before .form-of-field .ensures, zero-add, c .before .before .before .before .before .before .loop .inv .2), omega (arith, c .before .before .before .before .before .before .loop .inv .3, c .number-at .ensures .1))
+loop-again c = (
+  c .before .before .before .before .before .before .loop .inv .0,
+  scan-next (c .before .before .before .before .before .before .loop .inv .1) (omega arith)
+      (rw (← c .before .before .before .form-of-field .ensures)
+      (sym (c .before .before .is-value-fault .ensures) ∙ c .before .if1 .left)),
+  rw (
+    add-one,
+    c .number-at .ensures .0,
+    c .before .before .before .form-of-field .ensures,
+    zero-add,
+    c .before .before .before .before .before .before .loop .inv .2,
+  ),
+  omega (arith, c .before .before .before .before .before .before .loop .inv .3, c .number-at .ensures .1),
+)
 
 -- src/numbers.rt:75:1
 returns-2 : tie.Need-returns-2 Inv-loop μ-loop
 unfolding valuesOf
-returns-2 c = let e : c .before .loop .k ≡ 6 = omega (arith, c .before .loop .inv .1 .low) in rw (← scan-done (c .before .loop .inv .1) (omega arith), c .before .loop .inv .2, e)
+returns-2 c =
+    let e : c .before .loop .k ≡ 6 = omega (arith, c .before .loop .inv .1 .low) in
+    rw (← scan-done (c .before .loop .inv .1) (omega arith), c .before .loop .inv .2, e)
 
 pub values-of-spec : {M : Type 1} → statement M
 values-of-spec =

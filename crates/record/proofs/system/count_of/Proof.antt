@@ -29,7 +29,15 @@ digits-in-requires c κs = search needs
 -- src/system.rt:91:9
 returns-2 : tie.Need-returns-2
 unfolding integerOf
-returns-2 c = rw (← c .before .before .before .filled-from .ensures .0, ne-eqb _ _ (c .before .before .if1 .left), ← c .before .digits-in .ensures, not-true (c .before .digits-in .result) (c .if2 .taken))
+returns-2 c =
+    rw (
+      ← c .before .before .before .filled-from .ensures .0,
+      ne-eqb _ _
+          (c .before .before .if1 .left),
+      ← c .before .digits-in .ensures,
+      not-true (c .before .digits-in .result)
+          (c .if2 .taken),
+    )
 
 -- src/system.rt:93:9
 number-in-requires : tie.Need-number-in-requires
@@ -38,7 +46,15 @@ number-in-requires c κs = search needs
 -- src/system.rt:82:1
 returns-3 : tie.Need-returns-3
 unfolding integerOf
-returns-3 c = rw (← c .before .before .before .before .filled-from .ensures .0, ne-eqb _ _ (c .before .before .before .if1 .left), ← c .before .before .digits-in .ensures, not-false (c .before .before .digits-in .result) (c .before .if2 .left), ← c .number-in .ensures .0)
+returns-3 c =
+    rw (
+      ← c .before .before .before .before .filled-from .ensures .0,
+      ne-eqb _ _
+          (c .before .before .before .if1 .left),
+      ← c .before .before .digits-in .ensures,
+      not-false (c .before .before .digits-in .result) (c .before .if2 .left),
+      ← c .number-in .ensures .0,
+    )
 
 pub count-of-spec : {M : Type 1} → statement M
 count-of-spec =

@@ -37,7 +37,9 @@ is-within-requires c κs = search needs
 -- src/system.rt:60:13
 returns : tie.Need-returns Inv-loop μ-loop
 unfolding digitsIn
-returns c = scan-stopped (c .before .before .before .loop .inv .1) (omega arith) (ap not (sym (c .before .is-within .ensures)) ∙ c .if1 .taken)
+returns c =
+    scan-stopped (c .before .before .before .loop .inv .1) (omega arith)
+    (ap not (sym (c .before .is-within .ensures)) ∙ c .if1 .taken)
 
 -- src/system.rt:62:9
 add-i : tie.Need-add-i Inv-loop μ-loop
@@ -49,7 +51,11 @@ loop-less c = search needs
 
 -- src/system.rt:58:5
 loop-again : tie.Need-loop-again Inv-loop μ-loop
-loop-again c = (search needs, scan-next (c .before .before .before .loop .inv .1) (omega arith) (ap not (sym (c .before .is-within .ensures)) ∙ c .if1 .left))
+loop-again c = (
+  search needs,
+  scan-next (c .before .before .before .loop .inv .1) (omega arith)
+      (ap not (sym (c .before .is-within .ensures)) ∙ c .if1 .left),
+)
 
 -- src/system.rt:52:1
 returns-2 : tie.Need-returns-2 Inv-loop μ-loop

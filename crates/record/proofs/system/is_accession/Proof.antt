@@ -19,7 +19,8 @@ is-capital-or-digit-requires c κs = search needs
 -- src/system.rt:145:9
 returns : tie.Need-returns
 unfolding isAccession
-returns c = rw (← c .before .is-capital-or-digit .ensures, not-true (c .before .is-capital-or-digit .result) (c .if1 .taken))
+returns c =
+    rw (← c .before .is-capital-or-digit .ensures, not-true (c .before .is-capital-or-digit .result) (c .if1 .taken))
 
 -- src/system.rt:147:18
 add-digits-in : tie.Need-add-digits-in
@@ -32,7 +33,12 @@ digits-in-requires c κs = search needs
 -- src/system.rt:140:1
 returns-2 : tie.Need-returns-2
 unfolding isAccession
-returns-2 c = rw (← c .before .before .is-capital-or-digit .ensures, not-false (c .before .before .is-capital-or-digit .result) (c .before .if1 .left)) (c .digits-in .ensures)
+returns-2 c =
+    rw (
+      ← c .before .before .is-capital-or-digit .ensures,
+      not-false (c .before .before .is-capital-or-digit .result)
+          (c .before .if1 .left),
+    ) (c .digits-in .ensures)
 
 pub is-accession-spec : {M : Type 1} → statement M
 is-accession-spec =

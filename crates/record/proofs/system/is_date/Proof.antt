@@ -26,7 +26,15 @@ digits-in-requires c κs = search needs
 -- src/system.rt:129:9
 returns-2 : tie.Need-returns-2
 unfolding isDate
-returns-2 c = rw (← c .before .before .before .blank-to .ensures, not-false (c .before .before .before .blank-to .result) (c .before .before .if1 .left), ← c .before .digits-in .ensures, not-true (c .before .digits-in .result) (c .if2 .taken))
+returns-2 c =
+    rw (
+      ← c .before .before .before .blank-to .ensures,
+      not-false (c .before .before .before .blank-to .result)
+          (c .before .before .if1 .left),
+      ← c .before .digits-in .ensures,
+      not-true (c .before .digits-in .result)
+          (c .if2 .taken),
+    )
 
 -- src/system.rt:131:9
 number-in-requires : tie.Need-number-in-requires
@@ -39,7 +47,18 @@ is-up-to-requires c κs = search needs
 -- src/system.rt:133:9
 returns-3 : tie.Need-returns-3
 unfolding isDate
-returns-3 c = rw (← c .before .before .before .before .before .before .blank-to .ensures, not-false (c .before .before .before .before .before .before .blank-to .result) (c .before .before .before .before .before .if1 .left), ← c .before .before .before .before .digits-in .ensures, not-false (c .before .before .before .before .digits-in .result) (c .before .before .before .if2 .left), ← c .before .before .number-in .ensures .0, ← c .before .is-up-to .ensures, not-true (c .before .is-up-to .result) (c .if3 .taken))
+returns-3 c =
+    rw (
+      ← c .before .before .before .before .before .before .blank-to .ensures,
+      not-false (c .before .before .before .before .before .before .blank-to .result)
+          (c .before .before .before .before .before .if1 .left),
+      ← c .before .before .before .before .digits-in .ensures,
+      not-false (c .before .before .before .before .digits-in .result)
+          (c .before .before .before .if2 .left),
+      ← c .before .before .number-in .ensures .0,
+      ← c .before .is-up-to .ensures,
+      not-true (c .before .is-up-to .result) (c .if3 .taken),
+    )
 
 -- src/system.rt:135:9
 number-in-requires-2 : tie.Need-number-in-requires-2
@@ -52,7 +71,20 @@ is-up-to-requires-2 c κs = search needs
 -- src/system.rt:122:1
 returns-4 : tie.Need-returns-4
 unfolding isDate
-returns-4 c = rw (← c .before .before .before .before .before .before .before .before .blank-to .ensures, not-false (c .before .before .before .before .before .before .before .before .blank-to .result) (c .before .before .before .before .before .before .before .if1 .left), ← c .before .before .before .before .before .before .digits-in .ensures, not-false (c .before .before .before .before .before .before .digits-in .result) (c .before .before .before .before .before .if2 .left), ← c .before .before .before .before .number-in .ensures .0, ← c .before .before .before .is-up-to .ensures, not-false (c .before .before .before .is-up-to .result) (c .before .before .if3 .left), ← c .before .number-in2 .ensures .0) (c .is-up-to2 .ensures)
+returns-4 c =
+    rw (
+      ← c .before .before .before .before .before .before .before .before .blank-to .ensures,
+      not-false (c .before .before .before .before .before .before .before .before .blank-to .result)
+          (c .before .before .before .before .before .before .before .if1 .left),
+      ← c .before .before .before .before .before .before .digits-in .ensures,
+      not-false (c .before .before .before .before .before .before .digits-in .result)
+          (c .before .before .before .before .before .if2 .left),
+      ← c .before .before .before .before .number-in .ensures .0,
+      ← c .before .before .before .is-up-to .ensures,
+      not-false (c .before .before .before .is-up-to .result)
+          (c .before .before .if3 .left),
+      ← c .before .number-in2 .ensures .0,
+    ) (c .is-up-to2 .ensures)
 
 pub is-date-spec : {M : Type 1} → statement M
 is-date-spec =

@@ -24,7 +24,9 @@ is-accession-requires c κs = search needs
 -- src/system.rt:161:1
 returns-2 : tie.Need-returns-2
 unfolding isEntryN1
-returns-2 c = rw (← c .before .before .blank-to .ensures, not-false (c .before .before .blank-to .result) (c .before .if1 .left)) (c .is-accession .ensures)
+returns-2 c =
+    rw (← c .before .before .blank-to .ensures, not-false (c .before .before .blank-to .result) (c .before .if1 .left))
+    (c .is-accession .ensures)
 
 pub is-entry-n1-spec : {M : Type 1} → statement M
 is-entry-n1-spec = tie.close (tie.spec blank-to-requires returns is-accession-requires returns-2)

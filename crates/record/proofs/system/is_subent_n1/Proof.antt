@@ -25,7 +25,15 @@ is-accession-requires c κs = search needs
 -- src/system.rt:178:9
 returns-2 : tie.Need-returns-2
 unfolding isSubentN1
-returns-2 c = rw (← c .before .before .before .blank-to .ensures, not-false (c .before .before .before .blank-to .result) (c .before .before .if1 .left), ← c .before .is-accession .ensures, not-true (c .before .is-accession .result) (c .if2 .taken))
+returns-2 c =
+    rw (
+      ← c .before .before .before .blank-to .ensures,
+      not-false (c .before .before .before .blank-to .result)
+          (c .before .before .if1 .left),
+      ← c .before .is-accession .ensures,
+      not-true (c .before .is-accession .result)
+          (c .if2 .taken),
+    )
 
 -- src/system.rt:180:5
 digits-in-requires : tie.Need-digits-in-requires
@@ -34,7 +42,14 @@ digits-in-requires c κs = search needs
 -- src/system.rt:171:1
 returns-3 : tie.Need-returns-3
 unfolding isSubentN1
-returns-3 c = rw (← c .before .before .before .before .blank-to .ensures, not-false (c .before .before .before .before .blank-to .result) (c .before .before .before .if1 .left), ← c .before .before .is-accession .ensures, not-false (c .before .before .is-accession .result) (c .before .if2 .left)) (c .digits-in .ensures)
+returns-3 c =
+    rw (
+      ← c .before .before .before .before .blank-to .ensures,
+      not-false (c .before .before .before .before .blank-to .result)
+          (c .before .before .before .if1 .left),
+      ← c .before .before .is-accession .ensures,
+      not-false (c .before .before .is-accession .result) (c .before .if2 .left),
+    ) (c .digits-in .ensures)
 
 pub is-subent-n1-spec : {M : Type 1} → statement M
 is-subent-n1-spec =

@@ -12,7 +12,8 @@ use Rattle.record.proofs.system.number_in.Lts as lts
 use Rattle.record.proofs.system.digit_of.Reads as digit-of-reads
 
 abbrev Inv-loop : tie.InvT-loop
-Inv-loop from n f number₀ i₀ number i = (from + n ≤ 11) × (i ≤ n) × (number ≡ numberIn f from i) × (number + 23 ≤ 23 * 10 ^ i)
+Inv-loop from n f number₀ i₀ number i =
+    (from + n ≤ 11) × (i ≤ n) × (number ≡ numberIn f from i) × (number + 23 ≤ 23 * 10 ^ i)
 
 abbrev μ-loop : tie.MeasureT-loop
 μ-loop from n f number₀ i₀ number i = n - i
@@ -53,11 +54,19 @@ loop-less c = search needs
 -- src/system.rt:87:5
 loop-again : tie.Need-loop-again Inv-loop μ-loop
 unfolding numberIn
-loop-again c = (c .before .before .loop .inv .0, omega arith, rw (add-one, c .digit-of .ensures .0, c .before .before .loop .inv .2), one-more _ _ _ (c .before .before .loop .inv .3) (c .digit-of .ensures .1))
+loop-again c = (
+  c .before .before .loop .inv .0,
+  omega arith,
+  rw (add-one, c .digit-of .ensures .0, c .before .before .loop .inv .2),
+  one-more _ _ _
+      (c .before .before .loop .inv .3) (c .digit-of .ensures .1),
+)
 
 -- src/system.rt:80:1
 returns : tie.Need-returns Inv-loop μ-loop
-returns c = let e : c .before .loop .i ≡ c .before .before .args .n = omega arith in (rw e at (c .before .loop .inv .2), rw e at (c .before .loop .inv .3))
+returns c =
+    let e : c .before .loop .i ≡ c .before .before .args .n = omega arith in
+    (rw e at (c .before .loop .inv .2), rw e at (c .before .loop .inv .3))
 
 pub number-in-spec : {M : Type 1} → statement M
 number-in-spec =

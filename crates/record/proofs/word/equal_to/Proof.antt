@@ -32,7 +32,8 @@ shared-slice-read-if1-2 c = search needs
 -- src/word.rt:47:13
 returns : tie.Need-returns Inv-loop μ-loop
 unfolding equalTo
-returns c = scan-stopped (c .before .before .before .before .loop .inv .2) (omega arith) (rw (ne-eqb _ _ (c .if1 .taken)))
+returns c =
+    scan-stopped (c .before .before .before .before .loop .inv .2) (omega arith) (rw (ne-eqb _ _ (c .if1 .taken)))
 
 -- src/word.rt:49:9
 add-i : tie.Need-add-i Inv-loop μ-loop
@@ -44,7 +45,11 @@ loop-less c = search needs
 
 -- src/word.rt:45:5
 loop-again : tie.Need-loop-again Inv-loop μ-loop
-loop-again c = (c .before .before .before .before .loop .inv .0, c .before .before .before .before .loop .inv .1, scan-next (c .before .before .before .before .loop .inv .2) (omega arith) (rw (eq-eqb _ _ (c .if1 .left))))
+loop-again c = (
+  c .before .before .before .before .loop .inv .0,
+  c .before .before .before .before .loop .inv .1,
+  scan-next (c .before .before .before .before .loop .inv .2) (omega arith) (rw (eq-eqb _ _ (c .if1 .left))),
+)
 
 -- src/word.rt:39:1
 returns-2 : tie.Need-returns-2 Inv-loop μ-loop

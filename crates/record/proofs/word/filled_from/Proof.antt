@@ -37,7 +37,11 @@ loop-less c = search needs
 
 -- src/word.rt:17:5
 loop-again : tie.Need-loop-again Inv-loop μ-loop
-loop-again c = (c .before .before .loop .inv .0, scan-next (c .before .before .loop .inv .1) (omega arith) (rw (eq-eqb _ _ (c .if1 .left))))
+loop-again c = (
+  c .before .before .loop .inv .0,
+  scan-next (c .before .before .loop .inv .1) (omega arith)
+      (rw (eq-eqb _ _ (c .if1 .left))),
+)
 
 -- src/word.rt:10:1
 returns-2 : tie.Need-returns-2 Inv-loop μ-loop

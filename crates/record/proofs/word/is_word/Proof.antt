@@ -24,7 +24,8 @@ filled-from-requires c κs = search needs
 -- src/word.rt:94:1
 returns-2 : tie.Need-returns-2
 unfolding isWord
-returns-2 c = rw (← c .before .before .word-end .ensures .0, ne-eqb _ _ (c .before .if1 .left), ← c .filled-from .ensures .0)
+returns-2 c =
+    rw (← c .before .before .word-end .ensures .0, ne-eqb _ _ (c .before .if1 .left), ← c .filled-from .ensures .0)
 
 pub is-word-spec : {M : Type 1} → statement M
 is-word-spec = tie.close (tie.spec word-end-requires returns filled-from-requires returns-2)

@@ -35,7 +35,9 @@ is-pointer-fault-requires c κs = search needs
 
 -- src/word.rt:188:13
 returns : tie.Need-returns Inv-loop μ-loop
-returns c = scan-found (c .before .before .before .before .loop .inv) (omega arith) (sym (c .before .is-pointer-fault .ensures) ∙ c .if1 .taken)
+returns c =
+    scan-found (c .before .before .before .before .loop .inv) (omega arith)
+    (sym (c .before .is-pointer-fault .ensures) ∙ c .if1 .taken)
 
 -- src/word.rt:190:9
 add-k : tie.Need-add-k Inv-loop μ-loop
@@ -47,7 +49,9 @@ loop-less c = search needs
 
 -- src/word.rt:185:5
 loop-again : tie.Need-loop-again Inv-loop μ-loop
-loop-again c = scan-next (c .before .before .before .before .loop .inv) (omega arith) (sym (c .before .is-pointer-fault .ensures) ∙ c .if1 .left)
+loop-again c =
+    scan-next (c .before .before .before .before .loop .inv) (omega arith)
+    (sym (c .before .is-pointer-fault .ensures) ∙ c .if1 .left)
 
 -- src/word.rt:181:1
 returns-2 : tie.Need-returns-2 Inv-loop μ-loop

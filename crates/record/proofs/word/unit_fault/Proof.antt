@@ -35,7 +35,9 @@ is-unit-fault-requires c κs = search needs
 
 -- src/word.rt:218:13
 returns : tie.Need-returns Inv-loop μ-loop
-returns c = scan-found (c .before .before .before .before .loop .inv) (omega arith) (sym (c .before .is-unit-fault .ensures) ∙ c .if1 .taken)
+returns c =
+    scan-found (c .before .before .before .before .loop .inv) (omega arith)
+    (sym (c .before .is-unit-fault .ensures) ∙ c .if1 .taken)
 
 -- src/word.rt:220:9
 add-k : tie.Need-add-k Inv-loop μ-loop
@@ -47,7 +49,9 @@ loop-less c = search needs
 
 -- src/word.rt:215:5
 loop-again : tie.Need-loop-again Inv-loop μ-loop
-loop-again c = scan-next (c .before .before .before .before .loop .inv) (omega arith) (sym (c .before .is-unit-fault .ensures) ∙ c .if1 .left)
+loop-again c =
+    scan-next (c .before .before .before .before .loop .inv) (omega arith)
+    (sym (c .before .is-unit-fault .ensures) ∙ c .if1 .left)
 
 -- src/word.rt:211:1
 returns-2 : tie.Need-returns-2 Inv-loop μ-loop

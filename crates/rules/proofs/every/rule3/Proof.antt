@@ -26,12 +26,24 @@ cast-column c = search needs
 -- src/every.rt:45:9
 returns : tie.Need-returns
 unfolding rule3
-returns c = rw (leftmost-where (notPermitted _) (λ i. i + 1) 80, ← permitted-first _, ← c .before .permitted-to .ensures, lt-ltb _ _ (c .if1 .taken))
+returns c =
+    rw (
+      leftmost-where (notPermitted _) (λ i. i + 1) 80,
+      ← permitted-first _,
+      ← c .before .permitted-to .ensures,
+      lt-ltb _ _ (c .if1 .taken),
+    )
 
 -- src/every.rt:37:1
 returns-2 : tie.Need-returns-2
 unfolding rule3
-returns-2 c = rw (leftmost-where (notPermitted _) (λ i. i + 1) 80, ← permitted-first _, ← c .before .permitted-to .ensures, le-ltb _ _ (c .if1 .left))
+returns-2 c =
+    rw (
+      leftmost-where (notPermitted _) (λ i. i + 1) 80,
+      ← permitted-first _,
+      ← c .before .permitted-to .ensures,
+      le-ltb _ _ (c .if1 .left),
+    )
 
 pub rule3-spec : {M : Type 1} → statement M
 rule3-spec = tie.close (tie.spec permitted-to-requires add-column cast-column returns returns-2)

@@ -20,13 +20,16 @@ use Rattle.rules.proofs.headings.part_of.Reads as part-of-reads
 use Rattle.rules.proofs.headings.place_of.Reads as place-of-reads
 
 abbrev Inv-loop : tie.InvT-loop
-Inv-loop common001 common table here left f before found₀ s part n m₀ found m = (found ≡ Nothing) × Scan (equalAt f part) (equalIn f part n) m n
+Inv-loop common001 common table here left f before found₀ s part n m₀ found m =
+    (found ≡ Nothing) × Scan (equalAt f part) (equalIn f part n) m n
 
 abbrev μ-loop : tie.MeasureT-loop
 μ-loop common001 common table here left f before found₀ s part n m₀ found m = n - m
 
 abbrev Inv-sections : tie.InvT-sections
-Inv-sections common001 common table here left f before found₀ s₀ found s = (found ≡ Nothing) × Run (sectionTurn f (earlier common001 common table here left)) nowhere (equalHeading f (earlier common001 common table here left)) tt s 4
+Inv-sections common001 common table here left f before found₀ s₀ found s =
+    (found ≡ Nothing) × Run (sectionTurn f (earlier common001 common table here left)) nowhere
+    (equalHeading f (earlier common001 common table here left)) tt s 4
 
 abbrev μ-sections : tie.MeasureT-sections
 μ-sections common001 common table here left f before found₀ s₀ found s = 4 - s
@@ -46,7 +49,10 @@ part-of-requires c κs = search needs
 
 -- src/headings.rt:135:13
 headings-of-requires : tie.Need-headings-of-requires Inv-loop μ-loop Inv-sections μ-sections
-headings-of-requires c κs = left-fits _ _ _ _ _ _ _ (c .part-of .ensures) (c .before .before .before .before .before .before .before .before .pre .0 .long) (c .before .before .before .before .before .before .before .before .pre .1)
+headings-of-requires c κs =
+    left-fits _ _ _ _ _ _ _ (c .part-of .ensures)
+    (c .before .before .before .before .before .before .before .before .pre .0 .long)
+    (c .before .before .before .before .before .before .before .before .pre .1)
 
 -- src/headings.rt:137:9
 loop-holds : tie.Need-loop-holds Inv-loop μ-loop Inv-sections μ-sections
@@ -86,7 +92,11 @@ loop-less c = search needs
 
 -- src/headings.rt:137:9
 loop-again : tie.Need-loop-again Inv-loop μ-loop Inv-sections μ-sections
-loop-again c = (c .before .before .before .before .loop .inv .0, scan-next (c .before .before .before .before .loop .inv .1) (omega arith) (rw (← c .before .before .field .ensures) (sym (c .before .same-heading .ensures) ∙ c .if1 .left)))
+loop-again c = (
+  c .before .before .before .before .loop .inv .0,
+  scan-next (c .before .before .before .before .loop .inv .1)
+      (omega arith) (rw (← c .before .before .field .ensures) (sym (c .before .same-heading .ensures) ∙ c .if1 .left)),
+)
 
 -- src/headings.rt:146:9
 add-s : tie.Need-add-s Inv-loop μ-loop Inv-sections μ-sections
@@ -98,7 +108,18 @@ sections-less c = search needs
 
 -- src/headings.rt:133:5
 sections-again : tie.Need-sections-again Inv-loop μ-loop Inv-sections μ-sections
-sections-again c = (c .before .loop .inv .0, run-next (c .before .before .before .before .before .sections .inv .1) (omega arith) (rw (← c .before .before .before .part-of .ensures, ← c .before .before .headings-of .ensures .0, ← scan-done (c .before .loop .inv .1) (omega arith), le-ltb (c .before .before .headings-of .result) (c .before .before .headings-of .result) (omega arith))))
+sections-again c = (
+  c .before .loop .inv .0,
+  run-next (c .before .before .before .before .before .sections .inv .1) (omega arith)
+      (rw (
+        ← c .before .before .before .part-of .ensures,
+        ← c .before .before .headings-of .ensures .0,
+        ← scan-done
+            (c .before .loop .inv .1) (omega arith),
+        le-ltb (c .before .before .headings-of .result)
+            (c .before .before .headings-of .result) (omega arith),
+      )),
+)
 
 -- src/headings.rt:118:1
 returns : tie.Need-returns Inv-loop μ-loop Inv-sections μ-sections
@@ -106,7 +127,21 @@ returns c = rw (c .before .sections .inv .0) (run-done (c .before .sections .inv
 
 -- src/headings.rt:118:1
 returns-2 : tie.Need-returns-2 Inv-loop μ-loop Inv-sections μ-sections
-returns-2 c = let w = scan-found (c .before .before .before .before .before .loop .inv .1) (omega arith) (rw (← c .before .before .before .field .ensures) (sym (c .before .before .same-heading .ensures) ∙ c .before .if1 .taken)) in run-out (c .before .before .before .before .before .before .before .before .before .sections .inv .1) (omega arith) (rw (← c .before .before .before .before .before .before .before .part-of .ensures, ← c .before .before .before .before .before .before .headings-of .ensures .0, ← w, lt-ltb (c .before .before .before .before .before .loop .m) (c .before .before .before .before .before .before .headings-of .result) (omega arith), ← c .before .before .before .before .before .before .before .before .before .before .headings-in .ensures .0, c .place-of .ensures))
+returns-2 c =
+    let w = scan-found (c .before .before .before .before .before .loop .inv .1) (omega arith)
+    (rw (← c .before .before .before .field .ensures)
+    (sym (c .before .before .same-heading .ensures) ∙ c .before .if1 .taken)) in
+    run-out (c .before .before .before .before .before .before .before .before .before .sections .inv .1) (omega arith)
+    (rw (
+      ← c .before .before .before .before .before .before .before .part-of .ensures,
+      ← c .before .before .before .before .before .before .headings-of .ensures .0,
+      ← w,
+      lt-ltb (c .before .before .before .before .before .loop .m)
+          (c .before .before .before .before .before .before .headings-of .result)
+          (omega arith),
+      ← c .before .before .before .before .before .before .before .before .before .before .headings-in .ensures .0,
+      c .place-of .ensures,
+    ))
 
 pub equal-heading-spec : {M : Type 1} → statement M
 equal-heading-spec =

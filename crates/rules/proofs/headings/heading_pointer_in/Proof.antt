@@ -15,7 +15,8 @@ use Rattle.rules.proofs.headings.heading_pointer_in.Lts as lts
 use Rattle.rules.proofs.headings.headings_in.Reads as headings-in-reads
 
 abbrev Inv-loop : tie.InvT-loop
-Inv-loop part pointer n m₀ m = (n ≡ headingsIn part) × Look (eqb pointer) (headingPointerAt part) (anyOf (eqb pointer) (headingPointers part)) m n
+Inv-loop part pointer n m₀ m =
+    (n ≡ headingsIn part) × Look (eqb pointer) (headingPointerAt part) (anyOf (eqb pointer) (headingPointers part)) m n
 
 abbrev μ-loop : tie.MeasureT-loop
 μ-loop part pointer n m₀ m = n - m
@@ -63,7 +64,8 @@ loop-less c = search needs
 
 -- src/headings.rt:190:5
 loop-again : tie.Need-loop-again Inv-loop μ-loop
-loop-again c = (search needs, look-next (c .before .before .before .loop .inv .1) (omega arith) (ne-eqb _ _ (c .if1 .left)))
+loop-again c =
+    (search needs, look-next (c .before .before .before .loop .inv .1) (omega arith) (ne-eqb _ _ (c .if1 .left)))
 
 -- src/headings.rt:185:1
 returns-2 : tie.Need-returns-2 Inv-loop μ-loop

@@ -13,11 +13,19 @@ headings-in-requires c κs = search needs
 
 -- src/headings.rt:98:9
 returns : tie.Need-returns
-returns c = let h = c .before .before .before .pre .few (c .if1 .taken) in let e = c .before .headings-in .ensures .0 in let f = c .before .headings-in .ensures .1 in (rw (eq-eqb _ _ (c .if1 .taken)), (h, omega arith))
+returns c =
+    let h = c .before .before .before .pre .few (c .if1 .taken) in
+    let e = c .before .headings-in .ensures .0 in
+    let f = c .before .headings-in .ensures .1 in
+    (rw (eq-eqb _ _ (c .if1 .taken)), (h, omega arith))
 
 -- src/headings.rt:90:1
 returns-2 : tie.Need-returns-2
-returns-2 c = let e = c .before .headings-in .ensures .0 in (rw (ne-eqb _ _ (c .if1 .left)) (c .before .headings-in .ensures .0), (omega arith, c .before .headings-in .ensures .1))
+returns-2 c =
+    let e = c .before .headings-in .ensures .0 in (
+      rw (ne-eqb _ _ (c .if1 .left)) (c .before .headings-in .ensures .0),
+      (omega arith, c .before .headings-in .ensures .1),
+    )
 
 pub headings-of-spec : {M : Type 1} → statement M
 headings-of-spec = tie.close (tie.spec headings-in-requires returns returns-2)

@@ -12,7 +12,9 @@ use Rattle.rules.proofs.headings.lost_at.Lts as lts
 use Rattle.rules.proofs.headings.pointer_lost.Reads as pointer-lost-reads
 
 abbrev Inv-loop : tie.InvT-loop
-Inv-loop bib bib001 common common001 n fs k₀ k = (n ≤ 6) × Scan (lostAt (pointersFor bib bib001 common common001) fs) (first (lostAt (pointersFor bib bib001 common common001) fs) 0 n) k n
+Inv-loop bib bib001 common common001 n fs k₀ k =
+    (n ≤ 6) × Scan (lostAt (pointersFor bib bib001 common common001) fs)
+    (first (lostAt (pointersFor bib bib001 common common001) fs) 0 n) k n
 
 abbrev μ-loop : tie.MeasureT-loop
 μ-loop bib bib001 common common001 n fs k₀ k = n - k
@@ -35,7 +37,9 @@ pointer-lost-requires c κs = search needs
 
 -- src/headings.rt:244:13
 returns : tie.Need-returns Inv-loop μ-loop
-returns c = scan-found (c .before .before .before .before .loop .inv .1) (omega arith) (sym (c .before .pointer-lost .ensures) ∙ c .if1 .taken)
+returns c =
+    scan-found (c .before .before .before .before .loop .inv .1) (omega arith)
+    (sym (c .before .pointer-lost .ensures) ∙ c .if1 .taken)
 
 -- src/headings.rt:246:9
 add-k : tie.Need-add-k Inv-loop μ-loop
@@ -47,7 +51,11 @@ loop-less c = search needs
 
 -- src/headings.rt:241:5
 loop-again : tie.Need-loop-again Inv-loop μ-loop
-loop-again c = (c .before .before .before .before .loop .inv .0, scan-next (c .before .before .before .before .loop .inv .1) (omega arith) (sym (c .before .pointer-lost .ensures) ∙ c .if1 .left))
+loop-again c = (
+  c .before .before .before .before .loop .inv .0,
+  scan-next (c .before .before .before .before .loop .inv .1)
+      (omega arith) (sym (c .before .pointer-lost .ensures) ∙ c .if1 .left),
+)
 
 -- src/headings.rt:229:1
 returns-2 : tie.Need-returns-2 Inv-loop μ-loop

@@ -24,7 +24,15 @@ pointer-in-requires-2 c κs = search needs
 -- src/headings.rt:210:9
 returns-2 : tie.Need-returns-2
 unfolding pointersFor
-returns-2 c = rw (any-append, ← c .before .before .before .pointer-in .ensures, c .before .before .if1 .left, any-append, ← c .before .pointer-in2 .ensures, c .if2 .taken)
+returns-2 c =
+    rw (
+      any-append,
+      ← c .before .before .before .pointer-in .ensures,
+      c .before .before .if1 .left,
+      any-append,
+      ← c .before .pointer-in2 .ensures,
+      c .if2 .taken,
+    )
 
 -- src/headings.rt:212:8
 heading-pointer-in-requires : tie.Need-heading-pointer-in-requires
@@ -33,7 +41,18 @@ heading-pointer-in-requires c κs = search needs
 -- src/headings.rt:213:9
 returns-3 : tie.Need-returns-3
 unfolding pointersFor
-returns-3 c = rw (any-append, ← c .before .before .before .before .before .pointer-in .ensures, c .before .before .before .before .if1 .left, any-append, ← c .before .before .before .pointer-in2 .ensures, c .before .before .if2 .left, any-append, ← c .before .heading-pointer-in .ensures, c .if3 .taken)
+returns-3 c =
+    rw (
+      any-append,
+      ← c .before .before .before .before .before .pointer-in .ensures,
+      c .before .before .before .before .if1 .left,
+      any-append,
+      ← c .before .before .before .pointer-in2 .ensures,
+      c .before .before .if2 .left,
+      any-append,
+      ← c .before .heading-pointer-in .ensures,
+      c .if3 .taken,
+    )
 
 -- src/headings.rt:215:5
 heading-pointer-in-requires-2 : tie.Need-heading-pointer-in-requires-2
@@ -42,7 +61,18 @@ heading-pointer-in-requires-2 c κs = search needs
 -- src/headings.rt:203:1
 returns-4 : tie.Need-returns-4
 unfolding pointersFor
-returns-4 c = rw (any-append, ← c .before .before .before .before .before .before .pointer-in .ensures, c .before .before .before .before .before .if1 .left, any-append, ← c .before .before .before .before .pointer-in2 .ensures, c .before .before .before .if2 .left, any-append, ← c .before .before .heading-pointer-in .ensures, c .before .if3 .left) (c .heading-pointer-in2 .ensures)
+returns-4 c =
+    rw (
+      any-append,
+      ← c .before .before .before .before .before .before .pointer-in .ensures,
+      c .before .before .before .before .before .if1 .left,
+      any-append,
+      ← c .before .before .before .before .pointer-in2 .ensures,
+      c .before .before .before .if2 .left,
+      any-append,
+      ← c .before .before .heading-pointer-in .ensures,
+      c .before .if3 .left,
+    ) (c .heading-pointer-in2 .ensures)
 
 pub pointer-found-spec : {M : Type 1} → statement M
 pointer-found-spec =

@@ -13,7 +13,9 @@ use Rattle.rules.proofs.headings.equal_heading.Reads as equal-heading-r
 use Rattle.rules.proofs.headings.is_found.Reads as is-found-reads
 
 abbrev Inv-loop : tie.InvT-loop
-Inv-loop common001 common table here n fs k₀ k = (n ≤ 6) × Scan (headingRepeated common001 common table here fs) (first (headingRepeated common001 common table here fs) 0 n) k n
+Inv-loop common001 common table here n fs k₀ k =
+    (n ≤ 6) × Scan (headingRepeated common001 common table here fs)
+    (first (headingRepeated common001 common table here fs) 0 n) k n
 
 abbrev μ-loop : tie.MeasureT-loop
 μ-loop common001 common table here n fs k₀ k = n - k
@@ -40,7 +42,9 @@ is-found-requires c κs = search needs
 
 -- src/headings.rt:178:13
 returns : tie.Need-returns Inv-loop μ-loop
-returns c = scan-found (c .before .before .before .before .before .loop .inv .1) (omega arith) (rw (← c .before .before .equal-heading .ensures) (sym (c .before .is-found .ensures) ∙ c .if1 .taken))
+returns c =
+    scan-found (c .before .before .before .before .before .loop .inv .1) (omega arith)
+    (rw (← c .before .before .equal-heading .ensures) (sym (c .before .is-found .ensures) ∙ c .if1 .taken))
 
 -- src/headings.rt:180:9
 add-k : tie.Need-add-k Inv-loop μ-loop
@@ -52,7 +56,11 @@ loop-less c = search needs
 
 -- src/headings.rt:174:5
 loop-again : tie.Need-loop-again Inv-loop μ-loop
-loop-again c = (c .before .before .before .before .before .loop .inv .0, scan-next (c .before .before .before .before .before .loop .inv .1) (omega arith) (rw (← c .before .before .equal-heading .ensures) (sym (c .before .is-found .ensures) ∙ c .if1 .left)))
+loop-again c = (
+  c .before .before .before .before .before .loop .inv .0,
+  scan-next (c .before .before .before .before .before .loop .inv .1) (omega arith)
+      (rw (← c .before .before .equal-heading .ensures) (sym (c .before .is-found .ensures) ∙ c .if1 .left)),
+)
 
 -- src/headings.rt:161:1
 returns-2 : tie.Need-returns-2 Inv-loop μ-loop

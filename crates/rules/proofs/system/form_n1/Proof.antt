@@ -30,7 +30,14 @@ opens-section-requires c κs = search needs
 -- src/system.rt:62:9
 returns-3 : tie.Need-returns-3
 unfolding formN1
-returns-3 c = rw (ne-eqb _ _ (c .before .before .before .before .if1 .left), ← c .before .before .before .opens-subentry .ensures, c .before .before .if2 .left, ← c .before .opens-section .ensures, c .if3 .taken)
+returns-3 c =
+    rw (
+      ne-eqb _ _ (c .before .before .before .before .if1 .left),
+      ← c .before .before .before .opens-subentry .ensures,
+      c .before .before .if2 .left,
+      ← c .before .opens-section .ensures,
+      c .if3 .taken,
+    )
 
 -- src/system.rt:64:8
 is-end-requires : tie.Need-is-end-requires
@@ -39,12 +46,30 @@ is-end-requires c κs = search needs
 -- src/system.rt:65:9
 returns-4 : tie.Need-returns-4
 unfolding formN1
-returns-4 c = rw (ne-eqb _ _ (c .before .before .before .before .before .before .if1 .left), ← c .before .before .before .before .before .opens-subentry .ensures, c .before .before .before .before .if2 .left, ← c .before .before .before .opens-section .ensures, c .before .before .if3 .left, ← c .before .is-end .ensures, c .if4 .taken)
+returns-4 c =
+    rw (
+      ne-eqb _ _ (c .before .before .before .before .before .before .if1 .left),
+      ← c .before .before .before .before .before .opens-subentry .ensures,
+      c .before .before .before .before .if2 .left,
+      ← c .before .before .before .opens-section .ensures,
+      c .before .before .if3 .left,
+      ← c .before .is-end .ensures,
+      c .if4 .taken,
+    )
 
 -- src/system.rt:51:1
 returns-5 : tie.Need-returns-5
 unfolding formN1
-returns-5 c = rw (ne-eqb _ _ (c .before .before .before .before .before .before .if1 .left), ← c .before .before .before .before .before .opens-subentry .ensures, c .before .before .before .before .if2 .left, ← c .before .before .before .opens-section .ensures, c .before .before .if3 .left, ← c .before .is-end .ensures, c .if4 .left)
+returns-5 c =
+    rw (
+      ne-eqb _ _ (c .before .before .before .before .before .before .if1 .left),
+      ← c .before .before .before .before .before .opens-subentry .ensures,
+      c .before .before .before .before .if2 .left,
+      ← c .before .before .before .opens-section .ensures,
+      c .before .before .if3 .left,
+      ← c .before .is-end .ensures,
+      c .if4 .left,
+    )
 
 pub form-n1-spec : {M : Type 1} → statement M
 form-n1-spec =

@@ -29,12 +29,26 @@ opens-section-requires c κs = search needs
 -- src/system.rt:80:9
 returns-3 : tie.Need-returns-3
 unfolding formN2
-returns-3 c = rw (ne-eqb _ _ (c .before .before .before .before .if1 .left), ← c .before .before .before .opens-subentry .ensures, c .before .before .if2 .left, ← c .before .opens-section .ensures, c .if3 .taken)
+returns-3 c =
+    rw (
+      ne-eqb _ _ (c .before .before .before .before .if1 .left),
+      ← c .before .before .before .opens-subentry .ensures,
+      c .before .before .if2 .left,
+      ← c .before .opens-section .ensures,
+      c .if3 .taken,
+    )
 
 -- src/system.rt:70:1
 returns-4 : tie.Need-returns-4
 unfolding formN2
-returns-4 c = rw (ne-eqb _ _ (c .before .before .before .before .if1 .left), ← c .before .before .before .opens-subentry .ensures, c .before .before .if2 .left, ← c .before .opens-section .ensures, c .if3 .left)
+returns-4 c =
+    rw (
+      ne-eqb _ _ (c .before .before .before .before .if1 .left),
+      ← c .before .before .before .opens-subentry .ensures,
+      c .before .before .if2 .left,
+      ← c .before .opens-section .ensures,
+      c .if3 .left,
+    )
 
 pub form-n2-spec : {M : Type 1} → statement M
 form-n2-spec =

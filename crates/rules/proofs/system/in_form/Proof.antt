@@ -27,7 +27,8 @@ is-subent-n1-requires c κs = search needs
 -- src/system.rt:92:9
 returns-2 : tie.Need-returns-2
 unfolding inForm
-returns-2 c = rw (ne-eqb _ _ (c .before .before .if1 .left), eq-eqb _ _ (c .before .if2 .taken)) (c .is-subent-n1 .ensures)
+returns-2 c =
+    rw (ne-eqb _ _ (c .before .before .if1 .left), eq-eqb _ _ (c .before .if2 .taken)) (c .is-subent-n1 .ensures)
 
 -- src/system.rt:95:9
 is-date-requires : tie.Need-is-date-requires
@@ -36,7 +37,13 @@ is-date-requires c κs = search needs
 -- src/system.rt:95:9
 returns-3 : tie.Need-returns-3
 unfolding inForm
-returns-3 c = rw (ne-eqb _ _ (c .before .before .before .if1 .left), ne-eqb _ _ (c .before .before .if2 .left), eq-eqb _ _ (c .before .if3 .taken)) (c .is-date .ensures)
+returns-3 c =
+    rw (
+      ne-eqb _ _ (c .before .before .before .if1 .left),
+      ne-eqb _ _ (c .before .before .if2 .left),
+      eq-eqb _ _
+          (c .before .if3 .taken),
+    ) (c .is-date .ensures)
 
 -- src/system.rt:98:25
 count-of-requires : tie.Need-count-of-requires
@@ -49,12 +56,28 @@ is-count-requires c κs = search needs
 -- src/system.rt:98:9
 returns-4 : tie.Need-returns-4
 unfolding inForm
-returns-4 c = rw (ne-eqb _ _ (c .before .before .before .before .before .if1 .left), ne-eqb _ _ (c .before .before .before .before .if2 .left), ne-eqb _ _ (c .before .before .before .if3 .left), eq-eqb _ _ (c .before .before .if4 .taken), ← c .before .count-of .ensures) (c .is-count .ensures)
+returns-4 c =
+    rw (
+      ne-eqb _ _ (c .before .before .before .before .before .if1 .left),
+      ne-eqb _ _
+          (c .before .before .before .before .if2 .left),
+      ne-eqb _ _ (c .before .before .before .if3 .left),
+      eq-eqb _ _
+          (c .before .before .if4 .taken),
+      ← c .before .count-of .ensures,
+    ) (c .is-count .ensures)
 
 -- src/system.rt:85:1
 returns-5 : tie.Need-returns-5
 unfolding inForm
-returns-5 c = rw (ne-eqb _ _ (c .before .before .before .if1 .left), ne-eqb _ _ (c .before .before .if2 .left), ne-eqb _ _ (c .before .if3 .left), ne-eqb _ _ (c .if4 .left))
+returns-5 c =
+    rw (
+      ne-eqb _ _ (c .before .before .before .if1 .left),
+      ne-eqb _ _ (c .before .before .if2 .left),
+      ne-eqb _ _
+          (c .before .if3 .left),
+      ne-eqb _ _ (c .if4 .left),
+    )
 
 pub in-form-spec : {M : Type 1} → statement M
 in-form-spec =

@@ -37,7 +37,15 @@ in-form-requires c κs = search needs
 -- src/system.rt:113:9
 returns-2 : tie.Need-returns-2
 unfolding rule7
-returns-2 c = rw (← c .before .before .before .before .before .before .is-system .ensures, not-false (c .before .before .before .before .before .before .is-system .result) (c .before .before .before .before .before .if1 .left), ← c .before .before .form-n1 .ensures, ← c .before .in-form .ensures, not-true (c .before .in-form .result) (c .if2 .taken))
+returns-2 c =
+    rw (
+      ← c .before .before .before .before .before .before .is-system .ensures,
+      not-false (c .before .before .before .before .before .before .is-system .result)
+          (c .before .before .before .before .before .if1 .left),
+      ← c .before .before .form-n1 .ensures,
+      ← c .before .in-form .ensures,
+      not-true (c .before .in-form .result) (c .if2 .taken),
+    )
 
 -- src/system.rt:115:17
 form-n2-requires : tie.Need-form-n2-requires
@@ -50,12 +58,36 @@ in-form-requires-2 c κs = search needs
 -- src/system.rt:116:9
 returns-3 : tie.Need-returns-3
 unfolding rule7
-returns-3 c = rw (← c .before .before .before .before .before .before .before .before .before .is-system .ensures, not-false (c .before .before .before .before .before .before .before .before .before .is-system .result) (c .before .before .before .before .before .before .before .before .if1 .left), ← c .before .before .before .before .before .form-n1 .ensures, ← c .before .before .before .before .in-form .ensures, not-false (c .before .before .before .before .in-form .result) (c .before .before .before .if2 .left), ← c .before .before .form-n2 .ensures, ← c .before .in-form2 .ensures, not-true (c .before .in-form2 .result) (c .if3 .taken))
+returns-3 c =
+    rw (
+      ← c .before .before .before .before .before .before .before .before .before .is-system .ensures,
+      not-false (c .before .before .before .before .before .before .before .before .before .is-system .result)
+          (c .before .before .before .before .before .before .before .before .if1 .left),
+      ← c .before .before .before .before .before .form-n1 .ensures,
+      ← c .before .before .before .before .in-form .ensures,
+      not-false (c .before .before .before .before .in-form .result)
+          (c .before .before .before .if2 .left),
+      ← c .before .before .form-n2 .ensures,
+      ← c .before .in-form2 .ensures,
+      not-true (c .before .in-form2 .result) (c .if3 .taken),
+    )
 
 -- src/system.rt:103:1
 returns-4 : tie.Need-returns-4
 unfolding rule7
-returns-4 c = rw (← c .before .before .before .before .before .before .before .before .before .is-system .ensures, not-false (c .before .before .before .before .before .before .before .before .before .is-system .result) (c .before .before .before .before .before .before .before .before .if1 .left), ← c .before .before .before .before .before .form-n1 .ensures, ← c .before .before .before .before .in-form .ensures, not-false (c .before .before .before .before .in-form .result) (c .before .before .before .if2 .left), ← c .before .before .form-n2 .ensures, ← c .before .in-form2 .ensures, not-false (c .before .in-form2 .result) (c .if3 .left))
+returns-4 c =
+    rw (
+      ← c .before .before .before .before .before .before .before .before .before .is-system .ensures,
+      not-false (c .before .before .before .before .before .before .before .before .before .is-system .result)
+          (c .before .before .before .before .before .before .before .before .if1 .left),
+      ← c .before .before .before .before .before .form-n1 .ensures,
+      ← c .before .before .before .before .in-form .ensures,
+      not-false (c .before .before .before .before .in-form .result)
+          (c .before .before .before .if2 .left),
+      ← c .before .before .form-n2 .ensures,
+      ← c .before .in-form2 .ensures,
+      not-false (c .before .in-form2 .result) (c .if3 .left),
+    )
 
 pub rule7-spec : {M : Type 1} → statement M
 rule7-spec =

@@ -16,7 +16,8 @@ use Rattle.record.proofs.fields.field.Reads as field-reads
 use Rattle.record.proofs.word.same_keyword.Reads as same-keyword-reads
 
 abbrev Inv-loop : tie.InvT-loop
-Inv-loop part f n i₀ i = (n ≡ length part / 81) × Look (equalTo 10 f) (placeAt part) (anyOf (equalTo 10 f) (placesOf part)) i n
+Inv-loop part f n i₀ i =
+    (n ≡ length part / 81) × Look (equalTo 10 f) (placeAt part) (anyOf (equalTo 10 f) (placesOf part)) i n
 
 abbrev μ-loop : tie.MeasureT-loop
 μ-loop part f n i₀ i = n - i
@@ -40,7 +41,9 @@ same-keyword-requires c κs = search needs
 
 -- src/text.rt:32:13
 returns : tie.Need-returns Inv-loop μ-loop
-returns c = look-found (c .before .before .before .before .loop .inv .1) (omega arith) (rw (← c .before .before .field .ensures) (sym (c .before .same-keyword .ensures) ∙ c .if1 .taken))
+returns c =
+    look-found (c .before .before .before .before .loop .inv .1) (omega arith)
+    (rw (← c .before .before .field .ensures) (sym (c .before .same-keyword .ensures) ∙ c .if1 .taken))
 
 -- src/text.rt:34:9
 add-i : tie.Need-add-i Inv-loop μ-loop
@@ -52,7 +55,11 @@ loop-less c = search needs
 
 -- src/text.rt:28:5
 loop-again : tie.Need-loop-again Inv-loop μ-loop
-loop-again c = (search needs, look-next (c .before .before .before .before .loop .inv .1) (omega arith) (rw (← c .before .before .field .ensures) (sym (c .before .same-keyword .ensures) ∙ c .if1 .left)))
+loop-again c = (
+  search needs,
+  look-next (c .before .before .before .before .loop .inv .1) (omega arith)
+      (rw (← c .before .before .field .ensures) (sym (c .before .same-keyword .ensures) ∙ c .if1 .left)),
+)
 
 -- src/text.rt:23:1
 returns-2 : tie.Need-returns-2 Inv-loop μ-loop

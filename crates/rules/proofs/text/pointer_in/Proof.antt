@@ -15,7 +15,8 @@ use Rattle.rules.proofs.text.pointer_in.Reads as reads
 use Rattle.rules.proofs.text.pointer_in.Lts as lts
 
 abbrev Inv-loop : tie.InvT-loop
-Inv-loop part pointer n i₀ i = (n ≡ length part / 81) × Look (eqb pointer) (pointerAt part) (anyOf (eqb pointer) (pointersOf part)) i n
+Inv-loop part pointer n i₀ i =
+    (n ≡ length part / 81) × Look (eqb pointer) (pointerAt part) (anyOf (eqb pointer) (pointersOf part)) i n
 
 abbrev μ-loop : tie.MeasureT-loop
 μ-loop part pointer n i₀ i = n - i
@@ -51,7 +52,8 @@ loop-less c = search needs
 
 -- src/text.rt:45:5
 loop-again : tie.Need-loop-again Inv-loop μ-loop
-loop-again c = (search needs, look-next (c .before .before .before .loop .inv .1) (omega arith) (ne-eqb _ _ (c .if1 .left)))
+loop-again c =
+    (search needs, look-next (c .before .before .before .loop .inv .1) (omega arith) (ne-eqb _ _ (c .if1 .left)))
 
 -- src/text.rt:40:1
 returns-2 : tie.Need-returns-2 Inv-loop μ-loop

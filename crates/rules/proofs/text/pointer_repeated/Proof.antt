@@ -21,7 +21,12 @@ is-keyword-blank-requires c κs = search needs
 
 -- src/text.rt:78:9
 returns-2 : tie.Need-returns-2
-returns-2 c = rw (ne-eqb _ _ (c .before .before .if1 .left), ← c .before .is-keyword-blank .ensures, not-true (c .before .is-keyword-blank .result) (c .if2 .taken))
+returns-2 c =
+    rw (
+      ne-eqb _ _ (c .before .before .if1 .left),
+      ← c .before .is-keyword-blank .ensures,
+      not-true (c .before .is-keyword-blank .result) (c .if2 .taken),
+    )
 
 -- src/text.rt:80:5
 pointer-in-requires : tie.Need-pointer-in-requires
@@ -29,7 +34,12 @@ pointer-in-requires c κs = search needs
 
 -- src/text.rt:70:1
 returns-3 : tie.Need-returns-3
-returns-3 c = rw (ne-eqb _ _ (c .before .before .before .if1 .left), ← c .before .before .is-keyword-blank .ensures, not-false (c .before .before .is-keyword-blank .result) (c .before .if2 .left)) (c .pointer-in .ensures)
+returns-3 c =
+    rw (
+      ne-eqb _ _ (c .before .before .before .if1 .left),
+      ← c .before .before .is-keyword-blank .ensures,
+      not-false (c .before .before .is-keyword-blank .result) (c .before .if2 .left),
+    ) (c .pointer-in .ensures)
 
 pub pointer-repeated-spec : {M : Type 1} → statement M
 pointer-repeated-spec =

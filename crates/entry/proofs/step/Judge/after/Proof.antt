@@ -14,7 +14,13 @@ phase-after-requires c κs = search needs
 
 -- src/step.rt:77:13
 track-after-requires : tie.Need-track-after-requires
-track-after-requires c κs = (c .before .before .before .before .before .pre .0 .stands .bounded, (c .before .before .before .before .before .pre .0 .few, (c .before .before .before .before .before .pre .0 .whole, c .before .before .before .before .before .pre .1)))
+track-after-requires c κs = (
+  c .before .before .before .before .before .pre .0 .stands .bounded,
+  (
+    c .before .before .before .before .before .pre .0 .few,
+    (c .before .before .before .before .before .pre .0 .whole, c .before .before .before .before .before .pre .1),
+  ),
+)
 
 -- src/step.rt:78:13
 ranges-after-requires : tie.Need-ranges-after-requires

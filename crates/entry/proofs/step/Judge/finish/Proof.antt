@@ -28,7 +28,9 @@ refused-requires c κs = search needs
 -- src/verdict.rt:78:5
 returns-2 : tie.Need-returns-2
 unfolding finishOf
-returns-2 c = rw (← c .before .before .before .is-done .ensures, c .before .before .if1 .left, ← c .before .record-of .ensures) (c .refused .ensures)
+returns-2 c =
+    rw (← c .before .before .before .is-done .ensures, c .before .before .if1 .left, ← c .before .record-of .ensures)
+    (c .refused .ensures)
 
 pub finish-spec : {M : Type 1} → statement M
 finish-spec =

@@ -33,7 +33,16 @@ step-as-requires c κs = search needs
 -- src/step.rt:135:5
 returns : tie.Need-returns
 unfolding stepOf
-returns c = record { same = rw (← c .before .before .before .before .before .fields .ensures, ← c .before .before .before .identifier-of .ensures, ← c .before .role .ensures) (c .step-as .ensures .same); within = c .step-as .ensures .within }
+returns c =
+    record {
+      same = rw (
+        ← c .before .before .before .before .before .fields .ensures,
+        ← c .before .before .before .identifier-of .ensures,
+        ← c .before .role .ensures,
+      )
+          (c .step-as .ensures .same);
+      within = c .step-as .ensures .within;
+    }
 
 pub step-spec : {M : Type 1} → statement M
 step-spec =

@@ -16,7 +16,21 @@ values-requires c κs = search needs
 
 -- src/step.rt:107:13
 fault-requires : tie.Need-fault-requires
-fault-requires c κs = (c .before .before .before .before .before .pre .0, (c .before .before .before .before .before .pre .1 .0, (c .before .before .before .before .before .pre .1 .1 .0, record { stands = c .before .before .before .before .before .pre .1 .1 .1 .stands; whole = c .before .before .before .before .before .pre .1 .1 .1 .whole; read = c .values .ensures })))
+fault-requires c κs = (
+  c .before .before .before .before .before .pre .0,
+  (
+    c .before .before .before .before .before .pre .1 .0,
+    (
+      c .before .before .before .before .before .pre .1 .1 .0,
+      record {
+        stands = c .before .before .before .before .before .pre .1 .1 .1 .stands;
+        whole =
+            c .before .before .before .before .before .pre .1 .1 .1 .whole;
+        read = c .values .ensures;
+      },
+    ),
+  ),
+)
 
 -- src/step.rt:121:21
 enum-told : tie.Need-enum-told
@@ -24,7 +38,10 @@ enum-told c = search needs
 
 -- src/step.rt:121:21
 after-requires : tie.Need-after-requires
-after-requires c κs = (c .before .before .before .before .before .before .before .before .pre .1 .1 .1, c .before .before .before .values .ensures)
+after-requires c κs = (
+  c .before .before .before .before .before .before .before .before .pre .1 .1 .1,
+  c .before .before .before .values .ensures,
+)
 
 -- src/step.rt:127:23
 enum-known-found : tie.Need-enum-known-found
@@ -33,12 +50,23 @@ enum-known-found c = search needs
 -- src/step.rt:87:5
 returns : tie.Need-returns
 unfolding stepAs
-returns c = record { same = rw (← c .before .before .before .fault .ensures, c .before .enum-told .given .1, ← c .after .ensures); within = rw (c .after .ensures) (stands-after _ _ _ (c .before .before .before .before .before .before .before .before .before .pre .1 .1 .1) _ _) }
+returns c =
+    record {
+      same = rw (
+        ← c .before .before .before .fault .ensures,
+        c .before .enum-told .given .1,
+        ← c .after .ensures,
+      );
+      within = rw (c .after .ensures)
+          (stands-after _ _ _ (c .before .before .before .before .before .before .before .before .before .pre .1 .1 .1)
+          _ _);
+    }
 
 -- src/step.rt:87:5
 returns-2 : tie.Need-returns-2
 unfolding stepAs
-returns-2 c = record { same = rw (← c .before .before .before .fault .ensures, c .before .found .given .1); within = tt }
+returns-2 c =
+    record { same = rw (← c .before .before .before .fault .ensures, c .before .found .given .1); within = tt }
 
 pub step-as-spec : {M : Type 1} → statement M
 step-as-spec =

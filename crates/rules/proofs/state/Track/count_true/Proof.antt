@@ -21,7 +21,8 @@ keywords-true-requires c κs = search needs
 
 -- src/system.rt:204:5
 returns-2 : tie.Need-returns-2
-returns-2 c = rw (← c .before .before .true-count .ensures, eq-eqb _ _ (c .before .if1 .left)) (c .keywords-true .ensures)
+returns-2 c =
+    rw (← c .before .before .true-count .ensures, eq-eqb _ _ (c .before .if1 .left)) (c .keywords-true .ensures)
 
 pub count-true-spec : {M : Type 1} → statement M
 count-true-spec = tie.close (tie.spec true-count-requires returns keywords-true-requires returns-2)

@@ -25,7 +25,9 @@ identification-for-requires c κs = search needs
 -- src/every.rt:68:13
 returns : tie.Need-returns
 unfolding expectedIdentification
-returns c = rw (eq-eqb _ _ (c .before .before .if1 .taken), ← c .before .entry-accession .ensures) (c .identification-for .ensures)
+returns c =
+    rw (eq-eqb _ _ (c .before .before .if1 .taken), ← c .before .entry-accession .ensures)
+    (c .identification-for .ensures)
 
 -- src/every.rt:70:12
 opens-subentry-requires : tie.Need-opens-subentry-requires
@@ -38,7 +40,12 @@ subent-identification-requires c κs = search needs
 -- src/every.rt:71:13
 returns-2 : tie.Need-returns-2
 unfolding expectedIdentification
-returns-2 c = rw (ne-eqb _ _ (c .before .before .before .if1 .left), ← c .before .before .opens-subentry .ensures, c .before .if2 .taken) (c .subent-identification .ensures)
+returns-2 c =
+    rw (
+      ne-eqb _ _ (c .before .before .before .if1 .left),
+      ← c .before .before .opens-subentry .ensures,
+      c .before .if2 .taken,
+    ) (c .subent-identification .ensures)
 
 -- src/every.rt:74:13
 identification-for-requires-2 : tie.Need-identification-for-requires-2
@@ -47,7 +54,13 @@ identification-for-requires-2 c κs = search needs
 -- src/every.rt:74:13
 returns-3 : tie.Need-returns-3
 unfolding expectedIdentification
-returns-3 c = rw (ne-eqb _ _ (c .before .before .before .before .if1 .left), ← c .before .before .before .opens-subentry .ensures, c .before .before .if2 .left, eq-eqb _ _ (c .before .if3 .taken)) (c .identification-for2 .ensures)
+returns-3 c =
+    rw (
+      ne-eqb _ _ (c .before .before .before .before .if1 .left),
+      ← c .before .before .before .opens-subentry .ensures,
+      c .before .before .if2 .left,
+      eq-eqb _ _ (c .before .if3 .taken),
+    ) (c .identification-for2 .ensures)
 
 -- src/every.rt:77:9
 identification-for-requires-3 : tie.Need-identification-for-requires-3
@@ -56,7 +69,14 @@ identification-for-requires-3 c κs = search needs
 -- src/every.rt:61:5
 returns-4 : tie.Need-returns-4
 unfolding expectedIdentification
-returns-4 c = rw (ne-eqb _ _ (c .before .before .before .before .before .if1 .left), ← c .before .before .before .before .opens-subentry .ensures, c .before .before .before .if2 .left, ne-eqb _ _ (c .before .before .if3 .left)) (c .identification-for3 .ensures)
+returns-4 c =
+    rw (
+      ne-eqb _ _ (c .before .before .before .before .before .if1 .left),
+      ← c .before .before .before .before .opens-subentry .ensures,
+      c .before .before .before .if2 .left,
+      ne-eqb _ _
+          (c .before .before .if3 .left),
+    ) (c .identification-for3 .ensures)
 
 pub expected-identification-spec : {M : Type 1} → statement M
 expected-identification-spec =

@@ -24,12 +24,25 @@ returns-2 c = rw (ne-eqb _ _ (c .before .before .if1 .left), ← c .before .open
 -- src/every.rt:104:13
 returns-3 : tie.Need-returns-3
 unfolding expectedSequence
-returns-3 c = rw (ne-eqb _ _ (c .before .before .before .if1 .left), ← c .before .before .opens-subentry .ensures, c .before .if2 .left, eq-eqb _ _ (c .if3 .taken))
+returns-3 c =
+    rw (
+      ne-eqb _ _ (c .before .before .before .if1 .left),
+      ← c .before .before .opens-subentry .ensures,
+      c .before .if2 .left,
+      eq-eqb _ _ (c .if3 .taken),
+    )
 
 -- src/every.rt:107:13
 returns-4 : tie.Need-returns-4
 unfolding expectedSequence
-returns-4 c = rw (ne-eqb _ _ (c .before .before .before .before .if1 .left), ← c .before .before .before .opens-subentry .ensures, c .before .before .if2 .left, ne-eqb _ _ (c .before .if3 .left), eq-eqb _ _ (c .if4 .taken))
+returns-4 c =
+    rw (
+      ne-eqb _ _ (c .before .before .before .before .if1 .left),
+      ← c .before .before .before .opens-subentry .ensures,
+      c .before .before .if2 .left,
+      ne-eqb _ _ (c .before .if3 .left),
+      eq-eqb _ _ (c .if4 .taken),
+    )
 
 -- src/every.rt:110:9
 add-result : tie.Need-add-result
@@ -38,7 +51,14 @@ add-result c = search needs
 -- src/every.rt:93:5
 returns-5 : tie.Need-returns-5
 unfolding expectedSequence
-returns-5 c = rw (ne-eqb _ _ (c .before .before .before .before .before .before .if1 .left), ← c .before .before .before .before .before .opens-subentry .ensures, c .before .before .before .before .if2 .left, ne-eqb _ _ (c .before .before .before .if3 .left), ne-eqb _ _ (c .before .before .if4 .left))
+returns-5 c =
+    rw (
+      ne-eqb _ _ (c .before .before .before .before .before .before .if1 .left),
+      ← c .before .before .before .before .before .opens-subentry .ensures,
+      c .before .before .before .before .if2 .left,
+      ne-eqb _ _ (c .before .before .before .if3 .left),
+      ne-eqb _ _ (c .before .before .if4 .left),
+    )
 
 pub expected-sequence-spec : {M : Type 1} → statement M
 expected-sequence-spec =

@@ -22,7 +22,13 @@ is-word-requires c κs = search needs
 
 -- src/text.rt:64:13
 returns-2 : tie.Need-returns-2
-returns-2 c = rw (← c .before .before .before .is-keyword-blank .ensures, c .before .before .if1 .left, ← c .before .is-word .ensures, not-true (c .before .is-word .result) (c .if2 .taken))
+returns-2 c =
+    rw (
+      ← c .before .before .before .is-keyword-blank .ensures,
+      c .before .before .if1 .left,
+      ← c .before .is-word .ensures,
+      not-true (c .before .is-word .result) (c .if2 .taken),
+    )
 
 -- src/text.rt:66:9
 keyword-in-requires : tie.Need-keyword-in-requires
@@ -30,7 +36,14 @@ keyword-in-requires c κs = search needs
 
 -- src/text.rt:57:5
 returns-3 : tie.Need-returns-3
-returns-3 c = rw (← c .before .before .before .before .is-keyword-blank .ensures, c .before .before .before .if1 .left, ← c .before .before .is-word .ensures, not-false (c .before .before .is-word .result) (c .before .if2 .left)) (c .keyword-in .ensures)
+returns-3 c =
+    rw (
+      ← c .before .before .before .before .is-keyword-blank .ensures,
+      c .before .before .before .if1 .left,
+      ← c .before .before .is-word .ensures,
+      not-false (c .before .before .is-word .result) (c .before .if2 .left),
+    )
+    (c .keyword-in .ensures)
 
 pub keyword-fault-spec : {M : Type 1} → statement M
 keyword-fault-spec =

@@ -18,11 +18,22 @@ row-ends-requires c κs = search needs
 
 -- src/values.rt:55:13
 returns-2 : tie.Need-returns-2
-returns-2 c = rw (eq-eqb _ _ (c .before .before .if1 .left), ← c .before .row-ends .ensures, not-true (c .before .row-ends .result) (c .if2 .taken))
+returns-2 c =
+    rw (
+      eq-eqb _ _ (c .before .before .if1 .left),
+      ← c .before .row-ends .ensures,
+      not-true (c .before .row-ends .result) (c .if2 .taken),
+    )
 
 -- src/values.rt:59:13
 returns-3 : tie.Need-returns-3
-returns-3 c = rw (eq-eqb _ _ (c .before .before .before .before .before .if1 .left), ← c .before .before .before .before .row-ends .ensures, not-false (c .before .before .before .before .row-ends .result) (c .before .before .before .if2 .left), not-true (c .before .before .before .before .before .before .args .self .table .blank) (c .if3 .taken))
+returns-3 c =
+    rw (
+      eq-eqb _ _ (c .before .before .before .before .before .if1 .left),
+      ← c .before .before .before .before .row-ends .ensures,
+      not-false (c .before .before .before .before .row-ends .result) (c .before .before .before .if2 .left),
+      not-true (c .before .before .before .before .before .before .args .self .table .blank) (c .if3 .taken),
+    )
 
 -- src/values.rt:61:40
 used-requires : tie.Need-used-requires
@@ -34,7 +45,17 @@ blank-fields-requires c κs = search needs
 
 -- src/values.rt:47:5
 returns-4 : tie.Need-returns-4
-returns-4 c = rw (← c .before .used .ensures .0, eq-eqb _ _ (c .before .before .before .before .before .before .before .if1 .left), ← c .before .before .before .before .before .before .row-ends .ensures, not-false (c .before .before .before .before .before .before .row-ends .result) (c .before .before .before .before .before .if2 .left), not-false (c .before .before .before .before .before .before .before .before .args .self .table .blank) (c .before .before .if3 .left)) (c .blank-fields .ensures)
+returns-4 c =
+    rw (
+      ← c .before .used .ensures .0,
+      eq-eqb _ _
+          (c .before .before .before .before .before .before .before .if1 .left),
+      ← c .before .before .before .before .before .before .row-ends .ensures,
+      not-false (c .before .before .before .before .before .before .row-ends .result)
+          (c .before .before .before .before .before .if2 .left),
+      not-false (c .before .before .before .before .before .before .before .before .args .self .table .blank)
+          (c .before .before .if3 .left),
+    ) (c .blank-fields .ensures)
 
 pub line-blank-spec : {M : Type 1} → statement M
 line-blank-spec =

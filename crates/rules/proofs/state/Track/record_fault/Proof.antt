@@ -29,16 +29,36 @@ rule5-requires c κs = c .before .before .before .before .pre .1 .1 .whole
 -- src/order.rt:89:13
 returns-2 : tie.Need-returns-2
 unfolding firstFault
-returns-2 c = rw (← c .before .before .before .rule4 .ensures, eq-eqb _ _ (c .before .before .if1 .left), ← c .before .rule5 .ensures, ne-eqb _ _ (c .if2 .taken))
+returns-2 c =
+    rw (
+      ← c .before .before .before .rule4 .ensures,
+      eq-eqb _ _
+          (c .before .before .if1 .left),
+      ← c .before .rule5 .ensures,
+      ne-eqb _ _ (c .if2 .taken),
+    )
 
 -- src/order.rt:91:13
 rule6-requires : tie.Need-rule6-requires
-rule6-requires c κs = (c .before .before .before .before .before .before .pre .1 .1 .whole, c .before .before .before .before .before .before .pre .1 .1 .stands .bounded)
+rule6-requires c κs = (
+  c .before .before .before .before .before .before .pre .1 .1 .whole,
+  c .before .before .before .before .before .before .pre .1 .1 .stands .bounded,
+)
 
 -- src/order.rt:93:13
 returns-3 : tie.Need-returns-3
 unfolding firstFault
-returns-3 c = rw (← c .before .before .before .before .before .rule4 .ensures, eq-eqb _ _ (c .before .before .before .before .if1 .left), ← c .before .before .before .rule5 .ensures, eq-eqb _ _ (c .before .before .if2 .left), ← c .before .rule6 .ensures, ne-eqb _ _ (c .if3 .taken))
+returns-3 c =
+    rw (
+      ← c .before .before .before .before .before .rule4 .ensures,
+      eq-eqb _ _
+          (c .before .before .before .before .if1 .left),
+      ← c .before .before .before .rule5 .ensures,
+      eq-eqb _ _
+          (c .before .before .if2 .left),
+      ← c .before .rule6 .ensures,
+      ne-eqb _ _ (c .if3 .taken),
+    )
 
 -- src/order.rt:95:13
 rule7-requires : tie.Need-rule7-requires
@@ -47,7 +67,20 @@ rule7-requires c κs = c .before .before .before .before .before .before .before
 -- src/order.rt:97:13
 returns-4 : tie.Need-returns-4
 unfolding firstFault
-returns-4 c = rw (← c .before .before .before .before .before .before .before .rule4 .ensures, eq-eqb _ _ (c .before .before .before .before .before .before .if1 .left), ← c .before .before .before .before .before .rule5 .ensures, eq-eqb _ _ (c .before .before .before .before .if2 .left), ← c .before .before .before .rule6 .ensures, eq-eqb _ _ (c .before .before .if3 .left), ← c .before .rule7 .ensures, ne-eqb _ _ (c .if4 .taken))
+returns-4 c =
+    rw (
+      ← c .before .before .before .before .before .before .before .rule4 .ensures,
+      eq-eqb _ _
+          (c .before .before .before .before .before .before .if1 .left),
+      ← c .before .before .before .before .before .rule5 .ensures,
+      eq-eqb _ _
+          (c .before .before .before .before .if2 .left),
+      ← c .before .before .before .rule6 .ensures,
+      eq-eqb _ _
+          (c .before .before .if3 .left),
+      ← c .before .rule7 .ensures,
+      ne-eqb _ _ (c .if4 .taken),
+    )
 
 -- src/order.rt:99:13
 rule8-requires : tie.Need-rule8-requires
@@ -56,7 +89,23 @@ rule8-requires c κs = c .before .before .before .before .before .before .before
 -- src/order.rt:101:13
 returns-5 : tie.Need-returns-5
 unfolding firstFault
-returns-5 c = rw (← c .before .before .before .before .before .before .before .before .before .rule4 .ensures, eq-eqb _ _ (c .before .before .before .before .before .before .before .before .if1 .left), ← c .before .before .before .before .before .before .before .rule5 .ensures, eq-eqb _ _ (c .before .before .before .before .before .before .if2 .left), ← c .before .before .before .before .before .rule6 .ensures, eq-eqb _ _ (c .before .before .before .before .if3 .left), ← c .before .before .before .rule7 .ensures, eq-eqb _ _ (c .before .before .if4 .left), ← c .before .rule8 .ensures, ne-eqb _ _ (c .if5 .taken))
+returns-5 c =
+    rw (
+      ← c .before .before .before .before .before .before .before .before .before .rule4 .ensures,
+      eq-eqb _ _
+          (c .before .before .before .before .before .before .before .before .if1 .left),
+      ← c .before .before .before .before .before .before .before .rule5 .ensures,
+      eq-eqb _ _
+          (c .before .before .before .before .before .before .if2 .left),
+      ← c .before .before .before .before .before .rule6 .ensures,
+      eq-eqb _ _
+          (c .before .before .before .before .if3 .left),
+      ← c .before .before .before .rule7 .ensures,
+      eq-eqb _ _
+          (c .before .before .if4 .left),
+      ← c .before .rule8 .ensures,
+      ne-eqb _ _ (c .if5 .taken),
+    )
 
 -- src/order.rt:103:13
 rule9-requires : tie.Need-rule9-requires
@@ -65,16 +114,59 @@ rule9-requires c κs = search needs
 -- src/order.rt:105:13
 returns-6 : tie.Need-returns-6
 unfolding firstFault
-returns-6 c = rw (← c .before .before .before .before .before .before .before .before .before .before .before .rule4 .ensures, eq-eqb _ _ (c .before .before .before .before .before .before .before .before .before .before .if1 .left), ← c .before .before .before .before .before .before .before .before .before .rule5 .ensures, eq-eqb _ _ (c .before .before .before .before .before .before .before .before .if2 .left), ← c .before .before .before .before .before .before .before .rule6 .ensures, eq-eqb _ _ (c .before .before .before .before .before .before .if3 .left), ← c .before .before .before .before .before .rule7 .ensures, eq-eqb _ _ (c .before .before .before .before .if4 .left), ← c .before .before .before .rule8 .ensures, eq-eqb _ _ (c .before .before .if5 .left), ← c .before .rule9 .ensures, ne-eqb _ _ (c .if6 .taken))
+returns-6 c =
+    rw (
+      ← c .before .before .before .before .before .before .before .before .before .before .before .rule4 .ensures,
+      eq-eqb _ _ (c .before .before .before .before .before .before .before .before .before .before .if1 .left),
+      ← c .before .before .before .before .before .before .before .before .before .rule5 .ensures,
+      eq-eqb _ _
+          (c .before .before .before .before .before .before .before .before .if2 .left),
+      ← c .before .before .before .before .before .before .before .rule6 .ensures,
+      eq-eqb _ _
+          (c .before .before .before .before .before .before .if3 .left),
+      ← c .before .before .before .before .before .rule7 .ensures,
+      eq-eqb _ _
+          (c .before .before .before .before .if4 .left),
+      ← c .before .before .before .rule8 .ensures,
+      eq-eqb _ _
+          (c .before .before .if5 .left),
+      ← c .before .rule9 .ensures,
+      ne-eqb _ _ (c .if6 .taken),
+    )
 
 -- src/order.rt:107:9
 section-fault-requires : tie.Need-section-fault-requires
-section-fault-requires c κs = (c .before .before .before .before .before .before .before .before .before .before .before .before .before .before .pre .1 .0, c .before .before .before .before .before .before .before .before .before .before .before .before .before .before .pre .1 .1)
+section-fault-requires c κs = (
+  c .before .before .before .before .before .before .before .before .before .before .before .before .before .before
+      .pre .1 .0,
+  c .before .before .before .before .before .before .before .before .before .before .before .before .before .before
+      .pre .1 .1,
+)
 
 -- src/order.rt:66:5
 returns-7 : tie.Need-returns-7
 unfolding firstFault
-returns-7 c = rw (← c .before .before .before .before .before .before .before .before .before .before .before .before .rule4 .ensures, eq-eqb _ _ (c .before .before .before .before .before .before .before .before .before .before .before .if1 .left), ← c .before .before .before .before .before .before .before .before .before .before .rule5 .ensures, eq-eqb _ _ (c .before .before .before .before .before .before .before .before .before .if2 .left), ← c .before .before .before .before .before .before .before .before .rule6 .ensures, eq-eqb _ _ (c .before .before .before .before .before .before .before .if3 .left), ← c .before .before .before .before .before .before .rule7 .ensures, eq-eqb _ _ (c .before .before .before .before .before .if4 .left), ← c .before .before .before .before .rule8 .ensures, eq-eqb _ _ (c .before .before .before .if5 .left), ← c .before .before .rule9 .ensures, eq-eqb _ _ (c .before .if6 .left)) (c .section-fault .ensures)
+returns-7 c =
+    rw (
+      ← c .before .before .before .before .before .before .before .before .before .before .before .before .rule4
+          .ensures,
+      eq-eqb _ _
+          (c .before .before .before .before .before .before .before .before .before .before .before .if1 .left),
+      ← c .before .before .before .before .before .before .before .before .before .before .rule5 .ensures,
+      eq-eqb _ _
+          (c .before .before .before .before .before .before .before .before .before .if2 .left),
+      ← c .before .before .before .before .before .before .before .before .rule6 .ensures,
+      eq-eqb _ _
+          (c .before .before .before .before .before .before .before .if3 .left),
+      ← c .before .before .before .before .before .before .rule7 .ensures,
+      eq-eqb _ _
+          (c .before .before .before .before .before .if4 .left),
+      ← c .before .before .before .before .rule8 .ensures,
+      eq-eqb _ _ (c .before .before .before .if5 .left),
+      ← c .before .before .rule9 .ensures,
+      eq-eqb _ _
+          (c .before .if6 .left),
+    ) (c .section-fault .ensures)
 
 pub record-fault-spec : {M : Type 1} → statement M
 record-fault-spec =

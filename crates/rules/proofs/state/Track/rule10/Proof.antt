@@ -27,12 +27,24 @@ keyword-fault-requires c κs = search needs
 -- src/text.rt:94:13
 returns-2 : tie.Need-returns-2
 unfolding rule10
-returns-2 c = rw (eq-eqb _ _ (c .before .before .before .before .before .if1 .left), ← c .before .before .part .ensures, ← c .before .keyword-fault .ensures, c .if2 .taken)
+returns-2 c =
+    rw (
+      eq-eqb _ _ (c .before .before .before .before .before .if1 .left),
+      ← c .before .before .part .ensures,
+      ← c .before .keyword-fault .ensures,
+      c .if2 .taken,
+    )
 
 -- src/text.rt:84:5
 returns-3 : tie.Need-returns-3
 unfolding rule10
-returns-3 c = rw (eq-eqb _ _ (c .before .before .before .before .before .if1 .left), ← c .before .before .part .ensures, ← c .before .keyword-fault .ensures, c .if2 .left)
+returns-3 c =
+    rw (
+      eq-eqb _ _ (c .before .before .before .before .before .if1 .left),
+      ← c .before .before .part .ensures,
+      ← c .before .keyword-fault .ensures,
+      c .if2 .left,
+    )
 
 pub rule10-spec : {M : Type 1} → statement M
 rule10-spec =

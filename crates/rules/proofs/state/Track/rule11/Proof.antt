@@ -26,7 +26,12 @@ is-heading-requires c κs = search needs
 
 -- src/headings.rt:261:13
 returns-2 : tie.Need-returns-2
-returns-2 c = rw (ne-eqb _ _ (c .before .before .if1 .left), ← c .before .is-heading .ensures, not-true (c .before .is-heading .result) (c .if2 .taken))
+returns-2 c =
+    rw (
+      ne-eqb _ _ (c .before .before .if1 .left),
+      ← c .before .is-heading .ensures,
+      not-true (c .before .is-heading .result) (c .if2 .taken),
+    )
 
 -- src/headings.rt:263:35
 used-requires : tie.Need-used-requires
@@ -43,7 +48,16 @@ pointer-column-requires c κs = search needs
 -- src/headings.rt:253:5
 returns-3 : tie.Need-returns-3
 unfolding rule11Heading
-returns-3 c = rw (ne-eqb _ _ (c .before .before .before .before .before .if1 .left), ← c .before .before .before .before .is-heading .ensures, not-false (c .before .before .before .before .is-heading .result) (c .before .before .before .if2 .left), leftmost-where, ← c .before .before .used .ensures .0, ← c .before .pointer-fault .ensures) (c .pointer-column .ensures)
+returns-3 c =
+    rw (
+      ne-eqb _ _ (c .before .before .before .before .before .if1 .left),
+      ← c .before .before .before .before .is-heading .ensures,
+      not-false (c .before .before .before .before .is-heading .result)
+          (c .before .before .before .if2 .left),
+      leftmost-where,
+      ← c .before .before .used .ensures .0,
+      ← c .before .pointer-fault .ensures,
+    ) (c .pointer-column .ensures)
 
 pub rule11-spec : {M : Type 1} → statement M
 rule11-spec =

@@ -31,7 +31,14 @@ field-column-requires c κs = search needs
 -- src/headings.rt:272:13
 returns : tie.Need-returns
 unfolding rule12Heading
-returns c = rw (← c .before .before .before .before .is-heading .ensures, c .before .before .before .if1 .taken, leftmost-where, ← c .before .before .used .ensures .0, ← c .before .heading-fault .ensures) (c .field-column .ensures)
+returns c =
+    rw (
+      ← c .before .before .before .before .is-heading .ensures,
+      c .before .before .before .if1 .taken,
+      leftmost-where,
+      ← c .before .before .used .ensures .0,
+      ← c .before .heading-fault .ensures,
+    ) (c .field-column .ensures)
 
 -- src/headings.rt:274:12
 is-unit-requires : tie.Need-is-unit-requires
@@ -52,11 +59,26 @@ field-column-requires-2 c κs = search needs
 -- src/headings.rt:276:13
 returns-2 : tie.Need-returns-2
 unfolding rule12Unit
-returns-2 c = rw (← c .before .before .before .before .before .before .is-heading .ensures, c .before .before .before .before .before .if1 .left, ← c .before .before .before .before .is-unit .ensures, c .before .before .before .if2 .taken, leftmost-where, ← c .before .before .used2 .ensures .0, ← c .before .unit-fault .ensures) (c .field-column2 .ensures)
+returns-2 c =
+    rw (
+      ← c .before .before .before .before .before .before .is-heading .ensures,
+      c .before .before .before .before .before .if1 .left,
+      ← c .before .before .before .before .is-unit .ensures,
+      c .before .before .before .if2 .taken,
+      leftmost-where,
+      ← c .before .before .used2 .ensures .0,
+      ← c .before .unit-fault .ensures,
+    ) (c .field-column2 .ensures)
 
 -- src/headings.rt:267:5
 returns-3 : tie.Need-returns-3
-returns-3 c = rw (← c .before .before .before .is-heading .ensures, c .before .before .if1 .left, ← c .before .is-unit .ensures, c .if2 .left)
+returns-3 c =
+    rw (
+      ← c .before .before .before .is-heading .ensures,
+      c .before .before .if1 .left,
+      ← c .before .is-unit .ensures,
+      c .if2 .left,
+    )
 
 pub rule12-spec : {M : Type 1} → statement M
 rule12-spec =

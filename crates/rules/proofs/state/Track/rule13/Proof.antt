@@ -38,7 +38,10 @@ part-requires-3 c κs = search needs
 
 -- src/headings.rt:300:13
 repeated-at-requires : tie.Need-repeated-at-requires
-repeated-at-requires c κs = (c .before .before .before .before .before .before .before .before .before .before .before .pre .1, c .before .before .before .used .ensures .1)
+repeated-at-requires c κs = (
+  c .before .before .before .before .before .before .before .before .before .before .before .pre .1,
+  c .before .before .before .used .ensures .1,
+)
 
 -- src/headings.rt:308:9
 field-column-requires : tie.Need-field-column-requires
@@ -47,7 +50,19 @@ field-column-requires c κs = search needs
 -- src/headings.rt:281:5
 returns-2 : tie.Need-returns-2
 unfolding rule13
-returns-2 c = rw (← c .before .before .before .before .before .before .before .before .before .before .is-heading .ensures, not-false (c .before .before .before .before .before .before .before .before .before .before .is-heading .result) (c .before .before .before .before .before .before .before .before .before .if1 .left), leftmost-where, ← c .before .before .before .before .before .used .ensures .0, ← c .before .before .before .before .part .ensures, ← c .before .before .before .part2 .ensures, ← c .before .before .part3 .ensures, ← c .before .repeated-at .ensures) (c .field-column .ensures)
+returns-2 c =
+    rw (
+      ← c .before .before .before .before .before .before .before .before .before .before .is-heading .ensures,
+      not-false (c .before .before .before .before .before .before .before .before .before .before .is-heading .result)
+          (c .before .before .before .before .before .before .before .before .before .if1 .left),
+      leftmost-where,
+      ← c .before .before .before .before .before .used .ensures .0,
+      ← c .before .before .before .before .part .ensures,
+      ← c .before .before .before .part2 .ensures,
+      ← c .before .before .part3 .ensures,
+      ← c .before .repeated-at .ensures,
+    )
+    (c .field-column .ensures)
 
 pub rule13-spec : {M : Type 1} → statement M
 rule13-spec =

@@ -46,7 +46,19 @@ field-column-requires c κs = search needs
 -- src/headings.rt:311:5
 returns-2 : tie.Need-returns-2
 unfolding rule14
-returns-2 c = rw (eq-eqb _ _ (c .before .before .before .before .before .before .before .before .before .before .before .if1 .left), leftmost-where, ← c .before .before .before .before .before .before .used .ensures .0, ← c .before .before .before .before .before .part .ensures, ← c .before .before .before .before .part2 .ensures, ← c .before .before .before .part3 .ensures, ← c .before .before .part4 .ensures, ← c .before .lost-at .ensures) (c .field-column .ensures)
+returns-2 c =
+    rw (
+      eq-eqb _ _
+          (c .before .before .before .before .before .before .before .before .before .before .before .if1 .left),
+      leftmost-where,
+      ← c .before .before .before .before .before .before .used .ensures .0,
+      ← c .before .before .before .before .before .part .ensures,
+      ← c .before .before .before .before .part2 .ensures,
+      ← c .before .before .before .part3 .ensures,
+      ← c .before .before .part4 .ensures,
+      ← c .before .lost-at .ensures,
+    )
+    (c .field-column .ensures)
 
 pub rule14-spec : {M : Type 1} → statement M
 rule14-spec =

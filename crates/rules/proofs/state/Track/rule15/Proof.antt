@@ -27,7 +27,14 @@ line-blank-requires c κs = search needs
 -- src/values.rt:80:13
 returns-2 : tie.Need-returns-2
 unfolding rule15
-returns-2 c = rw (← c .before .before .before .is-value .ensures, not-false (c .before .before .before .is-value .result) (c .before .before .if1 .left), ← c .before .line-blank .ensures, c .if2 .taken)
+returns-2 c =
+    rw (
+      ← c .before .before .before .is-value .ensures,
+      not-false (c .before .before .before .is-value .result)
+          (c .before .before .if1 .left),
+      ← c .before .line-blank .ensures,
+      c .if2 .taken,
+    )
 
 -- src/values.rt:82:9
 field-column-requires : tie.Need-field-column-requires
@@ -36,7 +43,19 @@ field-column-requires c κs = search needs
 -- src/values.rt:64:5
 returns-3 : tie.Need-returns-3
 unfolding rule15
-returns-3 c = rw (← c .before .before .before .before .is-value .ensures, not-false (c .before .before .before .before .is-value .result) (c .before .before .before .if1 .left), ← c .before .before .line-blank .ensures, c .before .if2 .left, leftmost-where, ← fault-read _ _ _ _ (c .before .before .before .before .before .pre .1) (sym (c .before .before .before .before .is-value .ensures) ∙ not-false (c .before .before .before .before .is-value .result) (c .before .before .before .if1 .left))) (c .field-column .ensures)
+returns-3 c =
+    rw (
+      ← c .before .before .before .before .is-value .ensures,
+      not-false (c .before .before .before .before .is-value .result)
+          (c .before .before .before .if1 .left),
+      ← c .before .before .line-blank .ensures,
+      c .before .if2 .left,
+      leftmost-where,
+      ← fault-read _ _ _ _ (c .before .before .before .before .before .pre .1)
+          (sym (c .before .before .before .before .is-value .ensures)
+          ∙ not-false (c .before .before .before .before .is-value .result) (c .before .before .before .if1 .left)),
+    )
+    (c .field-column .ensures)
 
 pub rule15-spec : {M : Type 1} → statement M
 rule15-spec =

@@ -23,12 +23,24 @@ same-identification-requires c κs = search needs
 -- src/every.rt:87:13
 returns : tie.Need-returns
 unfolding rule5
-returns c = rw (← c .before .before .before .identification .ensures, ← c .before .before .expected-identification .ensures, ← c .before .same-identification .ensures, c .if1 .taken)
+returns c =
+    rw (
+      ← c .before .before .before .identification .ensures,
+      ← c .before .before .expected-identification .ensures,
+      ← c .before .same-identification .ensures,
+      c .if1 .taken,
+    )
 
 -- src/every.rt:80:5
 returns-2 : tie.Need-returns-2
 unfolding rule5
-returns-2 c = rw (← c .before .before .before .identification .ensures, ← c .before .before .expected-identification .ensures, ← c .before .same-identification .ensures, c .if1 .left)
+returns-2 c =
+    rw (
+      ← c .before .before .before .identification .ensures,
+      ← c .before .before .expected-identification .ensures,
+      ← c .before .same-identification .ensures,
+      c .if1 .left,
+    )
 
 pub rule5-spec : {M : Type 1} → statement M
 rule5-spec =

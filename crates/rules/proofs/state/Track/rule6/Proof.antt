@@ -28,12 +28,26 @@ same-five-requires c κs = search needs
 -- src/every.rt:121:13
 returns : tie.Need-returns
 unfolding rule6
-returns c = rw (← c .before .before .before .before .sequence .ensures, ← c .before .before .before .expected-sequence .ensures, ← c .before .before .five-digits .ensures, ← c .before .same-five .ensures, c .if1 .taken)
+returns c =
+    rw (
+      ← c .before .before .before .before .sequence .ensures,
+      ← c .before .before .before .expected-sequence .ensures,
+      ← c .before .before .five-digits .ensures,
+      ← c .before .same-five .ensures,
+      c .if1 .taken,
+    )
 
 -- src/every.rt:113:5
 returns-2 : tie.Need-returns-2
 unfolding rule6
-returns-2 c = rw (← c .before .before .before .before .sequence .ensures, ← c .before .before .before .expected-sequence .ensures, ← c .before .before .five-digits .ensures, ← c .before .same-five .ensures, c .if1 .left)
+returns-2 c =
+    rw (
+      ← c .before .before .before .before .sequence .ensures,
+      ← c .before .before .before .expected-sequence .ensures,
+      ← c .before .before .five-digits .ensures,
+      ← c .before .same-five .ensures,
+      c .if1 .left,
+    )
 
 pub rule6-spec : {M : Type 1} → statement M
 rule6-spec =

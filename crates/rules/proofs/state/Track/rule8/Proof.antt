@@ -56,7 +56,18 @@ announced-requires c κs = search needs
 -- src/system.rt:226:13
 returns-2 : tie.Need-returns-2
 unfolding rule8
-returns-2 c = rw (← c .before .before .before .before .before .before .before .before .before .before .is-system .ensures, not-false (c .before .before .before .before .before .before .before .before .before .before .is-system .result) (c .before .before .before .before .before .before .before .before .before .if1 .left), ← c .before .before .before .before .opens-section .ensures, c .before .before .before .if2 .taken, ← c .before .before .before .before .before .before .count-of .ensures, ← c .before .before .before .before .before .number-of .ensures, ← c .before .before .count-of2 .ensures, ← c .before .number-of2 .ensures) (c .announced .ensures)
+returns-2 c =
+    rw (
+      ← c .before .before .before .before .before .before .before .before .before .before .is-system .ensures,
+      not-false (c .before .before .before .before .before .before .before .before .before .before .is-system .result)
+          (c .before .before .before .before .before .before .before .before .before .if1 .left),
+      ← c .before .before .before .before .opens-section .ensures,
+      c .before .before .before .if2 .taken,
+      ← c .before .before .before .before .before .before .count-of .ensures,
+      ← c .before .before .before .before .before .number-of .ensures,
+      ← c .before .before .count-of2 .ensures,
+      ← c .before .number-of2 .ensures,
+    ) (c .announced .ensures)
 
 -- src/system.rt:228:13
 is-end-requires : tie.Need-is-end-requires
@@ -65,7 +76,16 @@ is-end-requires c κs = search needs
 -- src/system.rt:229:13
 returns-3 : tie.Need-returns-3
 unfolding rule8
-returns-3 c = rw (← c .before .before .before .before .before .before .before .before .before .is-system .ensures, not-false (c .before .before .before .before .before .before .before .before .before .is-system .result) (c .before .before .before .before .before .before .before .before .if1 .left), ← c .before .before .before .opens-section .ensures, c .before .before .if2 .left, ← c .before .is-end .ensures, not-true (c .before .is-end .result) (c .if3 .taken))
+returns-3 c =
+    rw (
+      ← c .before .before .before .before .before .before .before .before .before .is-system .ensures,
+      not-false (c .before .before .before .before .before .before .before .before .before .is-system .result)
+          (c .before .before .before .before .before .before .before .before .if1 .left),
+      ← c .before .before .before .opens-section .ensures,
+      c .before .before .if2 .left,
+      ← c .before .is-end .ensures,
+      not-true (c .before .is-end .result) (c .if3 .taken),
+    )
 
 -- src/system.rt:231:12
 count-true-requires : tie.Need-count-true-requires
@@ -74,12 +94,42 @@ count-true-requires c κs = search needs
 -- src/system.rt:232:13
 returns-4 : tie.Need-returns-4
 unfolding rule8
-returns-4 c = rw (← c .before .before .before .before .before .before .before .before .before .before .before .is-system .ensures, not-false (c .before .before .before .before .before .before .before .before .before .before .before .is-system .result) (c .before .before .before .before .before .before .before .before .before .before .if1 .left), ← c .before .before .before .before .before .opens-section .ensures, c .before .before .before .before .if2 .left, ← c .before .before .before .is-end .ensures, not-false (c .before .before .before .is-end .result) (c .before .before .if3 .left), ← c .before .before .before .before .before .before .before .count-of .ensures, ← c .before .before .before .before .before .before .number-of .ensures, ← c .before .count-true .ensures, c .if4 .taken)
+returns-4 c =
+    rw (
+      ← c .before .before .before .before .before .before .before .before .before .before .before .is-system .ensures,
+      not-false
+          (c .before .before .before .before .before .before .before .before .before .before .before .is-system .result)
+          (c .before .before .before .before .before .before .before .before .before .before .if1 .left),
+      ← c .before .before .before .before .before .opens-section .ensures,
+      c .before .before .before .before .if2 .left,
+      ← c .before .before .before .is-end .ensures,
+      not-false (c .before .before .before .is-end .result)
+          (c .before .before .if3 .left),
+      ← c .before .before .before .before .before .before .before .count-of .ensures,
+      ← c .before .before .before .before .before .before .number-of .ensures,
+      ← c .before .count-true .ensures,
+      c .if4 .taken,
+    )
 
 -- src/system.rt:214:5
 returns-5 : tie.Need-returns-5
 unfolding rule8
-returns-5 c = rw (← c .before .before .before .before .before .before .before .before .before .before .before .is-system .ensures, not-false (c .before .before .before .before .before .before .before .before .before .before .before .is-system .result) (c .before .before .before .before .before .before .before .before .before .before .if1 .left), ← c .before .before .before .before .before .opens-section .ensures, c .before .before .before .before .if2 .left, ← c .before .before .before .is-end .ensures, not-false (c .before .before .before .is-end .result) (c .before .before .if3 .left), ← c .before .before .before .before .before .before .before .count-of .ensures, ← c .before .before .before .before .before .before .number-of .ensures, ← c .before .count-true .ensures, c .if4 .left)
+returns-5 c =
+    rw (
+      ← c .before .before .before .before .before .before .before .before .before .before .before .is-system .ensures,
+      not-false
+          (c .before .before .before .before .before .before .before .before .before .before .before .is-system .result)
+          (c .before .before .before .before .before .before .before .before .before .before .if1 .left),
+      ← c .before .before .before .before .before .opens-section .ensures,
+      c .before .before .before .before .if2 .left,
+      ← c .before .before .before .is-end .ensures,
+      not-false (c .before .before .before .is-end .result)
+          (c .before .before .if3 .left),
+      ← c .before .before .before .before .before .before .before .count-of .ensures,
+      ← c .before .before .before .before .before .before .number-of .ensures,
+      ← c .before .count-true .ensures,
+      c .if4 .left,
+    )
 
 pub rule8-spec : {M : Type 1} → statement M
 rule8-spec =

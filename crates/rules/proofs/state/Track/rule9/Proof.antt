@@ -34,7 +34,15 @@ same-five-requires c κs = search needs
 -- src/system.rt:270:13
 returns-2 : tie.Need-returns-2
 unfolding rule9
-returns-2 c = rw (← c .before .before .before .before .before .before .opens-subentry .ensures, not-false (c .before .before .before .before .before .before .opens-subentry .result) (c .before .before .before .before .before .if1 .left), ← c .before .before .before .subent-accession .ensures, ← c .before .same-five .ensures, not-true (c .before .same-five .result) (c .if2 .taken))
+returns-2 c =
+    rw (
+      ← c .before .before .before .before .before .before .opens-subentry .ensures,
+      not-false (c .before .before .before .before .before .before .opens-subentry .result)
+          (c .before .before .before .before .before .if1 .left),
+      ← c .before .before .before .subent-accession .ensures,
+      ← c .before .same-five .ensures,
+      not-true (c .before .same-five .result) (c .if2 .taken),
+    )
 
 -- src/system.rt:272:28
 subentry-of-requires : tie.Need-subentry-of-requires
@@ -47,12 +55,36 @@ number-due-requires c κs = search needs
 -- src/system.rt:273:13
 returns-3 : tie.Need-returns-3
 unfolding rule9
-returns-3 c = rw (← c .before .before .before .before .before .before .before .before .before .opens-subentry .ensures, not-false (c .before .before .before .before .before .before .before .before .before .opens-subentry .result) (c .before .before .before .before .before .before .before .before .if1 .left), ← c .before .before .before .before .before .before .subent-accession .ensures, ← c .before .before .before .before .same-five .ensures, not-false (c .before .before .before .before .same-five .result) (c .before .before .before .if2 .left), ← c .before .before .subentry-of .ensures .0, ← c .before .number-due .ensures, c .if3 .taken)
+returns-3 c =
+    rw (
+      ← c .before .before .before .before .before .before .before .before .before .opens-subentry .ensures,
+      not-false (c .before .before .before .before .before .before .before .before .before .opens-subentry .result)
+          (c .before .before .before .before .before .before .before .before .if1 .left),
+      ← c .before .before .before .before .before .before .subent-accession .ensures,
+      ← c .before .before .before .before .same-five .ensures,
+      not-false (c .before .before .before .before .same-five .result)
+          (c .before .before .before .if2 .left),
+      ← c .before .before .subentry-of .ensures .0,
+      ← c .before .number-due .ensures,
+      c .if3 .taken,
+    )
 
 -- src/system.rt:260:5
 returns-4 : tie.Need-returns-4
 unfolding rule9
-returns-4 c = rw (← c .before .before .before .before .before .before .before .before .before .opens-subentry .ensures, not-false (c .before .before .before .before .before .before .before .before .before .opens-subentry .result) (c .before .before .before .before .before .before .before .before .if1 .left), ← c .before .before .before .before .before .before .subent-accession .ensures, ← c .before .before .before .before .same-five .ensures, not-false (c .before .before .before .before .same-five .result) (c .before .before .before .if2 .left), ← c .before .before .subentry-of .ensures .0, ← c .before .number-due .ensures, c .if3 .left)
+returns-4 c =
+    rw (
+      ← c .before .before .before .before .before .before .before .before .before .opens-subentry .ensures,
+      not-false (c .before .before .before .before .before .before .before .before .before .opens-subentry .result)
+          (c .before .before .before .before .before .before .before .before .if1 .left),
+      ← c .before .before .before .before .before .before .subent-accession .ensures,
+      ← c .before .before .before .before .same-five .ensures,
+      not-false (c .before .before .before .before .same-five .result)
+          (c .before .before .before .if2 .left),
+      ← c .before .before .subentry-of .ensures .0,
+      ← c .before .number-due .ensures,
+      c .if3 .left,
+    )
 
 pub rule9-spec : {M : Type 1} → statement M
 rule9-spec =

@@ -28,7 +28,14 @@ rule11-requires c κs = c .before .before .before .before .pre .1 .stands
 -- src/order.rt:44:13
 returns-2 : tie.Need-returns-2
 unfolding firstFault
-returns-2 c = rw (← c .before .before .before .rule10 .ensures, eq-eqb _ _ (c .before .before .if1 .left), ← c .before .rule11 .ensures, ne-eqb _ _ (c .if2 .taken))
+returns-2 c =
+    rw (
+      ← c .before .before .before .rule10 .ensures,
+      eq-eqb _ _
+          (c .before .before .if1 .left),
+      ← c .before .rule11 .ensures,
+      ne-eqb _ _ (c .if2 .taken),
+    )
 
 -- src/order.rt:46:13
 rule12-requires : tie.Need-rule12-requires
@@ -37,16 +44,42 @@ rule12-requires c κs = search needs
 -- src/order.rt:48:13
 returns-3 : tie.Need-returns-3
 unfolding firstFault
-returns-3 c = rw (← c .before .before .before .before .before .rule10 .ensures, eq-eqb _ _ (c .before .before .before .before .if1 .left), ← c .before .before .before .rule11 .ensures, eq-eqb _ _ (c .before .before .if2 .left), ← c .before .rule12 .ensures, ne-eqb _ _ (c .if3 .taken))
+returns-3 c =
+    rw (
+      ← c .before .before .before .before .before .rule10 .ensures,
+      eq-eqb _ _
+          (c .before .before .before .before .if1 .left),
+      ← c .before .before .before .rule11 .ensures,
+      eq-eqb _ _
+          (c .before .before .if2 .left),
+      ← c .before .rule12 .ensures,
+      ne-eqb _ _ (c .if3 .taken),
+    )
 
 -- src/order.rt:50:13
 rule13-requires : tie.Need-rule13-requires
-rule13-requires c κs = (c .before .before .before .before .before .before .before .before .pre .1 .stands, c .before .before .before .before .before .before .before .before .pre .1 .whole)
+rule13-requires c κs = (
+  c .before .before .before .before .before .before .before .before .pre .1 .stands,
+  c .before .before .before .before .before .before .before .before .pre .1 .whole,
+)
 
 -- src/order.rt:52:13
 returns-4 : tie.Need-returns-4
 unfolding firstFault
-returns-4 c = rw (← c .before .before .before .before .before .before .before .rule10 .ensures, eq-eqb _ _ (c .before .before .before .before .before .before .if1 .left), ← c .before .before .before .before .before .rule11 .ensures, eq-eqb _ _ (c .before .before .before .before .if2 .left), ← c .before .before .before .rule12 .ensures, eq-eqb _ _ (c .before .before .if3 .left), ← c .before .rule13 .ensures, ne-eqb _ _ (c .if4 .taken))
+returns-4 c =
+    rw (
+      ← c .before .before .before .before .before .before .before .rule10 .ensures,
+      eq-eqb _ _
+          (c .before .before .before .before .before .before .if1 .left),
+      ← c .before .before .before .before .before .rule11 .ensures,
+      eq-eqb _ _
+          (c .before .before .before .before .if2 .left),
+      ← c .before .before .before .rule12 .ensures,
+      eq-eqb _ _
+          (c .before .before .if3 .left),
+      ← c .before .rule13 .ensures,
+      ne-eqb _ _ (c .if4 .taken),
+    )
 
 -- src/order.rt:54:13
 rule14-requires : tie.Need-rule14-requires
@@ -55,21 +88,76 @@ rule14-requires c κs = c .before .before .before .before .before .before .befor
 -- src/order.rt:56:13
 returns-5 : tie.Need-returns-5
 unfolding firstFault
-returns-5 c = rw (← c .before .before .before .before .before .before .before .before .before .rule10 .ensures, eq-eqb _ _ (c .before .before .before .before .before .before .before .before .if1 .left), ← c .before .before .before .before .before .before .before .rule11 .ensures, eq-eqb _ _ (c .before .before .before .before .before .before .if2 .left), ← c .before .before .before .before .before .rule12 .ensures, eq-eqb _ _ (c .before .before .before .before .if3 .left), ← c .before .before .before .rule13 .ensures, eq-eqb _ _ (c .before .before .if4 .left), ← c .before .rule14 .ensures, ne-eqb _ _ (c .if5 .taken))
+returns-5 c =
+    rw (
+      ← c .before .before .before .before .before .before .before .before .before .rule10 .ensures,
+      eq-eqb _ _
+          (c .before .before .before .before .before .before .before .before .if1 .left),
+      ← c .before .before .before .before .before .before .before .rule11 .ensures,
+      eq-eqb _ _
+          (c .before .before .before .before .before .before .if2 .left),
+      ← c .before .before .before .before .before .rule12 .ensures,
+      eq-eqb _ _
+          (c .before .before .before .before .if3 .left),
+      ← c .before .before .before .rule13 .ensures,
+      eq-eqb _ _
+          (c .before .before .if4 .left),
+      ← c .before .rule14 .ensures,
+      ne-eqb _ _ (c .if5 .taken),
+    )
 
 -- src/order.rt:58:13
 rule15-requires : tie.Need-rule15-requires
-rule15-requires c κs = (c .before .before .before .before .before .before .before .before .before .before .before .before .pre .0, c .before .before .before .before .before .before .before .before .before .before .before .before .pre .1 .read)
+rule15-requires c κs = (
+  c .before .before .before .before .before .before .before .before .before .before .before .before .pre .0,
+  c .before .before .before .before .before .before .before .before .before .before .before .before .pre .1 .read,
+)
 
 -- src/order.rt:60:13
 returns-6 : tie.Need-returns-6
 unfolding firstFault
-returns-6 c = rw (← c .before .before .before .before .before .before .before .before .before .before .before .rule10 .ensures, eq-eqb _ _ (c .before .before .before .before .before .before .before .before .before .before .if1 .left), ← c .before .before .before .before .before .before .before .before .before .rule11 .ensures, eq-eqb _ _ (c .before .before .before .before .before .before .before .before .if2 .left), ← c .before .before .before .before .before .before .before .rule12 .ensures, eq-eqb _ _ (c .before .before .before .before .before .before .if3 .left), ← c .before .before .before .before .before .rule13 .ensures, eq-eqb _ _ (c .before .before .before .before .if4 .left), ← c .before .before .before .rule14 .ensures, eq-eqb _ _ (c .before .before .if5 .left), ← c .before .rule15 .ensures, ne-eqb _ _ (c .if6 .taken))
+returns-6 c =
+    rw (
+      ← c .before .before .before .before .before .before .before .before .before .before .before .rule10 .ensures,
+      eq-eqb _ _ (c .before .before .before .before .before .before .before .before .before .before .if1 .left),
+      ← c .before .before .before .before .before .before .before .before .before .rule11 .ensures,
+      eq-eqb _ _
+          (c .before .before .before .before .before .before .before .before .if2 .left),
+      ← c .before .before .before .before .before .before .before .rule12 .ensures,
+      eq-eqb _ _
+          (c .before .before .before .before .before .before .if3 .left),
+      ← c .before .before .before .before .before .rule13 .ensures,
+      eq-eqb _ _
+          (c .before .before .before .before .if4 .left),
+      ← c .before .before .before .rule14 .ensures,
+      eq-eqb _ _
+          (c .before .before .if5 .left),
+      ← c .before .rule15 .ensures,
+      ne-eqb _ _ (c .if6 .taken),
+    )
 
 -- src/order.rt:23:5
 returns-7 : tie.Need-returns-7
 unfolding firstFault
-returns-7 c = rw (← c .before .before .before .before .before .before .before .before .before .before .before .rule10 .ensures, eq-eqb _ _ (c .before .before .before .before .before .before .before .before .before .before .if1 .left), ← c .before .before .before .before .before .before .before .before .before .rule11 .ensures, eq-eqb _ _ (c .before .before .before .before .before .before .before .before .if2 .left), ← c .before .before .before .before .before .before .before .rule12 .ensures, eq-eqb _ _ (c .before .before .before .before .before .before .if3 .left), ← c .before .before .before .before .before .rule13 .ensures, eq-eqb _ _ (c .before .before .before .before .if4 .left), ← c .before .before .before .rule14 .ensures, eq-eqb _ _ (c .before .before .if5 .left), ← c .before .rule15 .ensures, eq-eqb _ _ (c .if6 .left))
+returns-7 c =
+    rw (
+      ← c .before .before .before .before .before .before .before .before .before .before .before .rule10 .ensures,
+      eq-eqb _ _ (c .before .before .before .before .before .before .before .before .before .before .if1 .left),
+      ← c .before .before .before .before .before .before .before .before .before .rule11 .ensures,
+      eq-eqb _ _
+          (c .before .before .before .before .before .before .before .before .if2 .left),
+      ← c .before .before .before .before .before .before .before .rule12 .ensures,
+      eq-eqb _ _
+          (c .before .before .before .before .before .before .if3 .left),
+      ← c .before .before .before .before .before .rule13 .ensures,
+      eq-eqb _ _
+          (c .before .before .before .before .if4 .left),
+      ← c .before .before .before .rule14 .ensures,
+      eq-eqb _ _
+          (c .before .before .if5 .left),
+      ← c .before .rule15 .ensures,
+      eq-eqb _ _ (c .if6 .left),
+    )
 
 pub section-fault-spec : {M : Type 1} → statement M
 section-fault-spec =

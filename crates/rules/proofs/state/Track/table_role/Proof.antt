@@ -29,17 +29,37 @@ returns-2 c = rw (le-ltb _ _ (c .before .before .if1 .left), ← c .before .is-e
 -- src/role.rt:156:13
 returns-3 : tie.Need-returns-3
 unfolding tableRole
-returns-3 c = rw (le-ltb _ _ (c .before .before .before .before .if1 .left), ← c .before .before .before .is-end .ensures, c .before .before .if2 .left, eq-eqb _ _ (c .if3 .taken))
+returns-3 c =
+    rw (
+      le-ltb _ _ (c .before .before .before .before .if1 .left),
+      ← c .before .before .before .is-end .ensures,
+      c .before .before .if2 .left,
+      eq-eqb _ _ (c .if3 .taken),
+    )
 
 -- src/role.rt:159:13
 returns-4 : tie.Need-returns-4
 unfolding tableRole
-returns-4 c = rw (le-ltb _ _ (c .before .before .before .before .before .before .if1 .left), ← c .before .before .before .before .before .is-end .ensures, c .before .before .before .before .if2 .left, ne-eqb _ _ (c .before .before .if3 .left), eq-eqb _ _ (c .if4 .taken))
+returns-4 c =
+    rw (
+      le-ltb _ _ (c .before .before .before .before .before .before .if1 .left),
+      ← c .before .before .before .before .before .is-end .ensures,
+      c .before .before .before .before .if2 .left,
+      ne-eqb _ _ (c .before .before .if3 .left),
+      eq-eqb _ _ (c .if4 .taken),
+    )
 
 -- src/role.rt:134:5
 returns-5 : tie.Need-returns-5
 unfolding tableRole
-returns-5 c = rw (le-ltb _ _ (c .before .before .before .before .before .before .if1 .left), ← c .before .before .before .before .before .is-end .ensures, c .before .before .before .before .if2 .left, ne-eqb _ _ (c .before .before .if3 .left), ne-eqb _ _ (c .if4 .left))
+returns-5 c =
+    rw (
+      le-ltb _ _ (c .before .before .before .before .before .before .if1 .left),
+      ← c .before .before .before .before .before .is-end .ensures,
+      c .before .before .before .before .if2 .left,
+      ne-eqb _ _ (c .before .before .if3 .left),
+      ne-eqb _ _ (c .if4 .left),
+    )
 
 pub table-role-spec : {M : Type 1} → statement M
 table-role-spec =

@@ -32,12 +32,26 @@ pointer-repeated-requires c κs = search needs
 -- src/text.rt:110:13
 returns-2 : tie.Need-returns-2
 unfolding rule11Text
-returns-2 c = rw (← c .before .before .before .before .before .bad-pointer .ensures, c .before .before .before .before .if1 .left, ← c .before .before .part .ensures, ← c .before .pointer-repeated .ensures, c .if2 .taken)
+returns-2 c =
+    rw (
+      ← c .before .before .before .before .before .bad-pointer .ensures,
+      c .before .before .before .before .if1 .left,
+      ← c .before .before .part .ensures,
+      ← c .before .pointer-repeated .ensures,
+      c .if2 .taken,
+    )
 
 -- src/text.rt:100:5
 returns-3 : tie.Need-returns-3
 unfolding rule11Text
-returns-3 c = rw (← c .before .before .before .before .before .bad-pointer .ensures, c .before .before .before .before .if1 .left, ← c .before .before .part .ensures, ← c .before .pointer-repeated .ensures, c .if2 .left)
+returns-3 c =
+    rw (
+      ← c .before .before .before .before .before .bad-pointer .ensures,
+      c .before .before .before .before .if1 .left,
+      ← c .before .before .part .ensures,
+      ← c .before .pointer-repeated .ensures,
+      c .if2 .left,
+    )
 
 pub text-pointer-spec : {M : Type 1} → statement M
 text-pointer-spec =

@@ -29,7 +29,13 @@ values-of-requires c κs = search needs
 -- src/values.rt:27:5
 returns-2 : tie.Need-returns-2
 unfolding valuesFor
-returns-2 c = rw (← c .before .before .before .is-value .ensures, not-false (c .before .before .before .is-value .result) (c .before .before .if1 .left), ← c .before .used .ensures .0) (c .values-of .ensures)
+returns-2 c =
+    rw (
+      ← c .before .before .before .is-value .ensures,
+      not-false (c .before .before .before .is-value .result)
+          (c .before .before .if1 .left),
+      ← c .before .used .ensures .0,
+    ) (c .values-of .ensures)
 
 pub values-spec : {M : Type 1} → statement M
 values-spec =
