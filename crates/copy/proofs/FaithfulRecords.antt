@@ -3,7 +3,7 @@
 -- Assumes nothing.
 use Prim.Native.Nat.{ℕ, _+_, _*_, _<_}
 use mathlib.Core.Path.{_≡_, refl, sym, _∙_, ap}
-use mathlib.Core.Bool.{Bool, true, false, _&&_}
+use mathlib.Core.Bool.{Bool, true, false}
 use mathlib.Core.List.{List, []}
 use native.Mathlib.Omega.{arith}
 use lib.Dec.{ltb}
@@ -13,6 +13,7 @@ use Rattle.laws.specs.Turns.{go}
 use Rattle.laws.specs.Copies.{Passing, Passing2, Faithful}
 use Rattle.laws.specs.Replacing.{replaced, Each, FieldsAlike}
 use Rattle.laws.proofs.Replacing.{each-of, length-mask, mask-at}
+use Rattle.laws.proofs.Booleans.{and-left}
 use Rattle.number.specs.Reading.{readField}
 use Rattle.record.specs.Class.{isPermitted}
 use Rattle.record.specs.Fields.{fieldAt, fieldsOf}
@@ -48,11 +49,7 @@ mask-of-at c r k h =
 -- only a value record has number fields
 value-of : (c : Context) (role k : ℕ) → numberIn c role k ≡ true → isValue role ≡ true
 unfolding numberIn
-value-of c role k e = by-test (isValue role) (ltb k (used (c .track))) e
-  where
-    by-test : (t u : Bool) → (t && u) ≡ true → t ≡ true
-    by-test true u e = refl
-    by-test false u e = e
+value-of c role k e = and-left (isValue role) (ltb k (used (c .track))) e
 
 no-number : (c : Context) (role : ℕ) → isValue role ≡ false → (k : ℕ) → numberIn c role k ≡ false
 unfolding numberIn

@@ -24,7 +24,7 @@ use Rattle.entry.specs.Verdict.{turnOf, Accepted}
 use Rattle.entry.proofs.GoingOn.{go-fine}
 use Rattle.questions.specs.Place.{hasRecord, fieldsAt, identifierAt, fieldOf}
 use Rattle.inside.specs.Inside.{contextAt, roleAt, behind}
-use Rattle.inside.proofs.Contexts.{Walked, walked}
+use Rattle.inside.proofs.Contexts.{Walked, walked, context-start, context-next}
 use Rattle.questions.proofs.Records.{record-there}
 use Rattle.inside.proofs.RowWalked.{fields-at}
 use Rattle.copy.specs.Copy.{copyRecord, recordsOf, copyOf}
@@ -47,14 +47,6 @@ module _ (s : List ℕ) (n : ℕ) (w : Walked s n) where
       rw (w .turns i (omega arith), next-block 81 i s, add-one i)
       (rw z at (copies-from j (suc i) (omega arith) m (omega arith)))
 
-start-context : (s : List ℕ) → contextAt s 0 ≡ startContext
-unfolding contextAt
-start-context s = refl
-
-context-next : (s : List ℕ) (i : ℕ) → contextAt s (suc i) ≡ behind (contextAt s i) (blockAt 81 s i)
-unfolding contextAt
-context-next s i = refl
-
 module _ (s : List ℕ) (accepted : Accepted s) where
   abbrev n : ℕ
   n = length s / 81
@@ -67,13 +59,13 @@ module _ (s : List ℕ) (accepted : Accepted s) where
       let z : 0 + i ≡ i = omega arith in
       let there : getD (copies turnOf copyRecord startContext 0 (recordsOf s)) i []
       ≡ copyRecord (contextAt s i) (blockAt 81 s i) =
-      rw (zero-mul 81, start-context s, z) at (copies-from s n (walked s accepted) n 0 (omega arith) i l) in
+      rw (zero-mul 81, context-start s, z) at (copies-from s n (walked s accepted) n 0 (omega arith) i l) in
       sym (block-at 81 (length (copyOf s) / 81) (copyOf s) i (rw long l))
       ∙ ap (λ (rs : List (List ℕ)). getD rs i []) (copy-records s p)
       ∙ there
 
   pub copied-context : (i : ℕ) → i ≤ length s / 81 → contextAt (copyOf s) i ≡ contextAt s i
-  copied-context zero l = start-context (copyOf s) ∙ sym (start-context s)
+  copied-context zero l = context-start (copyOf s) ∙ sym (context-start s)
   copied-context (suc i) l =
       let c = contextAt s i in
       context-next (copyOf s) i

@@ -24,7 +24,7 @@ use Rattle.rules.specs.Order.{findings, faultOf}
 use Rattle.entry.specs.declared.verdict.Verdict.{Verdict}
 use Rattle.entry.specs.Next.{phaseAfter, trackAfter, afterInside, partAfter, bibChange, underChange, tableChange}
 use Rattle.entry.specs.Next.{seenAfter, contextAfter}
-use Rattle.entry.specs.Verdict.{roleOf, refused, onFault, turnAs, turnOf}
+use Rattle.entry.specs.Verdict.{roleOf, accepted, refused, onFault, turnAs, turnOf, isDone, endOf}
 use Rattle.record.proofs.Readings.{values-same}
 use Rattle.rules.proofs.WithoutFault.{of-values}
 
@@ -45,6 +45,16 @@ pub fine-go : (c : Context) (i : ℕ) (r : List ℕ) (role : ℕ) → roleOf c r
     → turnOf c i r ≡ go (contextAfter c role (fieldsOf r) r)
 unfolding turnOf turnAs
 fine-go c i r role e h = rw (e, h)
+
+-- a walk that ends without refusal has met the end of the entry
+pub done-of : (c : Context) → endOf c .refusal ≡ 0 → isDone (c .phase) ≡ true
+unfolding endOf
+done-of c e = by-test (isDone (c .phase)) e
+  where
+    by-test : (b : Bool)
+        → cond b (accepted (c .track .totals)) (refused 16 (recordOf (c .track .records)) 0) .refusal ≡ 0 → b ≡ true
+    by-test true h = refl
+    by-test false h = absurd (omega arith)
 
 -- the number of a fault is one of the findings'
 fault-number : (fs : List Finding) → All (λ f. 0 < f .number) fs → (n k : ℕ) → firstFault fs ≡ At n k → 0 < n

@@ -22,11 +22,12 @@ use Rattle.rules.specs.State.{Context, used}
 use Rattle.rules.specs.Fault.{leftmost, fieldColumn, pointerColumn}
 use Rattle.rules.specs.Headings.{rule11Heading, rule12Heading, headingRepeated, rule13, pointersFor, pointerLost}
 use Rattle.rules.specs.Headings.{lostAt, rule14}
+use Rattle.rules.proofs.WithoutFault.{where-none}
 use Rattle.good.specs.Parts.{Record}
 use Rattle.good.specs.Marks.{Following}
 use Rattle.good.specs.Tables.{Heading, BlankCell}
 use Rattle.good.specs.Subentries.{Occurs}
-use Rattle.good.proofs.Steps.{Takes, next, MarkedFor, where-none, none-where, takes-own, own-takes}
+use Rattle.good.proofs.Steps.{Takes, next, MarkedFor, none-where, takes-own, own-takes}
 use Rattle.good.proofs.Runs.{Run, afterRun}
 use Rattle.good.proofs.Lists.{Long}
 use Rattle.good.proofs.Systems.{identificationIn}

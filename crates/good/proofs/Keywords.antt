@@ -7,7 +7,7 @@ use native.Mathlib.Omega.{arith}
 use lib.Dec.{eqb}
 use lib.ListN.{length, length-append}
 use borrow.Author.Tests.{ne-eqb, not-false}
-use Rattle.laws.proofs.Booleans.{differ, or-left, or-right}
+use Rattle.laws.proofs.Booleans.{differ, or-left, or-right, cond-itself}
 use Rattle.laws.proofs.Listing.{any-and}
 use Rattle.laws.specs.Walk.{All}
 use Rattle.laws.specs.Members.{anyOf}
@@ -33,10 +33,6 @@ any-one : (f : List ℕ) (xs : List (List ℕ)) (g : List ℕ)
 unfolding anyOf
 any-one f xs g = any-append (equalTo 10 f) xs (g ∷ [])
 
-keep : (b : Bool) → cond b true false ≡ b
-keep true = refl
-keep false = refl
-
 place-blank : (before : List Record) (places : List (List ℕ)) (r : Record) → BlankPlace r → Places before places
     → Places (before ++ (r ∷ [])) places
 place-blank before places r e p =
@@ -44,7 +40,7 @@ place-blank before places r e p =
       same = λ f w.
           ap (anyOf (equalTo 10 f)) (map-append placeOf before (r ∷ []))
           ∙ any-one f (map placeOf before) (placeOf r)
-          ∙ rw (word-differs f (placeOf r) w e, p .same f w) (keep (anyOf (equalTo 10 f) places));
+          ∙ rw (word-differs f (placeOf r) w e, p .same f w) (cond-itself (anyOf (equalTo 10 f) places));
     }
 
 place-word : (before : List Record) (places : List (List ℕ)) (r : Record) → Places before places

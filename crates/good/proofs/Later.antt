@@ -27,7 +27,7 @@ use Rattle.good.proofs.Marks.{following-append, following-right, follow
 use Rattle.good.proofs.Systems.{identificationIn}
 use Rattle.good.proofs.TableWalked.{headingRows, columnsIn, afterTable, BehindTable}
 use Rattle.good.proofs.TablesPassed.{pass-table}
-use Rattle.good.proofs.TablesGood.{GoodHere, table-behind, table-pass}
+use Rattle.good.proofs.TablesGood.{GoodHere, table-behind, table-pass, regroup}
 use Rattle.good.proofs.Subentries.{texts-long, rows-long, part-shown, part-headings, data-due, end-due}
 use Rattle.good.proofs.Subentries.{encloses-of, of-encloses}
 use Rattle.good.proofs.SubentryHeads.{afterHead, Head, pass-head, HeadGood, good-head, head-pass, Begun}
@@ -282,9 +282,5 @@ later-pass c accession first number m k l n s rest z g f one some above most rol
     (next-pass c4 ENDSUBENT (s .ending) rest z
     (end-due c4 (t .phase) (s .ending) ∙ only-role ENDSUBENT (nameOf (s .ending)) (p .encloses .named)) te q))))
   where
-    regroup : (bib common values : List Record) (e : Record) (ts : List Record)
-        → bib ++ (common ++ values) ++ (e ∷ []) ++ ts ≡ bib ++ (common ++ (values ++ (e ∷ ts)))
-    regroup bib common values e ts = simp append-assoc
-
     one-below : ownNumber (s .opening) ≡ 1 → ⊥
     one-below e = omega arith

@@ -304,7 +304,7 @@ row-same d k n last line rest c r a l =
       left = ap (λ (x : Table). x .rest) t ∙ ap (λ (x : ℕ). x - 6) (a .left);
     }
 
-phase-open : (d : Bool) → isDone (phaseFor d) ≡ false
+pub phase-open : (d : Bool) → isDone (phaseFor d) ≡ false
 phase-open false = refl
 phase-open true = refl
 

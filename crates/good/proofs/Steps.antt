@@ -7,10 +7,9 @@ use mathlib.Core.List.{List, [], _∷_, _++_}
 use native.Mathlib.Omega.{arith}
 use lib.Dec.{eqb}
 use lib.ListN.{length, getD}
-use borrow.Author.Tests.{eqb-true, not-false}
+use borrow.Author.Tests.{not-false}
 use Rattle.laws.specs.Turns.{go}
 use Rattle.laws.specs.Walk.{Goes, All}
-use Rattle.laws.proofs.Search.{either}
 use Rattle.record.specs.Columns.{recordOf, hasLineFeed}
 use Rattle.record.specs.Class.{isPermitted, notPermitted}
 use Rattle.record.specs.Fields.{fieldsOf}
@@ -28,6 +27,7 @@ use Rattle.rules.specs.Text.{rule10, rule11Text}
 use Rattle.rules.specs.Headings.{rule11Heading, rule12Heading, rule12Unit, rule13, rule14}
 use Rattle.rules.specs.Values.{rule15}
 use Rattle.rules.specs.Order.{findings, faultOf}
+use Rattle.rules.proofs.WithoutFault.{fine-none, where-none}
 use Rattle.entry.specs.Next.{contextAfter}
 use Rattle.entry.specs.Verdict.{roleOf, onFault, turnAs, turnOf}
 use Rattle.good.specs.Parts.{Record}
@@ -50,23 +50,6 @@ pub whens-none : (a b : Bool) (j k : ℕ) → 0 < j → 0 < k → leftmost (when
 whens-none true b j k h l e = absurd (omega arith)
 whens-none false b j k h l e = (refl, when-none b k l e)
 
-pub from-none : (test : ℕ → Bool) (column : ℕ → ℕ) (i n : ℕ) → ((k : ℕ) → 0 < column k)
-    → leftmost (columnsFrom test column i n) ≡ 0 → (k : ℕ) → i ≤ k → k < i + n → test k ≡ false
-unfolding columnsFrom
-from-none test column i zero pos e k a b = absurd (omega arith)
-from-none test column i (suc n) pos e k a b =
-    by-test (test i) refl e (λ h. from-none test column (i + 1) n pos h k)
-  where
-    by-test : (t : Bool) → test i ≡ t
-        → leftmost (cond t (column i ∷ columnsFrom test column (i + 1) n) (columnsFrom test column (i + 1) n)) ≡ 0
-        → (leftmost (columnsFrom test column (i + 1) n) ≡ 0 → i + 1 ≤ k → k < i + 1 + n → test k ≡ false)
-        → test k ≡ false
-    by-test true q h rest = let p : 0 < column i = pos i in absurd (omega arith)
-    by-test false q h rest =
-        either i k
-        (λ l. rest h (omega arith) (omega arith))
-        (λ l. let z : k ≡ i = omega arith in rw z q)
-
 pub none-from : (test : ℕ → Bool) (column : ℕ → ℕ) (i n : ℕ)
     → ((k : ℕ) → i ≤ k → k < i + n → test k ≡ false) → columnsFrom test column i n ≡ []
 unfolding columnsFrom
@@ -74,24 +57,9 @@ none-from test column i zero h = refl
 none-from test column i (suc n) h =
     rw (h i (omega arith) (omega arith)) (none-from test column (i + 1) n (λ k a b. h k (omega arith) (omega arith)))
 
-pub where-none : (test : ℕ → Bool) (column : ℕ → ℕ) (n : ℕ) → ((k : ℕ) → 0 < column k)
-    → leftmost (columnsWhere test column n) ≡ 0 → (k : ℕ) → k < n → test k ≡ false
-where-none test column n pos e k l = from-none test column 0 n pos e k (omega arith) (omega arith)
-
 pub none-where : (test : ℕ → Bool) (column : ℕ → ℕ) (n : ℕ)
     → ((k : ℕ) → k < n → test k ≡ false) → columnsWhere test column n ≡ []
 none-where test column n h = none-from test column 0 n (λ k a b. h k (omega arith))
-
-pub fine-none : (fs : List Finding) → firstFault fs ≡ Fine → All None fs
-unfolding firstFault
-fine-none [] e = tt
-fine-none (f ∷ fs) e = by-column (eqb (leftmost (f .columns)) 0) refl e (fine-none fs)
-  where
-    by-column : (b : Bool) → eqb (leftmost (f .columns)) 0 ≡ b
-        → cond b (firstFault fs) (At (f .number) (leftmost (f .columns))) ≡ Fine
-        → (firstFault fs ≡ Fine → All None fs) → (leftmost (f .columns) ≡ 0) × All None fs
-    by-column true q h rest = (eqb-true (leftmost (f .columns)) 0 q, rest h)
-    by-column false q h rest = let z : _≡_ {A = ℕ} 0 1 = cc in absurd (omega arith)
 
 pub none-fine : (fs : List Finding) → All None fs → firstFault fs ≡ Fine
 unfolding firstFault

@@ -122,7 +122,7 @@ end-here d c t a b r w m =
     (rowsOf t) = omega arith in
     rw (i, n) m
 
-regroup : (hs us ls : List Record) (e : Record) (ts : List Record)
+pub regroup : (hs us ls : List Record) (e : Record) (ts : List Record)
     → hs ++ (us ++ ls) ++ (e ∷ []) ++ ts ≡ hs ++ (us ++ (ls ++ (e ∷ ts)))
 regroup hs us ls e ts = sym (spread hs us ls e ts)
 

@@ -20,7 +20,7 @@ use Rattle.good.proofs.Steps.{Takes, next, Passes, takes-marked}
 use Rattle.good.proofs.Runs.{pass-only, pass-either, rest-of, Step, afterRun}
 use Rattle.good.proofs.Marks.{says-as, says-count, following-append, following-as}
 use Rattle.good.proofs.Systems.{identificationIn, Here, here-of, takes-announces, takes-end}
-use Rattle.good.proofs.Rows.{headings, units, values, roleFor, endFor, phaseFor, pass-row, table-end-role}
+use Rattle.good.proofs.Rows.{headings, units, values, roleFor, endFor, pass-row, table-end-role, phase-open}
 use Rattle.good.proofs.Units.{units-good, behind-units}
 use Rattle.good.proofs.Headings.{behind-headings}
 use Rattle.good.proofs.HeadingsByColumn.{NewIn, headings-good}
@@ -149,10 +149,6 @@ pub last-least : (d : Bool) (a b : ℕ) → Limits d a b → 1 ≤ lastFor d b
 last-least false a b l = omega arith
 last-least true a b l = l .data-least refl
 
-in-phase : (d : Bool) → isDone (phaseFor d) ≡ false
-in-phase false = refl
-in-phase true = refl
-
 pub pass-table : (d : Bool) (c : Context) (rs : List Record) (z : Context) (first common : List Record)
     (pointers : List ℕ)
     → PartsKnown first common pointers c → ((r : Record) → roleOf c r ≡ oneOf (openFor d) (noFor d) (nameOf r))
@@ -185,7 +181,7 @@ pass-table d c rs z first common pointers k due going none done p =
     (λ rows ys3 split3 l3 run3 p3.
     let c4 = afterLines d c3 rows in
     let b3 = behind-lines d a l 1 c3 rows at2 (lim .least) (b2 .blank) (omega arith) run3 in
-    rest-of c4 ys3 z (ap isDone (b3 .at .phase) ∙ in-phase d) done p3
+    rest-of c4 ys3 z (ap isDone (b3 .at .phase) ∙ phase-open d) done p3
     (λ e ts′ split4 p4.
     let st = pass-only c4 (endFor d) e ts′ z
     (table-end-role c4 d values a l (1 + length rows) a e (b3 .at) (omega arith)) p4 in

@@ -31,6 +31,7 @@ use Rattle.rules.specs.Fault.{Finding, firstFault, leftmost}
 use Rattle.rules.specs.Order.{findings, faultOf}
 use Rattle.entry.specs.declared.verdict.Verdict.{Verdict}
 use Rattle.entry.specs.Verdict.{roleOf, onFault, turnAs, turnOf, refused, accepted, isDone, endOf, lengthGood, judgeOf}
+use Rattle.entry.proofs.GoingOn.{done-of}
 use Rattle.good.specs.Parts.{Record, recordsOf}
 use Rattle.good.specs.Good.{GoodBytes}
 use Rattle.good.specs.Totals.{totalsOf}
@@ -119,15 +120,6 @@ of-whole n m e l h =
     rw (ne-eqb n 0 (λ z. omega arith), eq-eqb (n % 81) 0 (omega arith), le-leb n 1620000 (omega arith))
 
 -- ---- the last context of an accepted walk
-
-done-of : (c : Context) → endOf c .refusal ≡ 0 → isDone (c .phase) ≡ true
-unfolding endOf
-done-of c e = by-test (isDone (c .phase)) e
-  where
-    by-test : (b : Bool)
-        → cond b (accepted (c .track .totals)) (refused 16 (recordOf (c .track .records)) 0) .refusal ≡ 0 → b ≡ true
-    by-test true h = refl
-    by-test false h = absurd (omega arith)
 
 end-is : (c : Context) → isDone (c .phase) ≡ true → endOf c ≡ accepted (c .track .totals)
 unfolding endOf

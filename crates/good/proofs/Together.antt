@@ -9,7 +9,7 @@ use native.Mathlib.Omega.{arith}
 use lib.Dec.{eqb}
 use lib.ListN.{length, drop}
 use lib.Seq.{getD-take, getD-drop}
-use Rattle.laws.proofs.Booleans.{differ}
+use Rattle.laws.proofs.Booleans.{differ, cond-itself}
 use Rattle.laws.proofs.Listing.{any-list, any-map, any-none, any-one, list-same, list-split, none-any, one-any}
 use Rattle.laws.specs.Members.{listOf, anyOf}
 use Rattle.laws.specs.Walk.{All}
@@ -152,12 +152,8 @@ heading-pointers rows n p a s h =
     ∙ any-append (eqb p) (listOf at 0 n) (listOf at (0 + n) (length rows * 6 - n))
     ∙ rw (none-any (eqb p) at (0 + n) (length rows * 6 - n)
     (λ k b c. blank-pointer (cell rows k) p (s .unused k (omega arith) (omega arith)) h))
-    (keep (anyOf (eqb p) (listOf at 0 n)) ∙ sym (any-list (eqb p) pointerOf (cell rows) 0 n)
+    (cond-itself (anyOf (eqb p) (listOf at 0 n)) ∙ sym (any-list (eqb p) pointerOf (cell rows) 0 n)
     ∙ sym (any-map (eqb p) pointerOf (shown rows n)))
-  where
-    keep : (b : Bool) → cond b true false ≡ b
-    keep true = refl
-    keep false = refl
 
 any-same : (p : ℕ) (a b c d : List ℕ) → anyOf (eqb p) a ≡ anyOf (eqb p) c → anyOf (eqb p) b ≡ anyOf (eqb p) d
     → anyOf (eqb p) (a ++ b) ≡ anyOf (eqb p) (c ++ d)

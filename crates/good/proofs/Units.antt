@@ -15,10 +15,11 @@ use Rattle.record.specs.Word.{isUnit, unitFault, blankTo}
 use Rattle.rules.specs.State.{Context, used}
 use Rattle.rules.specs.Fault.{leftmost, fieldColumn}
 use Rattle.rules.specs.Headings.{rule12Unit}
+use Rattle.rules.proofs.WithoutFault.{where-none}
 use Rattle.good.specs.Parts.{Record}
 use Rattle.good.specs.Marks.{Following}
 use Rattle.good.specs.Tables.{cell, UnitCell, BlankCell, GoodUnits}
-use Rattle.good.proofs.Steps.{Takes, MarkedFor, where-none, none-where, takes-own, own-takes}
+use Rattle.good.proofs.Steps.{Takes, MarkedFor, none-where, takes-own, own-takes}
 use Rattle.good.proofs.Runs.{Run, afterRun}
 use Rattle.good.proofs.Systems.{identificationIn}
 use Rattle.good.proofs.Rows.{units, roleFor, RowAt, NoEnd}

@@ -22,10 +22,11 @@ use Rattle.rules.specs.declared.state.Table.{Table}
 use Rattle.rules.specs.State.{Context, used}
 use Rattle.rules.specs.Fault.{when, columnsWhere, leftmost, fieldColumn}
 use Rattle.rules.specs.Values.{optional, blankFields, lineBlank, rule15, valuesFor}
+use Rattle.rules.proofs.WithoutFault.{where-none}
 use Rattle.good.specs.Parts.{Record}
 use Rattle.good.specs.Marks.{Following}
 use Rattle.good.specs.Tables.{cell, Value, BlankValue, isNumber, numbersIn, GoodValues}
-use Rattle.good.proofs.Steps.{Takes, next, MarkedFor, where-none, none-where, takes-own, own-takes}
+use Rattle.good.proofs.Steps.{Takes, next, MarkedFor, none-where, takes-own, own-takes}
 use Rattle.good.proofs.Runs.{Run, afterRun}
 use Rattle.good.proofs.Systems.{identificationIn}
 use Rattle.good.proofs.Rows.{values, roleFor, numbersOf, lastOf, row-step, RowAt, NoEnd}

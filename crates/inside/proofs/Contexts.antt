@@ -14,11 +14,10 @@ use Rattle.laws.specs.Walk.{walk, Goes}
 use Rattle.laws.specs.Blocks.{blocks, blockAt}
 use Rattle.laws.proofs.Walk.{walk-goes, goes-walk}
 use Rattle.laws.proofs.Blocks.{next-block}
-use Rattle.record.specs.Columns.{recordOf}
 use Rattle.rules.specs.State.{Context, startContext}
 use Rattle.entry.specs.declared.verdict.Verdict.{Verdict}
-use Rattle.entry.specs.Verdict.{refused, accepted, turnOf, endOf, isDone, lengthGood, judgeOf, Accepted}
-use Rattle.entry.proofs.GoingOn.{go-fine, out-refused}
+use Rattle.entry.specs.Verdict.{refused, turnOf, endOf, isDone, lengthGood, judgeOf, Accepted}
+use Rattle.entry.proofs.GoingOn.{go-fine, out-refused, done-of}
 use Rattle.inside.specs.Inside.{behind, contextAt}
 
 -- one block more
@@ -36,9 +35,13 @@ none-left : (c : Context) (i : ℕ) (t : List ℕ) (last : Context) → Goes tur
 unfolding blocks
 none-left c i t last g = g
 
-context-start : (s : List ℕ) → contextAt s 0 ≡ startContext
+pub context-start : (s : List ℕ) → contextAt s 0 ≡ startContext
 unfolding contextAt
 context-start s = refl
+
+pub context-next : (s : List ℕ) (i : ℕ) → contextAt s (suc i) ≡ behind (contextAt s i) (blockAt 81 s i)
+unfolding contextAt
+context-next s i = refl
 
 module _ (s : List ℕ) (n : ℕ) (last : Context) (goes : Goes turnOf startContext 0 (blocks 81 n s) last) where
   abbrev rest : ℕ → List (List ℕ)
@@ -69,15 +72,6 @@ module _ (s : List ℕ) (n : ℕ) (last : Context) (goes : Goes turnOf startCont
 pub record Walked (s : List ℕ) (n : ℕ) : Type 0 where
   pub turns : (i : ℕ) → i < n → turnOf (contextAt s i) i (blockAt 81 s i) ≡ go (contextAt s (suc i))
   pub done : isDone (contextAt s n .phase) ≡ true
-
-done-of : (c : Context) → endOf c .refusal ≡ 0 → isDone (c .phase) ≡ true
-unfolding endOf
-done-of c e = by-test (isDone (c .phase)) e
-  where
-    by-test : (b : Bool)
-        → cond b (accepted (c .track .totals)) (refused 16 (recordOf (c .track .records)) 0) .refusal ≡ 0 → b ≡ true
-    by-test true h = refl
-    by-test false h = absurd (omega arith)
 
 pub walked : (s : List ℕ) → Accepted s → Walked s (length s / 81)
 unfolding judgeOf

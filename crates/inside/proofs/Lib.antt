@@ -8,6 +8,5 @@ pub mod TextLaid
 pub mod TextPlaced
 pub mod RecordsFrom
 pub mod TextsSeen
-pub mod FoundFirst
 pub mod PassageAnswered
 pub mod Answered

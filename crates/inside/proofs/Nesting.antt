@@ -9,6 +9,7 @@ use lib.Dec.{eqb, ltb, leb}
 use lib.ListN.{getD}
 use borrow.Author.Tests.{eqb-true, leb-true, ltb-true}
 use Rattle.laws.specs.Turns.{go}
+use Rattle.laws.proofs.Booleans.{and-left, and-right, or-other, either-as}
 use Rattle.record.specs.Fields.{fieldsOf}
 use Rattle.record.specs.Identifier.{ENTRY, SUBENT, NOSUBENT, BIB, NOBIB, ENDBIB, COMMON, NOCOMMON, ENDCOMMON, DATA}
 use Rattle.record.specs.Identifier.{NODATA, ENDDATA, ENDSUBENT, ENDENTRY, OTHER, identifierOf, isEnd}
@@ -24,6 +25,7 @@ use Rattle.rules.specs.Role.{tableRole, dataRole, roleIn}
 use Rattle.rules.specs.Every.{n1}
 use Rattle.rules.specs.System.{numberDue}
 use Rattle.rules.proofs.DueRecords.{fine-due, fine-number}
+use Rattle.rules.proofs.EitherWay.{either-way}
 use Rattle.entry.specs.Next.{phaseAfter, textRead, afterSystem, afterInside, trackAfter, contextAfter}
 use Rattle.entry.specs.Verdict.{roleOf, turnOf}
 use Rattle.entry.proofs.GoingOn.{go-fine}
@@ -56,12 +58,6 @@ rank-below AfterData = omega arith
 rank-below Between = omega arith
 rank-below Done = omega arith
 
--- it holds whichever is taken, with what the test says
-pub either-as : {A : Type 0} (P : A → Type 0) (b : Bool) (x y : A) → (b ≡ true → P x) → (b ≡ false → P y)
-    → P (cond b x y)
-either-as P true x y p q = p refl
-either-as P false x y p q = q refl
-
 -- ---- what a role says of the phase before it
 
 -- a section is opened at its rank; a record that opens no subentry does not lead back, nor into a subentry
@@ -77,42 +73,39 @@ leads before role behind =
 nests : Phase → ℕ → Bool
 nests p role = eqb role NOT-DUE || (opensAt (rank p) role && leads (rank p) role (rank (phaseAfter role)))
 
-module _ (p : Phase) where
-  abbrev N : ℕ → Type 0
-  N role = nests p role ≡ true
-
-  two-ways : (b : Bool) (x y : ℕ) → N x → N y → N (cond b x y)
-  two-ways true x y h k = h
-  two-ways false x y h k = k
+abbrev Nests : Phase → ℕ → Type 0
+Nests p role = nests p role ≡ true
 
 nested : (p : Phase) (t : Track) (k : ℕ) → nests p (roleIn p t k) ≡ true
 unfolding nests roleIn bibRole tableRole dataRole phaseAfter
-nested Start t k = two-ways Start (eqb k ENTRY) _ _ refl refl
-nested Opened t k = two-ways Opened (eqb k SUBENT) _ _ refl refl
+nested Start t k = either-way (Nests Start) (eqb k ENTRY) _ _ refl refl
+nested Opened t k = either-way (Nests Opened) (eqb k SUBENT) _ _ refl refl
 nested InSubentry t k =
-    two-ways InSubentry (eqb k BIB) _ _ refl (two-ways InSubentry (eqb k NOBIB) _ _ refl refl)
+    either-way (Nests InSubentry) (eqb k BIB) _ _ refl (either-way (Nests InSubentry) (eqb k NOBIB) _ _ refl refl)
 nested InBib t k =
-    two-ways InBib (eqb (t .section) (t .bib .records)) _ _ (two-ways InBib (eqb k ENDBIB) _ _ refl refl)
-    (two-ways InBib (eqb k OTHER) _ _ refl refl)
+    either-way (Nests InBib) (eqb (t .section) (t .bib .records)) _ _
+    (either-way (Nests InBib) (eqb k ENDBIB) _ _ refl refl)
+    (either-way (Nests InBib) (eqb k OTHER) _ _ refl refl)
 nested AfterBib t k =
-    two-ways AfterBib (eqb k COMMON) _ _ refl (two-ways AfterBib (eqb k NOCOMMON) _ _ refl refl)
+    either-way (Nests AfterBib) (eqb k COMMON) _ _ refl (either-way (Nests AfterBib) (eqb k NOCOMMON) _ _ refl refl)
 nested InCommon t k =
-    two-ways InCommon (allRead t) _ _ (two-ways InCommon (eqb k ENDCOMMON) _ _ refl refl)
-    (two-ways InCommon (isEnd k) _ _ refl
-    (two-ways InCommon (eqb (t .table .row) HEADINGS) _ _ refl
-    (two-ways InCommon (eqb (t .table .row) UNITS) _ _ refl refl)))
+    either-way (Nests InCommon) (allRead t) _ _ (either-way (Nests InCommon) (eqb k ENDCOMMON) _ _ refl refl)
+    (either-way (Nests InCommon) (isEnd k) _ _ refl
+    (either-way (Nests InCommon) (eqb (t .table .row) HEADINGS) _ _ refl
+    (either-way (Nests InCommon) (eqb (t .table .row) UNITS) _ _ refl refl)))
 nested AfterCommon t k =
-    two-ways AfterCommon (eqb (t .subentry .number) 1) _ _ (two-ways AfterCommon (eqb k ENDSUBENT) _ _ refl refl)
-    (two-ways AfterCommon (eqb k DATA) _ _ refl (two-ways AfterCommon (eqb k NODATA) _ _ refl refl))
+    either-way (Nests AfterCommon) (eqb (t .subentry .number) 1) _ _
+    (either-way (Nests AfterCommon) (eqb k ENDSUBENT) _ _ refl refl)
+    (either-way (Nests AfterCommon) (eqb k DATA) _ _ refl (either-way (Nests AfterCommon) (eqb k NODATA) _ _ refl refl))
 nested InData t k =
-    two-ways InData (allRead t) _ _ (two-ways InData (eqb k ENDDATA) _ _ refl refl)
-    (two-ways InData (isEnd k) _ _ refl
-    (two-ways InData (eqb (t .table .row) HEADINGS) _ _ refl
-    (two-ways InData (eqb (t .table .row) UNITS) _ _ refl refl)))
-nested AfterData t k = two-ways AfterData (eqb k ENDSUBENT) _ _ refl refl
+    either-way (Nests InData) (allRead t) _ _ (either-way (Nests InData) (eqb k ENDDATA) _ _ refl refl)
+    (either-way (Nests InData) (isEnd k) _ _ refl
+    (either-way (Nests InData) (eqb (t .table .row) HEADINGS) _ _ refl
+    (either-way (Nests InData) (eqb (t .table .row) UNITS) _ _ refl refl)))
+nested AfterData t k = either-way (Nests AfterData) (eqb k ENDSUBENT) _ _ refl refl
 nested Between t k =
-    two-ways Between (eqb k SUBENT) _ _ refl
-    (two-ways Between (eqb k NOSUBENT) _ _ refl (two-ways Between (eqb k ENDENTRY) _ _ refl refl))
+    either-way (Nests Between) (eqb k SUBENT) _ _ refl
+    (either-way (Nests Between) (eqb k NOSUBENT) _ _ refl (either-way (Nests Between) (eqb k ENDENTRY) _ _ refl refl))
 nested Done t k = refl
 
 -- ---- the number of the subentry
@@ -185,10 +178,6 @@ unnumbered-next t role fs r u =
 due-above : (t : Track) (number : ℕ) → Unnumbered t → numberDue t number ≡ true → t .subentry .number < number
 due-above t number u h = by-test (eqb (t .totals .subentries) 0) refl h
   where
-    first-of : (a b : Bool) → (a && b) ≡ true → a ≡ true
-    first-of true b e = refl
-    first-of false b e = e
-
     by-test : (a : Bool) → eqb (t .totals .subentries) 0 ≡ a
         → cond a (eqb number 1) (ltb (t .subentry .number) number && leb number 998) ≡ true
         → t .subentry .number < number
@@ -197,7 +186,7 @@ due-above t number u h = by-test (eqb (t .totals .subentries) 0) refl h
         let o : number ≡ 1 = eqb-true number 1 h in
         omega arith
     by-test false p h =
-        ltb-true (t .subentry .number) number (first-of (ltb (t .subentry .number) number) (leb number 998) h)
+        ltb-true (t .subentry .number) number (and-left (ltb (t .subentry .number) number) (leb number 998) h)
 
 -- ---- one record
 
@@ -215,13 +204,8 @@ pub record Nested (c : Context) (role number : ℕ) (d : Context) : Type 0 where
   pub «data» : role ≡ DATA → rank (c .phase) ≡ 5
   pub behind : d .phase ≡ phaseAfter role
 
-pub or-right : (a b : Bool) → (a || b) ≡ true → a ≡ false → b ≡ true
-or-right true b h e = let z : _≡_ {A = ℕ} 0 1 = cc in absurd (omega arith)
-or-right false b h e = h
-
 and-both : (a b : Bool) → (a && b) ≡ true → (a ≡ true) × (b ≡ true)
-and-both true b e = (refl, e)
-and-both false b e = let z : _≡_ {A = ℕ} 0 1 = cc in absurd (omega arith)
+and-both a b e = (and-left a b e, and-right a b e)
 
 module _ (c : Context) (i : ℕ) (r : List ℕ) (d : Context) (goes : turnOf c i r ≡ go d) (u : Unnumbered (c .track)) where
   abbrev role : ℕ
@@ -250,14 +234,14 @@ module _ (c : Context) (i : ℕ) (r : List ℕ) (d : Context) (goes : turnOf c i
   unfolding nests
   placed =
       and-both (opensAt (rank (c .phase)) role) (leads (rank (c .phase)) role (rank (phaseAfter role)))
-      (or-right (eqb role NOT-DUE) _ (nested (c .phase) (c .track) (identifierOf (getD (fieldsOf r) 0 []))) is-due)
+      (or-other (eqb role NOT-DUE) _ (nested (c .phase) (c .track) (identifierOf (getD (fieldsOf r) 0 []))) is-due)
 
   led : opensSubentry role ≡ false
       → (rank (c .phase) ≤ rank (phaseAfter role)) × (1 ≤ rank (phaseAfter role) → 1 ≤ rank (c .phase))
   led o =
       let p = rank (c .phase) in
       let q = rank (phaseAfter role) in
-      let (a, b) = and-both (leb p q) (leb 1 p || eqb q 0) (or-right (opensSubentry role) _ (placed .1) o) in
+      let (a, b) = and-both (leb p q) (leb 1 p || eqb q 0) (or-other (opensSubentry role) _ (placed .1) o) in
       (leb-true p q a, by-test (leb 1 p) refl b)
     where
       by-test : (a : Bool) → leb 1 (rank (c .phase)) ≡ a → (a || eqb (rank (phaseAfter role)) 0) ≡ true

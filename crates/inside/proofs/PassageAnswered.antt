@@ -9,12 +9,13 @@ use native.Mathlib.Omega.{arith}
 use lib.Dec.{eqb}
 use lib.ListN.{length, getD}
 use borrow.Author.Tests.{eqb-true, eqb-false, eq-eqb, ne-eqb, le-leb, lt-ltb, not-true}
-use Rattle.laws.proofs.Booleans.{differ, and-left, and-right}
+use Rattle.laws.proofs.Booleans.{differ, and-left, and-right, or-other, and-none}
 use Rattle.laws.proofs.Search.{first-from, first-to}
-use Rattle.laws.proofs.Counting.{first-before, first-past}
+use Rattle.laws.proofs.Counting.{first-before, first-past, first-holds, first-is}
 use Rattle.record.specs.Text.{isBlank}
 use Rattle.record.specs.Word.{equalTo, pointerOf}
 use Rattle.record.specs.declared.columns.RecordNo.{RecordNo}
+use Rattle.record.proofs.EqualColumns.{equal-both, equal-taken}
 use Rattle.rules.specs.Text.{placeAt}
 use Rattle.entry.specs.Verdict.{judgeOf, Accepted}
 use Rattle.questions.specs.declared.row.Row.{Row}
@@ -29,8 +30,6 @@ use Rattle.questions.proofs.Refusals.{section-none}
 use Rattle.questions.proofs.RowChanges.{bib}
 use Rattle.inside.specs.Inside.{TextOf, InsidePassage, RunFrom, PassageAnswered}
 use Rattle.inside.specs.Inside.{BegunInside, OnePassage}
-use Rattle.inside.proofs.FoundFirst.{first-holds, first-is, and-none, equal-both, equal-taken}
-use Rattle.inside.proofs.Nesting.{or-right}
 use Rattle.inside.proofs.RecordsFrom.{place-field}
 use Rattle.inside.proofs.RowWalked.{fields-at}
 use Rattle.inside.proofs.RowFound.{Opening, row-names, row-subent}
@@ -66,7 +65,7 @@ module _ (s : List ℕ) (accepted : Accepted s) (n : ℕ) (keyword : List ℕ) (
       let g = placeAt s j in
       let e : pointerOf f ≡ pointer = eqb-true (pointerOf f) pointer (and-right (begins f) _ (x .begun)) in
       let filled : not (isBlank (pointerOf f)) ≡ true =
-      or-right (hasKeyword f) _ (and-left (begins f) _ (x .begun)) (u .last i (omega arith) (omega arith)) in
+      or-other (hasKeyword f) _ (and-left (begins f) _ (x .begun)) (u .last i (omega arith) (omega arith)) in
       let once = pointer-once s accepted n k i j u (x .text) h l (not-true (isBlank (pointerOf f)) filled) in
       and-none (begins g) (eqb (pointerOf g) pointer)
       (ne-eqb (pointerOf g) pointer (λ q. eqb-false (pointerOf f) (pointerOf g) once (e ∙ sym q)))

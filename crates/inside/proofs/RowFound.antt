@@ -3,7 +3,7 @@
 -- Assumes nothing.
 use Prim.Native.Nat.{ℕ, zero, suc, _+_, _*_, _-_, _/_, _<_, _≤_}
 use mathlib.Core.Path.{_≡_, refl, sym, _∙_, ap}
-use mathlib.Core.Bool.{Bool, true, false, cond, _||_}
+use mathlib.Core.Bool.{Bool, true, false, _||_}
 use mathlib.Core.List.{List, []}
 use native.Mathlib.Omega.{arith}
 use native.Mathlib.Numerals.{add-one}
@@ -11,6 +11,7 @@ use lib.Dec.{eqb}
 use lib.ListN.{length, getD}
 use borrow.Author.Tests.{eqb-true}
 use Rattle.laws.specs.Blocks.{blockAt}
+use Rattle.laws.proofs.Booleans.{either-as}
 use Rattle.record.specs.Columns.{recordOf}
 use Rattle.record.specs.Fields.{fieldsOf}
 use Rattle.record.specs.Identifier.{SUBENT, NOSUBENT, BIB, COMMON, DATA, ENTRY, NOBIB, ENDBIB, NOCOMMON, ENDCOMMON}
@@ -24,6 +25,7 @@ use Rattle.rules.specs.declared.state.Track.{Track}
 use Rattle.rules.specs.State.{Context, HEADINGS, UNITS}
 use Rattle.rules.specs.Role.{opensSubentry, bibRole, allRead, tableRole, dataRole, roleIn}
 use Rattle.rules.specs.Every.{n1}
+use Rattle.rules.proofs.EitherWay.{either-way}
 use Rattle.entry.specs.Next.{phaseAfter}
 use Rattle.entry.specs.Verdict.{Accepted}
 use Rattle.questions.specs.Row.{rowOf}
@@ -32,7 +34,7 @@ use Rattle.questions.proofs.RowChanges.{Section, bib, common, table, opener, na
 use Rattle.questions.proofs.RowChanges.{section-stays, section-set}
 use Rattle.inside.specs.Inside.{contextAt, roleAt}
 use Rattle.inside.proofs.Contexts.{Walked, walked}
-use Rattle.inside.proofs.Nesting.{rank, either-as, Unnumbered, unnumbered-turn, key, Nested, nested-turn}
+use Rattle.inside.proofs.Nesting.{rank, Unnumbered, unnumbered-turn, key, Nested, nested-turn}
 use Rattle.inside.proofs.RowWalked.{rowAt, found-row, records-at, number-of, row-next, fields-at}
 
 -- ---- where sections and subentries open
@@ -71,46 +73,42 @@ subent-identifier p t k = by-phase p
     P : ℕ → Type 0
     P role = role ≡ SUBENT → k ≡ SUBENT
 
-    pick : (b : Bool) (x y : ℕ) → P x → P y → P (cond b x y)
-    pick true x y h g = h
-    pick false x y h g = g
-
     by-phase : (p : Phase) → P (roleIn p t k)
-    by-phase Start = pick (eqb k ENTRY) _ _ (λ e. absurd (omega arith)) (λ e. absurd (omega arith))
+    by-phase Start = either-way P (eqb k ENTRY) _ _ (λ e. absurd (omega arith)) (λ e. absurd (omega arith))
     by-phase Opened = either-as P (eqb k SUBENT) _ _ (λ q e. eqb-true k SUBENT q) (λ q e. absurd (omega arith))
     by-phase InSubentry =
-        pick (eqb k BIB) _ _ (λ e. absurd (omega arith))
-        (pick (eqb k NOBIB) _ _ (λ e. absurd (omega arith)) (λ e. absurd (omega arith)))
+        either-way P (eqb k BIB) _ _ (λ e. absurd (omega arith))
+        (either-way P (eqb k NOBIB) _ _ (λ e. absurd (omega arith)) (λ e. absurd (omega arith)))
     by-phase InBib =
-        pick (eqb (t .section) (t .bib .records)) _ _
-        (pick (eqb k ENDBIB) _ _ (λ e. absurd (omega arith)) (λ e. absurd (omega arith)))
-        (pick (eqb k OTHER) _ _ (λ e. absurd (omega arith)) (λ e. absurd (omega arith)))
+        either-way P (eqb (t .section) (t .bib .records)) _ _
+        (either-way P (eqb k ENDBIB) _ _ (λ e. absurd (omega arith)) (λ e. absurd (omega arith)))
+        (either-way P (eqb k OTHER) _ _ (λ e. absurd (omega arith)) (λ e. absurd (omega arith)))
     by-phase AfterBib =
-        pick (eqb k COMMON) _ _ (λ e. absurd (omega arith))
-        (pick (eqb k NOCOMMON) _ _ (λ e. absurd (omega arith)) (λ e. absurd (omega arith)))
+        either-way P (eqb k COMMON) _ _ (λ e. absurd (omega arith))
+        (either-way P (eqb k NOCOMMON) _ _ (λ e. absurd (omega arith)) (λ e. absurd (omega arith)))
     by-phase InCommon =
-        pick (allRead t) _ _
-        (pick (eqb k ENDCOMMON) _ _ (λ e. absurd (omega arith)) (λ e. absurd (omega arith)))
-        (pick (isEnd k) _ _ (λ e. absurd (omega arith))
-        (pick (eqb (t .table .row) HEADINGS) _ _ (λ e. absurd (omega arith))
-        (pick (eqb (t .table .row) UNITS) _ _ (λ e. absurd (omega arith)) (λ e. absurd (omega arith)))))
+        either-way P (allRead t) _ _
+        (either-way P (eqb k ENDCOMMON) _ _ (λ e. absurd (omega arith)) (λ e. absurd (omega arith)))
+        (either-way P (isEnd k) _ _ (λ e. absurd (omega arith))
+        (either-way P (eqb (t .table .row) HEADINGS) _ _ (λ e. absurd (omega arith))
+        (either-way P (eqb (t .table .row) UNITS) _ _ (λ e. absurd (omega arith)) (λ e. absurd (omega arith)))))
     by-phase AfterCommon =
-        pick (eqb (t .subentry .number) 1) _ _
-        (pick (eqb k ENDSUBENT) _ _ (λ e. absurd (omega arith)) (λ e. absurd (omega arith)))
-        (pick (eqb k DATA) _ _ (λ e. absurd (omega arith))
-        (pick (eqb k NODATA) _ _ (λ e. absurd (omega arith)) (λ e. absurd (omega arith))))
+        either-way P (eqb (t .subentry .number) 1) _ _
+        (either-way P (eqb k ENDSUBENT) _ _ (λ e. absurd (omega arith)) (λ e. absurd (omega arith)))
+        (either-way P (eqb k DATA) _ _ (λ e. absurd (omega arith))
+        (either-way P (eqb k NODATA) _ _ (λ e. absurd (omega arith)) (λ e. absurd (omega arith))))
     by-phase InData =
-        pick (allRead t) _ _
-        (pick (eqb k ENDDATA) _ _ (λ e. absurd (omega arith)) (λ e. absurd (omega arith)))
-        (pick (isEnd k) _ _ (λ e. absurd (omega arith))
-        (pick (eqb (t .table .row) HEADINGS) _ _ (λ e. absurd (omega arith))
-        (pick (eqb (t .table .row) UNITS) _ _ (λ e. absurd (omega arith)) (λ e. absurd (omega arith)))))
-    by-phase AfterData = pick (eqb k ENDSUBENT) _ _ (λ e. absurd (omega arith)) (λ e. absurd (omega arith))
+        either-way P (allRead t) _ _
+        (either-way P (eqb k ENDDATA) _ _ (λ e. absurd (omega arith)) (λ e. absurd (omega arith)))
+        (either-way P (isEnd k) _ _ (λ e. absurd (omega arith))
+        (either-way P (eqb (t .table .row) HEADINGS) _ _ (λ e. absurd (omega arith))
+        (either-way P (eqb (t .table .row) UNITS) _ _ (λ e. absurd (omega arith)) (λ e. absurd (omega arith)))))
+    by-phase AfterData = either-way P (eqb k ENDSUBENT) _ _ (λ e. absurd (omega arith)) (λ e. absurd (omega arith))
     by-phase Between =
         either-as P (eqb k SUBENT) _ _ (λ q e. eqb-true k SUBENT q)
         (λ q.
-        pick (eqb k NOSUBENT) _ _ (λ e. absurd (omega arith))
-        (pick (eqb k ENDENTRY) _ _ (λ e. absurd (omega arith)) (λ e. absurd (omega arith))))
+        either-way P (eqb k NOSUBENT) _ _ (λ e. absurd (omega arith))
+        (either-way P (eqb k ENDENTRY) _ _ (λ e. absurd (omega arith)) (λ e. absurd (omega arith))))
     by-phase Done = λ e. absurd (omega arith)
 
 only-subent : (role : ℕ) → opensSubentry role ≡ true → rank (phaseAfter role) ≤ 7 → role ≡ SUBENT

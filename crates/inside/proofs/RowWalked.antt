@@ -15,6 +15,7 @@ use Rattle.laws.specs.Walk.{walk}
 use Rattle.laws.specs.Blocks.{blocks, blockAt}
 use Rattle.laws.specs.Seeking.{Noted, noting}
 use Rattle.laws.proofs.Blocks.{next-block}
+use Rattle.laws.proofs.Booleans.{either-as}
 use Rattle.record.specs.Fields.{fieldsOf}
 use Rattle.record.specs.Identifier.{BIB, COMMON, DATA, ENTRY}
 use Rattle.record.specs.Word.{blankTo}
@@ -31,7 +32,6 @@ use Rattle.questions.specs.Place.{fieldsAt}
 use Rattle.questions.proofs.RowChanges.{number-stays}
 use Rattle.inside.specs.Inside.{contextAt, roleAt}
 use Rattle.inside.proofs.Contexts.{Walked, walked}
-use Rattle.inside.proofs.Nesting.{either-as}
 
 -- ---- the row by the index
 

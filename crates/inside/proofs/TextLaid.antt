@@ -14,6 +14,7 @@ use Rattle.laws.specs.Turns.{go}
 use Rattle.laws.specs.Walk.{walk}
 use Rattle.laws.specs.Blocks.{blocks, blockAt}
 use Rattle.laws.proofs.Search.{either}
+use Rattle.laws.proofs.Booleans.{either-as}
 use Rattle.record.specs.Fields.{fieldsOf}
 use Rattle.record.specs.Identifier.{BIB, OTHER, identifierOf}
 use Rattle.record.specs.Word.{blankTo}
@@ -35,7 +36,6 @@ use Rattle.questions.specs.Passage.{textRecords}
 use Rattle.questions.proofs.RowChanges.{Section, bib, common, table, opener, named, section-stays, section-set}
 use Rattle.inside.specs.Inside.{behind, contextAt, roleAt, TextOf}
 use Rattle.inside.proofs.Contexts.{walked}
-use Rattle.inside.proofs.Nesting.{either-as}
 use Rattle.inside.proofs.RowWalked.{rowAt, found-row, records-at, number-of, row-next}
 use Rattle.inside.proofs.RowFound.{Opening, row-fields}
 

@@ -9,7 +9,7 @@ use lib.Dec.{eqb}
 use lib.ListN.{length, getD}
 use borrow.Author.Tests.{eqb-true, eqb-false, eq-eqb}
 use Rattle.laws.specs.Blocks.{blockAt}
-use Rattle.laws.proofs.Booleans.{differ}
+use Rattle.laws.proofs.Booleans.{differ, either-as}
 use Rattle.record.specs.Fields.{fieldsOf}
 use Rattle.record.specs.Identifier.{BIB, ENDBIB, OTHER, identifierOf}
 use Rattle.rules.specs.State.{Context}
@@ -20,7 +20,6 @@ use Rattle.entry.proofs.Following.{bib-led, one-of}
 use Rattle.entry.specs.Verdict.{Accepted}
 use Rattle.questions.proofs.RowChanges.{bib}
 use Rattle.inside.specs.Inside.{contextAt, roleAt, TextOf}
-use Rattle.inside.proofs.Nesting.{either-as}
 use Rattle.inside.proofs.RowFound.{Opening, row-names}
 use Rattle.inside.proofs.TextLaid.{InTexts, textsOf, texts-stand, text-laid}
 

@@ -32,7 +32,7 @@ use Rattle.entry.proofs.GoingOn.{go-fine}
 use Rattle.questions.specs.Passage.{hasKeyword}
 use Rattle.questions.proofs.RowChanges.{bib}
 use Rattle.inside.specs.Inside.{behind, contextAt, roleAt, TextOf, Under}
-use Rattle.inside.proofs.Contexts.{walked}
+use Rattle.inside.proofs.Contexts.{walked, context-next}
 use Rattle.inside.proofs.RecordsFrom.{place-field, recordsFrom, records-none, records-next}
 use Rattle.inside.proofs.RecordsFrom.{not-among, not-pointed}
 use Rattle.inside.proofs.RowFound.{Opening}
@@ -98,10 +98,6 @@ module _ (t : Track) (seen : Seen) (role : ℕ) (fs : List (List ℕ)) (r : List
       rw (p, e) at none
 
 -- ---- in an accepted entry
-
-context-next : (s : List ℕ) (i : ℕ) → contextAt s (suc i) ≡ behind (contextAt s i) (blockAt 81 s i)
-unfolding contextAt
-context-next s i = refl
 
 module _ (s : List ℕ) (accepted : Accepted s) where
   fine-at : (i : ℕ) → i < length s / 81

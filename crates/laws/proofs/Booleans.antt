@@ -1,7 +1,7 @@
--- Tests joined, and true and false told apart. Assumes nothing.
+-- Tests joined, true and false told apart, and what holds whichever of two a test takes. Assumes nothing.
 use Prim.Native.Nat.{ℕ}
 use mathlib.Core.Path.{_≡_, refl, sym}
-use mathlib.Core.Bool.{Bool, true, false, _&&_, _||_}
+use mathlib.Core.Bool.{Bool, true, false, cond, _&&_, _||_}
 use native.Mathlib.Omega.{arith}
 
 pub differ : {X : Type 0} → true ≡ false → X
@@ -22,3 +22,22 @@ or-left false b e = refl
 pub or-right : (a b : Bool) → (a || b) ≡ false → b ≡ false
 or-right true b e = differ e
 or-right false b e = e
+
+pub or-other : (a b : Bool) → (a || b) ≡ true → a ≡ false → b ≡ true
+or-other true b h e = differ e
+or-other false b h e = h
+
+pub and-none : (a b : Bool) → b ≡ false → (a && b) ≡ false
+and-none true b e = e
+and-none false b e = refl
+
+-- a test that takes its own answer
+pub cond-itself : (b : Bool) → cond b true false ≡ b
+cond-itself true = refl
+cond-itself false = refl
+
+-- it holds whichever is taken, with what the test says
+pub either-as : {A : Type 0} (P : A → Type 0) (b : Bool) (x y : A) → (b ≡ true → P x) → (b ≡ false → P y)
+    → P (cond b x y)
+either-as P true x y p q = p refl
+either-as P false x y p q = q refl

@@ -6,6 +6,7 @@ use native.Mathlib.Omega.{arith}
 use lib.Dec.{eqb, leb, ltb}
 use borrow.Author.Tests.{lt-ltb, le-ltb, leb-true, leb-false, eq-eqb, ne-eqb}
 use Rattle.laws.specs.Search.{first, howMany}
+use Rattle.laws.proofs.Booleans.{differ}
 use Rattle.laws.proofs.Search.{either}
 
 pub many-same : (f g : ℕ → Bool) (n : ℕ) → ((k : ℕ) → k < n → f k ≡ g k) → howMany f 0 n ≡ howMany g 0 n
@@ -104,3 +105,21 @@ first-many f t u n l same = by-test (leb u (first f 0 n)) refl
         let y = first-past f 0 n u (omega arith) (omega arith)
         (λ k p q. same k q ∙ none-many t u z k q) in
         absurd (omega arith)))
+
+-- what is found meets the test
+pub first-holds : (f : ℕ → Bool) (i n : ℕ) → first f i n < i + n → f (first f i n) ≡ true
+unfolding first
+first-holds f i zero h = absurd (omega arith)
+first-holds f i (suc n) h = by-test (f i) refl h (first-holds f (i + 1) n)
+  where
+    by-test : (t : Bool) → f i ≡ t → cond t i (first f (i + 1) n) < i + suc n
+        → (first f (i + 1) n < i + 1 + n → f (first f (i + 1) n) ≡ true) → f (cond t i (first f (i + 1) n)) ≡ true
+    by-test true q h rest = q
+    by-test false q h rest = rest (omega arith)
+
+-- the search ends at a place that meets the test, where none before it does
+pub first-is : (f : ℕ → Bool) (i n k : ℕ) → i ≤ k → k < i + n → f k ≡ true
+    → ((j : ℕ) → i ≤ j → j < k → f j ≡ false) → first f i n ≡ k
+first-is f i n k a b here before =
+    let l = first-past f i n k a (omega arith) before in
+    either k (first f i n) (λ h. differ (sym here ∙ first-before f i n k a h b)) (λ h. omega arith)

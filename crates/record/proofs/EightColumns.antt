@@ -6,14 +6,11 @@ use mathlib.Core.Bool.{true}
 use mathlib.Core.List.{List}
 use native.Mathlib.Omega.{arith}
 use native.Mathlib.Nat.{add-zero}
-use lib.Dec.{eqb}
 use lib.ListN.{getD, drop}
 use lib.Seq.{getD-take, getD-drop}
-use borrow.Author.Tests.{eqb-true, not-false}
-use Rattle.laws.specs.Search.{first}
-use Rattle.laws.proofs.Search.{first-pass}
 use Rattle.record.specs.Columns.{columnsAt}
-use Rattle.record.specs.Word.{differAt, equalTo, fourAt, eightAt}
+use Rattle.record.specs.Word.{equalTo, fourAt, eightAt}
+use Rattle.record.proofs.EqualColumns.{equal-at}
 
 -- w columns of one part from i on, and of another from j on, are equal
 abbrev Same : List ℕ → List ℕ → ℕ → ℕ → ℕ → Type 0
@@ -40,16 +37,10 @@ eight-same f p i j h =
 
 -- a keyword that stands in a part has the number of its columns 3 to 10 there
 pub eight-equal : (f p : List ℕ) (at : ℕ) → equalTo 10 f (columnsAt at 11 p) ≡ true → eightAt f 2 ≡ eightAt p (at + 2)
-unfolding equalTo
 eight-equal f p at e =
     eight-same f p 2 (at + 2)
     (λ k l.
-    let g = columnsAt at 11 p in
     let z : at + 2 + k ≡ at + (2 + k) = omega arith in
-    let d =
-    not-false (eqb (getD f (2 + k) 0) (getD g (2 + k) 0))
-    (first-pass (differAt f g) 0 10 (eqb-true (first (differAt f g) 0 10) 10 e) (2 + k) (omega arith) (omega arith)) in
     rw z
-    (eqb-true (getD f (2 + k) 0) (getD g (2 + k) 0) d
-    ∙ getD-take 11 (drop at p) (2 + k) 0 (omega arith)
+    (equal-at 10 f (columnsAt at 11 p) e (2 + k) (omega arith) ∙ getD-take 11 (drop at p) (2 + k) 0 (omega arith)
     ∙ getD-drop at p (2 + k) 0))

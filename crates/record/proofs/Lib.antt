@@ -7,4 +7,5 @@ pub mod Found
 pub mod NumberFields
 pub mod Readings
 pub mod WordsAndBlanks
+pub mod EqualColumns
 pub mod EightColumns

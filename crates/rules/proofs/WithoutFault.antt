@@ -34,10 +34,10 @@ use Rattle.record.proofs.Readings.{fault-reads, fault-same, first-fault-same}
 -- ---- no column at fault
 
 -- where no rule is broken, none has found a column
-fine-all : (fs : List Finding) → firstFault fs ≡ Fine → All (λ f. leftmost (f .columns) ≡ 0) fs
+pub fine-none : (fs : List Finding) → firstFault fs ≡ Fine → All (λ f. leftmost (f .columns) ≡ 0) fs
 unfolding firstFault
-fine-all [] e = tt
-fine-all (f ∷ fs) e = by-column (eqb (leftmost (f .columns)) 0) refl e (fine-all fs)
+fine-none [] e = tt
+fine-none (f ∷ fs) e = by-column (eqb (leftmost (f .columns)) 0) refl e (fine-none fs)
   where
     by-column : (t : Bool) → eqb (leftmost (f .columns)) 0 ≡ t
         → cond t (firstFault fs) (At (f .number) (leftmost (f .columns))) ≡ Fine
@@ -47,9 +47,9 @@ fine-all (f ∷ fs) e = by-column (eqb (leftmost (f .columns)) 0) refl e (fine-a
     by-column false q h rest = let z : _≡_ {A = ℕ} 0 1 = cc in absurd (omega arith)
 
 -- and none of the places meets the test
-none-where : (test : ℕ → Bool) (column : ℕ → ℕ) (n : ℕ) → ((k : ℕ) → 0 < column k)
+pub where-none : (test : ℕ → Bool) (column : ℕ → ℕ) (n : ℕ) → ((k : ℕ) → 0 < column k)
     → leftmost (columnsWhere test column n) ≡ 0 → (k : ℕ) → k < n → test k ≡ false
-none-where test column n above e k h =
+where-none test column n above e k h =
     by-test (ltb (first test 0 n) n) refl (sym (leftmost-where test column n) ∙ e)
   where
     by-test : (t : Bool) → ltb (first test 0 n) n ≡ t → cond t (column (first test 0 n)) 0 ≡ 0 → test k ≡ false
@@ -80,7 +80,7 @@ module _ (track : Track) (seen : Seen) (role : ℕ) (fs : List (List ℕ)) (r : 
     (fine : faultOf track seen role fs r ≡ Fine) where
   pub none-found : All (λ f. leftmost (f .columns) ≡ 0) (findings track seen role fs r)
   unfolding faultOf
-  none-found = fine-all (findings track seen role fs r) fine
+  none-found = fine-none (findings track seen role fs r) fine
 
   -- 2: byte 81 is a line feed, so it is there
   pub fine-long : 80 < length r
@@ -96,7 +96,7 @@ module _ (track : Track) (seen : Seen) (role : ℕ) (fs : List (List ℕ)) (r : 
   unfolding rule3
   fine-permitted i h =
       not-false (isPermitted (getD r i 0))
-      (none-where (notPermitted r) (λ k. k + 1) 80 (λ k. omega arith) (none-found .1 .0) i h)
+      (where-none (notPermitted r) (λ k. k + 1) 80 (λ k. omega arith) (none-found .1 .0) i h)
 
   -- 15: on a value record every field is blank or a number
   pub fine-reads : isValue role ≡ true → (k : ℕ) → k < 6 → noValue true (formAt (getD fs k [])) ≡ false
@@ -106,7 +106,7 @@ module _ (track : Track) (seen : Seen) (role : ℕ) (fs : List (List ℕ)) (r : 
       none-found .1 .1 .1 .1 .1 .1 .1 .1 .1 .1 .1 .1 .1 .0 in
       let here : leftmost (rule15 track role fs) ≡ 0 = rw e at found in
       fault-reads (optional role) (used track) k (getD fs k [])
-      (none-where (inField (valueFault (optional role) (used track)) fs) fieldColumn 6 (λ k. omega arith)
+      (where-none (inField (valueFault (optional role) (used track)) fs) fieldColumn 6 (λ k. omega arith)
       (when-none (lineBlank track role fs) 0 _ here) k h)
 
 -- ---- judged alike
