@@ -22,8 +22,8 @@ use Rattle.rules.specs.State.{Context, startContext}
 use Rattle.rules.specs.Role.{isValue}
 use Rattle.entry.specs.Verdict.{turnOf, Accepted}
 use Rattle.entry.proofs.GoingOn.{go-fine}
+use Rattle.entry.specs.Contexts.{contextAt, roleAt, behind}
 use Rattle.questions.specs.Place.{hasRecord, fieldsAt, identifierAt, fieldOf}
-use Rattle.inside.specs.Inside.{contextAt, roleAt, behind}
 use Rattle.inside.proofs.Contexts.{Walked, walked, context-start, context-next}
 use Rattle.questions.proofs.Records.{record-there}
 use Rattle.inside.proofs.RowWalked.{fields-at}

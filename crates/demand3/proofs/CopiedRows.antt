@@ -18,14 +18,15 @@ use Rattle.rules.specs.declared.state.Track.{Track}
 use Rattle.rules.specs.Role.{opensSubentry, isValue}
 use Rattle.rules.proofs.WithoutFault.{of-values}
 use Rattle.entry.specs.Verdict.{roleOf, turnOf, Accepted}
+use Rattle.entry.specs.Contexts.{contextAt, roleAt}
+use Rattle.entry.proofs.Contexts.{records-at}
 use Rattle.questions.specs.declared.row.Row.{Row}
 use Rattle.questions.specs.Row.{NONE, withFirst, withBib, withCommon, withData, noted, subentryIn, notedAs}
 use Rattle.questions.specs.Row.{noteOf, rowOf}
 use Rattle.questions.specs.Place.{COMMON-SECTION, DATA-SECTION, fieldsAt, shapeOf}
 use Rattle.questions.specs.Ask.{sectionIn}
-use Rattle.inside.specs.Inside.{contextAt, roleAt}
 use Rattle.inside.proofs.Contexts.{walked}
-use Rattle.inside.proofs.RowWalked.{rowAt, found-row, records-at}
+use Rattle.inside.proofs.RowWalked.{rowAt, found-row}
 use Rattle.copy.specs.Copy.{copyRecord, copyOf}
 use Rattle.copy.proofs.FaithfulRecords.{role-kept, not-copied}
 use Rattle.copy.proofs.Demand.{passed, copy-long, copy-accepted}

@@ -12,10 +12,10 @@ use Rattle.rules.specs.Role.{isValue}
 use Rattle.record.specs.declared.columns.RecordNo.{RecordNo}
 use Rattle.entry.specs.declared.verdict.Verdict.{Verdict}
 use Rattle.entry.specs.Verdict.{Accepted}
+use Rattle.entry.specs.Contexts.{roleAt}
 use Rattle.questions.specs.declared.ask.PartAnswer.{PartAnswer}
 use Rattle.questions.specs.Place.{fieldsAt}
 use Rattle.questions.specs.Ask.{answer, answerFor, noPart, partWith}
-use Rattle.inside.specs.Inside.{roleAt}
 use Rattle.copy.specs.Copy.{copyOf}
 use Rattle.copy.proofs.Demand.{passed, copy-long, byte-of}
 use Rattle.copy.proofs.Unchanged.{part-of-bytes}

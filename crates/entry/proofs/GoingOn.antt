@@ -1,14 +1,14 @@
 -- The judge's turn at a record: it goes on exactly where no rule is broken, and hands out nothing but refusals. Behind
 -- a value record the context goes by what the fields read to.
 -- Assumes nothing.
-use mathlib.Core.Path.{_≡_, refl, sym, ap, _∙_}
+use mathlib.Core.Path.{_≡_, refl, ap}
 use mathlib.Core.Bool.{Bool, true, false, cond}
 use mathlib.Core.List.{List, [], _∷_}
 use Prim.Native.Nat.{ℕ, suc, _<_}
 use native.Mathlib.Omega.{arith}
 use lib.Dec.{eqb}
 use lib.ListN.{getD}
-use Rattle.laws.specs.Turns.{Turn, go, out}
+use Rattle.laws.specs.Turns.{go, out}
 use Rattle.laws.specs.Walk.{All}
 use Rattle.laws.specs.Copies.{Passing}
 use Rattle.number.specs.Reading.{readField}
@@ -22,7 +22,7 @@ use Rattle.rules.specs.Fault.{leftmost, Finding, firstFault}
 use Rattle.rules.specs.Values.{optional, valuesFor}
 use Rattle.rules.specs.Order.{findings, faultOf}
 use Rattle.entry.specs.declared.verdict.Verdict.{Verdict}
-use Rattle.entry.specs.Next.{phaseAfter, trackAfter, afterInside, partAfter, bibChange, underChange, tableChange}
+use Rattle.entry.specs.Next.{trackAfter, afterInside, partAfter, bibChange, underChange, tableChange}
 use Rattle.entry.specs.Next.{seenAfter, contextAfter}
 use Rattle.entry.specs.Verdict.{roleOf, accepted, refused, onFault, turnAs, turnOf, isDone, endOf}
 use Rattle.record.proofs.Readings.{values-same}

@@ -1,15 +1,15 @@
 -- The judge by numbers is the judge of the definitions: the two go over the same records, and keep that the numbers
 -- stand for the context. Assumes nothing.
-use Prim.Native.Nat.{ℕ, zero, suc, _+_, _*_, _-_, _/_, _%_, _<_, _≤_}
+use Prim.Native.Nat.{ℕ, _+_, _*_, _-_, _/_, _%_, _<_, _≤_}
 use mathlib.Core.Path.{_≡_, refl, sym, _∙_, ap}
 use mathlib.Core.Bool.{Bool, true, false, cond, not, _&&_}
-use mathlib.Core.List.{List, [], _∷_, _++_}
+use mathlib.Core.List.{List, []}
 use native.Mathlib.Omega.{arith}
 use borrow.Author.Tests.{eqb-true, leb-true}
 use lib.Dec.{eqb, leb}
 use lib.ListN.{length, take, drop, getD, length-drop}
 use lib.Seq.{length-take-le}
-use Rattle.laws.specs.Turns.{Turn, go, out, run}
+use Rattle.laws.specs.Turns.{run}
 use Rattle.laws.specs.Blocks.{blocks, blockAt}
 use Rattle.laws.specs.Walk.{walk}
 use Rattle.laws.proofs.Agree.{Agree, runs-agree}
@@ -22,7 +22,6 @@ use Rattle.rules.specs.declared.fault.Fault.the-variants.{Fine, At}
 use Rattle.rules.specs.State.{Context, startContext, MOST-RECORDS, Bounded, AllPlaced, seenOf}
 use Rattle.rules.specs.Order.{faultOf}
 use Rattle.entry.specs.declared.step.Judge.{Judge}
-use Rattle.entry.specs.declared.verdict.Verdict.{Verdict}
 use Rattle.entry.specs.Next.{trackAfter, contextAfter}
 use Rattle.entry.specs.Verdict.{roleOf, refused, onFault, turnAs, turnOf, endOf, lengthGood, judgeOf}
 use Rattle.entry.specs.Numbers.{contextOf, judgeAfter, stepFor, stepAs, stepOf, startJudge, onStep, stepTurn}

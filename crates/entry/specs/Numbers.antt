@@ -1,8 +1,8 @@
 -- The judge by the numbers of its records: what the code does. That it is the judge of the definitions is the law
 -- `numbers-judge`.
-use Prim.Native.Nat.{ℕ, _+_, _*_, _/_, _<_, _≤_}
+use Prim.Native.Nat.{ℕ, _+_, _*_, _/_, _<_}
 use mathlib.Core.Path.{_≡_}
-use mathlib.Core.Bool.{Bool, true, false, cond, _&&_, _||_}
+use mathlib.Core.Bool.{cond}
 use mathlib.Core.List.{List, [], _++_}
 use lib.Dec.{eqb}
 use lib.ListN.{length, take, getD}
@@ -13,7 +13,6 @@ use Rattle.record.specs.Fields.{fieldsOf}
 use Rattle.record.specs.Identifier.{ENDCOMMON}
 use Rattle.record.specs.declared.columns.Index.{Index}
 use Rattle.record.specs.declared.columns.RecordNo.{RecordNo}
-use Rattle.rules.specs.declared.state.Phase.{Phase}
 use Rattle.rules.specs.declared.state.Phase.the-variants.{Start}
 use Rattle.rules.specs.declared.state.Track.{Track}
 use Rattle.rules.specs.declared.state.Range.{Range}

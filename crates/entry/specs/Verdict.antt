@@ -5,7 +5,7 @@
 --   "Accepted is 0 0 0 with four totals: subentries (NOSUBENT included), keywords, DATA lines, non-blank numbers. On
 --   refusal
 --   the totals are 0."
-use Prim.Native.Nat.{ℕ, _+_, _*_, _/_, _%_}
+use Prim.Native.Nat.{ℕ, _*_, _/_, _%_}
 use mathlib.Core.Path.{_≡_}
 use mathlib.Core.Bool.{Bool, true, false, cond, not, _&&_}
 use mathlib.Core.List.{List, []}

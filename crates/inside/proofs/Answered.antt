@@ -28,6 +28,7 @@ use Rattle.entry.specs.Verdict.{roleOf, judgeOf, Accepted}
 use Rattle.rules.proofs.DueRecords.{fine-due}
 use Rattle.rules.proofs.WithoutFault.{fine-reads}
 use Rattle.entry.proofs.GoingOn.{go-fine}
+use Rattle.entry.specs.Contexts.{contextAt, roleAt}
 use Rattle.questions.specs.declared.row.Row.{Row}
 use Rattle.questions.specs.declared.place.Shape.{Shape}
 use Rattle.questions.specs.Row.{rowOf}
@@ -35,7 +36,7 @@ use Rattle.questions.specs.Place.{COMMON-SECTION, DATA-SECTION, fieldsAt, shape
 use Rattle.questions.specs.Place.{fieldOf, byteOf}
 use Rattle.questions.specs.Ask.{firstOf, refusal, sectionIn, noSection, noLine, noColumn, sectionRefusals, valueRefusal}
 use Rattle.questions.specs.Ask.{valueBy, valueOf, columnRefusal, headingBy, headingOf, unitBy, unitOf}
-use Rattle.inside.specs.Inside.{contextAt, roleAt, Opens, isSaid, ValueAnswered, HeadingAnswered, UnitAnswered}
+use Rattle.inside.specs.Inside.{Opens, isSaid, ValueAnswered, HeadingAnswered, UnitAnswered}
 use Rattle.questions.proofs.Refusals.{section-none}
 use Rattle.inside.proofs.Contexts.{walked}
 use Rattle.inside.proofs.Laid.{rowRole}

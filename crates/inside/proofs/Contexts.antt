@@ -18,7 +18,7 @@ use Rattle.rules.specs.State.{Context, startContext}
 use Rattle.entry.specs.declared.verdict.Verdict.{Verdict}
 use Rattle.entry.specs.Verdict.{refused, turnOf, endOf, isDone, lengthGood, judgeOf, Accepted}
 use Rattle.entry.proofs.GoingOn.{go-fine, out-refused, done-of}
-use Rattle.inside.specs.Inside.{behind, contextAt}
+use Rattle.entry.specs.Contexts.{behind, contextAt}
 
 -- one block more
 one-turn : (m : ℕ) (c : Context) (i : ℕ) (t : List ℕ) (last : Context) → Goes turnOf c i (blocks 81 (suc m) t) last

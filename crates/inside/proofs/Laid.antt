@@ -27,7 +27,7 @@ use Rattle.entry.specs.Next.{headingsRead, unitsRead, valuesRead, phaseAfter, a
 use Rattle.entry.specs.Verdict.{roleOf, turnOf}
 use Rattle.rules.proofs.DueRecords.{fine-due}
 use Rattle.entry.proofs.GoingOn.{go-fine}
-use Rattle.inside.specs.Inside.{behind}
+use Rattle.entry.specs.Contexts.{behind}
 
 -- ---- the two sections alike: DATA where b is true, else COMMON
 

@@ -28,14 +28,15 @@ use Rattle.rules.specs.Every.{n1}
 use Rattle.rules.proofs.EitherWay.{either-way}
 use Rattle.entry.specs.Next.{phaseAfter}
 use Rattle.entry.specs.Verdict.{Accepted}
+use Rattle.entry.specs.Contexts.{contextAt, roleAt}
+use Rattle.entry.proofs.Contexts.{records-at}
 use Rattle.questions.specs.Row.{rowOf}
 use Rattle.questions.specs.Place.{fieldsAt, identifierAt}
 use Rattle.questions.proofs.RowChanges.{Section, bib, common, table, opener, named, level, first-stays, first-set}
 use Rattle.questions.proofs.RowChanges.{section-stays, section-set}
-use Rattle.inside.specs.Inside.{contextAt, roleAt}
 use Rattle.inside.proofs.Contexts.{Walked, walked}
 use Rattle.inside.proofs.Nesting.{rank, Unnumbered, unnumbered-turn, key, Nested, nested-turn}
-use Rattle.inside.proofs.RowWalked.{rowAt, found-row, records-at, number-of, row-next, fields-at}
+use Rattle.inside.proofs.RowWalked.{rowAt, found-row, number-of, row-next, fields-at}
 
 -- ---- where sections and subentries open
 

@@ -3,34 +3,27 @@
 use Prim.Native.Nat.{ℕ, zero, suc, _+_, _*_, _-_, _/_, _≤_}
 use mathlib.Core.Path.{_≡_, refl, _∙_, ap}
 use mathlib.Core.Bool.{Bool, true, false, cond}
-use mathlib.Core.List.{List, []}
+use mathlib.Core.List.{List}
 use native.Mathlib.Omega.{arith}
 use native.Mathlib.Nat.{zero-mul}
 use native.Mathlib.Numerals.{add-one}
-use lib.Dec.{eqb}
-use lib.ListN.{length, drop, getD}
+use lib.ListN.{length, drop}
 use borrow.Author.Tests.{ne-eqb, le-leb}
 use Rattle.laws.specs.Turns.{go}
 use Rattle.laws.specs.Walk.{walk}
 use Rattle.laws.specs.Blocks.{blocks, blockAt}
 use Rattle.laws.specs.Seeking.{Noted, noting}
 use Rattle.laws.proofs.Blocks.{next-block}
-use Rattle.laws.proofs.Booleans.{either-as}
 use Rattle.record.specs.Fields.{fieldsOf}
-use Rattle.record.specs.Identifier.{BIB, COMMON, DATA, ENTRY}
-use Rattle.record.specs.Word.{blankTo}
 use Rattle.record.specs.declared.columns.RecordNo.{RecordNo}
-use Rattle.rules.specs.declared.state.Track.{Track}
 use Rattle.rules.specs.State.{Context}
-use Rattle.rules.specs.Role.{TEXT, isSystem, opensSubentry, isHeading, isUnit, isValue}
-use Rattle.entry.specs.Next.{textRead, afterSystem, afterInside, trackAfter, contextAfter}
 use Rattle.entry.specs.Verdict.{roleOf, refused, turnOf, endOf, lengthGood, judgeOf, Accepted}
+use Rattle.entry.specs.Contexts.{contextAt, roleAt}
 use Rattle.questions.specs.declared.row.Row.{Row}
 use Rattle.questions.specs.declared.row.Located.{Located}
 use Rattle.questions.specs.Row.{NONE, emptyRow, notedAs, noteOf, locating, located, startRow, locate, rowOf}
 use Rattle.questions.specs.Place.{fieldsAt}
 use Rattle.questions.proofs.RowChanges.{number-stays}
-use Rattle.inside.specs.Inside.{contextAt, roleAt}
 use Rattle.inside.proofs.Contexts.{Walked, walked}
 
 -- ---- the row by the index
@@ -83,36 +76,6 @@ found-row s number a = by-test (lengthGood (length s)) a
     by-test false h = absurd (omega arith)
 
 -- ---- along the walk
-
-count-next : (t : Track) (role : ℕ) (fs : List (List ℕ)) (r : List ℕ)
-    → trackAfter t role fs r .records .0 ≡ t .records .0 + 1
-unfolding trackAfter afterSystem afterInside textRead
-count-next t role fs r =
-    either-as P (isSystem role) _ _
-    (λ e.
-    either-as P (eqb role ENTRY) _ _ (λ e. refl)
-    (λ e.
-    either-as P (opensSubentry role) _ _ (λ e. refl)
-    (λ e.
-    either-as P (eqb role BIB) _ _ (λ e. refl)
-    (λ e. either-as P (eqb role COMMON) _ _ (λ e. refl)
-    (λ e. either-as P (eqb role DATA) _ _ (λ e. refl) (λ e. refl))))))
-    (λ e.
-    either-as P (eqb role TEXT) _ _ (λ e. either-as P (blankTo 10 (getD fs 0 [])) _ _ (λ e. refl) (λ e. refl))
-    (λ e.
-    either-as P (isHeading role) _ _ (λ e. refl)
-    (λ e. either-as P (isUnit role) _ _ (λ e. refl) (λ e. either-as P (isValue role) _ _ (λ e. refl) (λ e. refl)))))
-  where
-    P : Track → Type 0
-    P u = u .records .0 ≡ t .records .0 + 1
-
-pub records-at : (s : List ℕ) (i : ℕ) → contextAt s i .track .records .0 ≡ i
-unfolding contextAt contextAfter
-records-at s zero = refl
-records-at s (suc i) =
-    let c = contextAt s i in
-    let r = blockAt 81 s i in
-    count-next (c .track) (roleOf c r) (fieldsOf r) r ∙ ap (λ (k : ℕ). k + 1) (records-at s i) ∙ add-one i
 
 pub number-of : (s : List ℕ) (number i : ℕ) → rowAt s number i .number ≡ number
 unfolding rowAt

@@ -20,7 +20,7 @@ use Rattle.rules.proofs.DueRecords.{fine-common, fine-data}
 use Rattle.entry.specs.Next.{phaseAfter, afterSystem, trackAfter, contextAfter}
 use Rattle.entry.specs.Verdict.{roleOf, isDone}
 use Rattle.entry.proofs.GoingOn.{go-fine}
-use Rattle.inside.specs.Inside.{contextAt, roleAt}
+use Rattle.entry.specs.Contexts.{contextAt, roleAt}
 use Rattle.inside.proofs.Contexts.{Walked}
 use Rattle.inside.proofs.Laid.{phaseIn, rowRole, lineOf, Laid, laid-role, laid-on, laid-over}
 

@@ -30,13 +30,15 @@ use Rattle.entry.specs.Next.{phaseAfter, textRead, afterSystem, afterInside, tr
 use Rattle.entry.specs.Verdict.{roleOf, isDone, turnOf, endOf, lengthGood, judgeOf, refused, Accepted}
 use Rattle.entry.proofs.GoingOn.{go-fine}
 use Rattle.entry.proofs.Numbered.{whole-records}
+use Rattle.entry.specs.Contexts.{behind, contextAt, roleAt}
+use Rattle.entry.proofs.Contexts.{records-at}
 use Rattle.questions.specs.declared.row.Row.{Row}
 use Rattle.questions.specs.Row.{NONE, notedAs, rowOf}
 use Rattle.questions.specs.Passage.{textRecords}
 use Rattle.questions.proofs.RowChanges.{Section, bib, common, table, opener, named, section-stays, section-set}
-use Rattle.inside.specs.Inside.{behind, contextAt, roleAt, TextOf}
+use Rattle.inside.specs.Inside.{TextOf}
 use Rattle.inside.proofs.Contexts.{walked}
-use Rattle.inside.proofs.RowWalked.{rowAt, found-row, records-at, number-of, row-next}
+use Rattle.inside.proofs.RowWalked.{rowAt, found-row, number-of, row-next}
 use Rattle.inside.proofs.RowFound.{Opening, row-fields}
 
 -- ---- one record

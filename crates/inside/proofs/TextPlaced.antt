@@ -18,8 +18,9 @@ use Rattle.rules.proofs.RolePlaces.{text-in-bib}
 use Rattle.entry.specs.Next.{phaseAfter, contextAfter}
 use Rattle.entry.proofs.Following.{bib-led, one-of}
 use Rattle.entry.specs.Verdict.{Accepted}
+use Rattle.entry.specs.Contexts.{contextAt, roleAt}
 use Rattle.questions.proofs.RowChanges.{bib}
-use Rattle.inside.specs.Inside.{contextAt, roleAt, TextOf}
+use Rattle.inside.specs.Inside.{TextOf}
 use Rattle.inside.proofs.RowFound.{Opening, row-names}
 use Rattle.inside.proofs.TextLaid.{InTexts, textsOf, texts-stand, text-laid}
 

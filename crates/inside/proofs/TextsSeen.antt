@@ -29,9 +29,10 @@ use Rattle.rules.proofs.WithoutFault.{none-found}
 use Rattle.entry.specs.Next.{partAfter, bibChange, underChange, seenAfter, contextAfter}
 use Rattle.entry.specs.Verdict.{roleOf, Accepted}
 use Rattle.entry.proofs.GoingOn.{go-fine}
+use Rattle.entry.specs.Contexts.{behind, contextAt, roleAt}
 use Rattle.questions.specs.Passage.{hasKeyword}
 use Rattle.questions.proofs.RowChanges.{bib}
-use Rattle.inside.specs.Inside.{behind, contextAt, roleAt, TextOf, Under}
+use Rattle.inside.specs.Inside.{TextOf, Under}
 use Rattle.inside.proofs.Contexts.{walked, context-next}
 use Rattle.inside.proofs.RecordsFrom.{place-field, recordsFrom, records-none, records-next}
 use Rattle.inside.proofs.RecordsFrom.{not-among, not-pointed}

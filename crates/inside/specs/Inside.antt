@@ -3,7 +3,7 @@
 -- The judge's context before each record says what the record is: its role, its subentry, and in a table its row. From
 -- this alone, and from the counts that a section's own record announces, it is said which columns and lines the entry
 -- has; how they are found plays no part here.
-use Prim.Native.Nat.{ℕ, zero, suc, _*_, _-_, _/_, _<_, _≤_}
+use Prim.Native.Nat.{ℕ, _*_, _-_, _/_, _<_, _≤_}
 use mathlib.Core.Path.{_≡_}
 use mathlib.Core.Bool.{Bool, true, false, cond}
 use mathlib.Core.List.{List}
@@ -16,30 +16,15 @@ use Rattle.record.specs.Fields.{fieldsOf}
 use Rattle.record.specs.Word.{equalTo, pointerOf}
 use Rattle.record.specs.Identifier.{COMMON, DATA}
 use Rattle.record.specs.declared.columns.LineNo.{LineNo}
-use Rattle.rules.specs.State.{Context, startContext}
 use Rattle.rules.specs.System.{countN1, countN2}
 use Rattle.rules.specs.Text.{placeAt}
 use Rattle.rules.specs.Role.{TEXT, NOT-DUE}
-use Rattle.entry.specs.Next.{contextAfter}
-use Rattle.entry.specs.Verdict.{roleOf, Accepted}
+use Rattle.entry.specs.Verdict.{Accepted}
+use Rattle.entry.specs.Contexts.{contextAt, roleAt}
 use Rattle.questions.specs.Place.{COMMON-SECTION, DATA-SECTION}
 use Rattle.questions.specs.declared.ask.PartAnswer.{PartAnswer}
 use Rattle.questions.specs.Passage.{hasKeyword, begins, beginsWith}
 use Rattle.questions.specs.Ask.{valueOf, headingOf, unitOf, passageAnswer}
-
--- ---- the records of an entry, by their index
-
--- the context behind a record without fault
-abbrev pub behind : Context → List ℕ → Context
-behind c r = contextAfter c (roleOf c r) (fieldsOf r) r
-
--- the context before the record with the index i, and the role of that record
-unfoldable pub contextAt : List ℕ → ℕ → Context
-contextAt s zero = startContext
-contextAt s (suc i) = behind (contextAt s i) (blockAt 81 s i)
-
-abbrev pub roleAt : List ℕ → ℕ → ℕ
-roleAt s i = roleOf (contextAt s i) (blockAt 81 s i)
 
 -- ---- tables
 

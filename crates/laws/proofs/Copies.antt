@@ -6,10 +6,10 @@ use mathlib.Core.Path.{_≡_, refl, sym, _∙_, ap}
 use mathlib.Core.List.{List, [], _∷_}
 use native.Mathlib.Omega.{arith}
 use lib.ListN.{length, getD}
-use Rattle.laws.specs.Turns.{Turn, go, out, run}
+use Rattle.laws.specs.Turns.{Turn, go, out}
 use Rattle.laws.specs.Walk.{walk, Goes, All}
-use Rattle.laws.specs.Blocks.{blocks, joined, blockAt}
-use Rattle.laws.specs.Copies.{onward, copies, marks, Alikes, Passing, Passing2, Faithful}
+use Rattle.laws.specs.Blocks.{blocks, joined}
+use Rattle.laws.specs.Copies.{onward, copies, marks, Alikes, Passing, Faithful}
 use Rattle.laws.proofs.Walk.{goes-walk}
 use Rattle.laws.proofs.Blocks.{blocks-joined, length-joined, blocks-wide, length-blocks}
 

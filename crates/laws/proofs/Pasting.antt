@@ -2,15 +2,15 @@
 -- Rests on the laws in the parameters.
 use Prim.Native.Nat.{ℕ, zero, suc, _+_, _*_, _≤_}
 use mathlib.Core.Path.{_≡_, refl, sym, _∙_, ap}
-use mathlib.Core.List.{List, [], _∷_, _++_, append-assoc}
+use mathlib.Core.List.{List, [], _++_, append-assoc}
 use native.Mathlib.Omega.{arith}
-use lib.ListN.{length, take, drop, length-append, length-drop}
+use lib.ListN.{length, drop, length-append, length-drop}
 use lib.Seq.{paste, take-at, drop-drop, drop-append-add, take-all, length-take-le}
-use Rattle.laws.specs.Turns.{Turn, go, out, run}
+use Rattle.laws.specs.Turns.{Turn, run}
 use Rattle.laws.specs.Walk.{Goes}
 use Rattle.laws.specs.Blocks.{blocks, joined, blockAt}
 use Rattle.laws.specs.Copies.{copies, Passing}
-use Rattle.laws.specs.Pasting.{Copying, copyTurn, bytesLeft}
+use Rattle.laws.specs.Pasting.{copyTurn, bytesLeft}
 use Rattle.laws.proofs.Blocks.{next-block}
 
 paste-behind : (p x y : List ℕ) (n : ℕ) → length p ≡ n → length y ≡ 81

@@ -1,10 +1,9 @@
 -- A loop that is a run of turns: what its invariant says, and what each turn keeps of it.
 -- Assumes nothing.
-use Prim.Native.Nat.{ℕ, zero, suc, _+_, _-_, _<_, _≤_}
+use Prim.Native.Nat.{ℕ, _+_, _-_, _<_, _≤_}
 use mathlib.Core.Path.{_≡_, _∙_, refl, sym}
 use native.Mathlib.Omega.{arith}
-use native.Mathlib.Nat.{add-sub-cancel-left}
-use Rattle.laws.specs.Turns.{Turn, go, out, after, run}
+use Rattle.laws.specs.Turns.{Turn, go, out, run}
 use Rattle.laws.proofs.Search.{less}
 
 -- the loop whose result is to be `whole` has come to the state s at i, and goes up to e

@@ -1,8 +1,8 @@
 -- The reading and the grammar agree: each list is blank, a field with its value, or neither.
 -- Assumes nothing.
 use mathlib.Core.Path.{_≡_, refl, sym, ap, _∙_}
-use mathlib.Core.Bool.{Bool, false}
-use mathlib.Core.List.{List, [], _∷_, _++_, append-assoc, append-nil}
+use mathlib.Core.Bool.{Bool}
+use mathlib.Core.List.{List, [], append-assoc, append-nil}
 use Prim.Native.Nat.{ℕ}
 use native.Mathlib.Omega.{arith}
 use lib.IntN.{pos, _-ℤ_}
@@ -10,10 +10,10 @@ use lib.ListN.{length, length-replicate}
 use Rattle.number.specs.declared.value.Decimal.{Decimal}
 use Rattle.number.specs.declared.value.Reading.{Reading}
 use Rattle.number.specs.declared.value.Reading.the-variants.{Blank, Number, Refused}
-use Rattle.number.specs.Grammar.{blanks, plain, power, write, Spells}
-use Rattle.number.specs.Value.{signedBy, valueOf, meaning, Reads, Says, blank, number, malformed}
+use Rattle.number.specs.Grammar.{blanks, plain, power, write}
+use Rattle.number.specs.Value.{signedBy, valueOf, Reads, Says, blank, number, malformed}
 use Rattle.number.specs.Reading.{Mantissa, Scan, Lead, Signed, Whole, Point, Fraction, Gap, Mark, MarkGap}
-use Rattle.number.specs.Reading.{PowerSign, Power, Bad, scanOf, said, finish, readField}
+use Rattle.number.specs.Reading.{PowerSign, Power, Bad, scanOf, finish, readField}
 use Rattle.number.proofs.Equation.{found, one}
 use Rattle.number.proofs.Reach.{Reach, Behind, Raised, reached}
 use Rattle.number.proofs.Follow.{scan-lead, reads-field}

@@ -4,25 +4,25 @@
 -- the number, and each further digit costs a column, which makes the exponent ten times smaller: so the exponent's size
 -- and the count of digits together stay below the power 10 ^ (w - 3) (`tail-room`), and the power of ten with them.
 -- Assumes nothing.
-use mathlib.Core.Path.{_≡_, refl, sym, ap, _∙_}
+use mathlib.Core.Path.{_≡_, refl, sym, ap}
 use mathlib.Core.Bool.{Bool, true, false, cond}
 use mathlib.Core.List.{List, [], _∷_, _++_}
 use Prim.Native.Nat.{ℕ, zero, suc, _+_, _-_, _*_, _^_, _<_, _≤_}
 use native.Mathlib.Nat.{zero-add, mul-one, zero-mul, mul-le-mul-left, mul-le-mul-right, mul-assoc, one-mul}
-use native.Mathlib.Nat.{le-trans, le-of-eq, lt-of-lt-of-le, lt-of-le-of-lt}
+use native.Mathlib.Nat.{le-trans, le-of-eq, lt-of-lt-of-le}
 use native.Mathlib.Omega.{arith}
 use borrow.Author.Tests.{eqb-false}
 use lib.Dec.{eqb}
 use lib.IntN.{ℤ, pos, _+ℤ_, _-ℤ_}
 use lib.ListN.{length, length-append, length-replicate}
 use lib.Signed.{mag}
-use Rattle.number.specs.Grammar.{blanks, Digits, text, numFrom, num, Sign, unsigned, signed, signText, minus}
+use Rattle.number.specs.Grammar.{Digits, text, numFrom, num, minus}
 use Rattle.number.specs.Grammar.{Opening, bySign, byMark, byBare, openText, below, Tail, plain, power, tailText}
 use Rattle.number.specs.Grammar.{GoodTail, Field, write, Good}
 use Rattle.number.specs.Value.{decimal, zeroDecimal, signedBy, exponentOf, trim, valueOf, meaning, Within}
 use Rattle.number.proofs.Tens.{ten-suc, ten-pos, ten-le, ten-gap, ten-lt}
 use Rattle.number.proofs.Sums.{upOf, downOf, power-sum, diff-size, size-least, size-most}
-use Rattle.number.proofs.Equation.{Bare, trim-bare}
+use Rattle.number.proofs.Equation.{trim-bare}
 
 -- ---- the number of a list of digits
 

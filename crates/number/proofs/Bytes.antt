@@ -8,7 +8,7 @@ use borrow.Author.Tests.{ne-eqb, eqb-true, le-leb, leb-true}
 use lib.Dec.{leb, eqb}
 use Rattle.number.specs.Grammar.{signByte}
 use Rattle.number.specs.Reading as R
-use Rattle.number.specs.Reading.{Kind, Column, column, columnOf, Scan, Bad, on}
+use Rattle.number.specs.Reading.{Kind, column, columnOf, Scan, Bad, on}
 
 pub data Seen (b : ℕ) : Type 0 where
   a-blank : b ≡ 32 → Seen b

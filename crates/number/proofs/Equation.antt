@@ -1,16 +1,16 @@
 -- The value of a sign, a whole number and a power of ten: there is one, it is found, and there is no other.
 -- Assumes nothing.
-use mathlib.Core.Path.{_≡_, refl, sym, ap, _∙_, subst}
+use mathlib.Core.Path.{_≡_, refl, sym, ap, _∙_}
 use mathlib.Core.Bool.{Bool, true, false, cond}
-use mathlib.Core.Logic.{_⊎_, inl, inr}
+use mathlib.Core.Logic.{inl, inr}
 use Prim.Native.Nat.{ℕ, zero, suc, _+_, _*_, _/_, _%_, _^_, _<_, _≤_}
-use native.Mathlib.Nat.{add-zero, zero-add, zero-mul, mul-one, mul-assoc, mul-comm, mul-right-comm, mul-pos, pow-zero}
+use native.Mathlib.Nat.{zero-mul, mul-one, mul-assoc, mul-comm, mul-right-comm, mul-pos, pow-zero}
 use native.Mathlib.Nat.{mul-mod-left}
 use native.Mathlib.Omega.{arith}
 use borrow.Author.Tests.{eqb-true, eqb-false}
 use lib.Dec.{eqb}
 use lib.Pow.{pow-add}
-use lib.IntN.{ℤ, pos, negsuc, negℤ, _+ℤ_, +ℤ-idl, +ℤ-idr, +ℤ-assoc, +ℤ-comm, +ℤ-invl, +ℤ-invr}
+use lib.IntN.{ℤ, pos, negsuc, _+ℤ_, +ℤ-idr, +ℤ-comm, +ℤ-invl}
 use Rattle.number.specs.declared.value.Decimal.{Decimal}
 use Rattle.number.specs.Value.{decimal, zeroDecimal, SameSize, Normal, Value, Trimmed, trimFrom, trim, valueOf}
 use Rattle.number.proofs.Sums.{plus-swap, plus-plus, plus-cancel}

@@ -11,12 +11,12 @@ use lib.IntN.{pos, _-ℤ_}
 use lib.ListN.{length}
 use Rattle.number.specs.declared.value.Reading.{Reading}
 use Rattle.number.specs.declared.value.Reading.the-variants.{Number}
-use Rattle.number.specs.Grammar.{blanks, Digits, text, numFrom, num, Sign, unsigned, signed, signByte, signText}
+use Rattle.number.specs.Grammar.{blanks, Digits, text, numFrom, num, Sign, unsigned, signed, signText}
 use Rattle.number.specs.Grammar.{minus, Opening, bySign, byMark, byBare, openText, below, Tail, plain, power}
 use Rattle.number.specs.Grammar.{tailText, GoodTail, Field, write, Good}
 use Rattle.number.specs.Value.{exponentOf, valueOf, meaning}
 use Rattle.number.specs.Reading.{Column, digit, column, columnOf, Mantissa, mantissa, longer, Scan, Lead, Signed}
-use Rattle.number.specs.Reading.{Whole, Point, Fraction, Gap, Mark, MarkGap, PowerSign, Power, Bad, stepOf}
+use Rattle.number.specs.Reading.{Whole, Point, Fraction, Gap, Mark, MarkGap, PowerSign, Power, stepOf}
 use Rattle.number.specs.Reading.{scanOf, finish, readField}
 use Rattle.number.proofs.Spelling.{digits-left, digits-right}
 use Rattle.number.proofs.Bytes.{digit-column}

@@ -13,7 +13,6 @@ use Rattle.rules.specs.State.{Context, startContext}
 use Rattle.entry.specs.declared.verdict.Verdict.{Verdict}
 use Rattle.entry.specs.Verdict.{refused, turnOf, endOf, lengthGood, judgeOf}
 use Rattle.questions.specs.declared.row.Row.{Row}
-use Rattle.questions.specs.declared.row.Located.{Located}
 use Rattle.questions.specs.Row.{NONE, emptyRow, noteOf, leaving, locating, located, startRow, locate}
 
 same-verdict : (m : Noted Context Row) (i : ℕ) (rs : List (List ℕ))

@@ -5,7 +5,7 @@ use mathlib.Core.Path.{_≡_, refl, sym, _∙_, ap}
 use mathlib.Core.Bool.{Bool, true, false, cond}
 use mathlib.Core.List.{List}
 use native.Mathlib.Omega.{arith}
-use lib.ListN.{length, take}
+use lib.ListN.{length}
 use Rattle.laws.specs.Turns.{Turn, go, out, run}
 use Rattle.laws.specs.Walk.{walk}
 use Rattle.laws.specs.Blocks.{blocks, blockAt}
@@ -20,7 +20,6 @@ use Rattle.entry.specs.Verdict.{refused, turnOf, lengthGood}
 use Rattle.entry.specs.Numbers.{startJudge, stepTurn}
 use Rattle.entry.proofs.Numbered.{Standing, turns, starts, ends, whole-records}
 use Rattle.questions.specs.declared.row.Row.{Row}
-use Rattle.questions.specs.declared.row.Located.{Located}
 use Rattle.questions.specs.Row.{NONE, emptyRow, noteOf, leaving, locating, located, startRow, locate}
 use Rattle.questions.specs.Numbers.{noteBy, locatingBy, locatedBy, locateBy}
 

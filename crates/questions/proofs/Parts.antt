@@ -1,6 +1,6 @@
 -- A part that is handed back lies in the entry, and the place of a value has a number of 32 bits.
 -- Assumes nothing.
-use Prim.Native.Nat.{ℕ, _+_, _-_, _*_, _/_, _%_, _<_, _≤_}
+use Prim.Native.Nat.{ℕ, _+_, _-_, _*_, _/_, _≤_}
 use mathlib.Core.Path.{_≡_, refl}
 use mathlib.Core.Bool.{Bool, true, false, cond}
 use mathlib.Core.List.{List}
@@ -9,7 +9,7 @@ use native.Mathlib.Nat.{mul-le-mul}
 use lib.Dec.{eqb, leb}
 use lib.ListN.{length}
 use borrow.Author.Tests.{leb-true}
-use Rattle.record.specs.Columns.{recordsFor, placeOf, InTable}
+use Rattle.record.specs.Columns.{placeOf, InTable}
 use Rattle.record.specs.declared.columns.RecordNo.{RecordNo}
 use Rattle.record.specs.Word.{pointerOf}
 use Rattle.record.specs.declared.columns.Place.{Place}
@@ -17,8 +17,6 @@ use Rattle.record.specs.declared.columns.LineNo.{LineNo}
 use Rattle.entry.specs.declared.verdict.Verdict.{Verdict}
 use Rattle.questions.specs.declared.row.Row.{Row}
 use Rattle.questions.specs.declared.place.Shape.{Shape}
-use Rattle.questions.specs.declared.ask.Answer.{Answer}
-use Rattle.questions.specs.declared.ask.PartAnswer.{PartAnswer}
 use Rattle.questions.specs.Place.{shapeOf, headingPlace, unitPlace, fieldOf, firstByte, byteOf}
 use Rattle.questions.specs.Passage.{passageOf}
 use Rattle.questions.specs.Ask.{sectionIn, columnRefusal, passageRefusal, answer, answerFor, noPart, partFrom}

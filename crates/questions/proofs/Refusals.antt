@@ -2,11 +2,9 @@
 -- there. Assumes nothing.
 use Prim.Native.Nat.{ℕ, _≤_}
 use mathlib.Core.Path.{_≡_, refl}
-use mathlib.Core.Bool.{Bool, true, false, cond, not, _&&_}
+use mathlib.Core.Bool.{Bool, true, false, not}
 use mathlib.Core.List.{List, [], _∷_, _++_}
 use native.Mathlib.Omega.{arith}
-use lib.Dec.{eqb, leb}
-use borrow.Author.Tests.{leb-true}
 use Rattle.record.specs.Text.{within}
 use Rattle.record.specs.declared.columns.RecordNo.{RecordNo}
 use Rattle.record.specs.declared.columns.LineNo.{LineNo}

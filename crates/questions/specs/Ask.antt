@@ -17,7 +17,6 @@ use Rattle.record.specs.Word.{pointerOf}
 use Rattle.record.specs.Identifier.{SUBENT}
 use Rattle.record.specs.declared.columns.RecordNo.{RecordNo}
 use Rattle.record.specs.declared.columns.LineNo.{LineNo}
-use Rattle.record.specs.declared.columns.Place.{Place}
 use Rattle.number.specs.Reading.{readField}
 use Rattle.number.specs.declared.value.Reading.{Reading}
 use Rattle.number.specs.declared.value.Reading.the-variants.{Blank}

@@ -1,6 +1,6 @@
 -- Where a subentry stands in an entry: its row, which the judge's own walk over the records notes on its way.
 use Prim.Native.Nat.{ℕ, _/_, _≤_}
-use mathlib.Core.Bool.{Bool, cond}
+use mathlib.Core.Bool.{cond}
 use mathlib.Core.List.{List}
 use lib.Dec.{eqb}
 use lib.ListN.{length}

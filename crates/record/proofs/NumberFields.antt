@@ -1,9 +1,9 @@
 -- A field that reads, as blank or as a number, holds permitted characters only and is no system identifier.
 -- Assumes nothing.
-use mathlib.Core.Path.{_≡_, refl, sym, ap, _∙_}
+use mathlib.Core.Path.{_≡_, refl}
 use mathlib.Core.Bool.{Bool, true, false, cond, not, _&&_}
-use mathlib.Core.List.{List, []}
-use Prim.Native.Nat.{ℕ, _+_, _*_, _%_, _<_, _≤_}
+use mathlib.Core.List.{List}
+use Prim.Native.Nat.{ℕ, _+_, _*_, _%_, _<_}
 use native.Mathlib.Omega.{arith}
 use borrow.Author.Tests.{eqb-true, not-false}
 use lib.Dec.{T, eqb, leb}
@@ -14,7 +14,7 @@ use Rattle.laws.proofs.Search.{first-pass, pass-first}
 use Rattle.laws.proofs.Table.{at}
 use Rattle.number.specs.Grammar.{signByte, Letter, blank, digit, point, sign, mark}
 use Rattle.number.specs.declared.value.Reading.{Reading}
-use Rattle.number.specs.declared.value.Reading.the-variants.{Blank, Number, Refused}
+use Rattle.number.specs.declared.value.Reading.the-variants.{Refused}
 use Rattle.number.specs.Reading.{readField}
 use Rattle.number.proofs.Laws.{number-letters}
 use Rattle.number.specs.Form.{formOf}

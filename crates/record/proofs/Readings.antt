@@ -1,20 +1,19 @@
 -- What is found of the fields of a value record goes by what they read to.
 -- Assumes nothing.
-use mathlib.Core.Path.{_≡_, refl, sym, ap, _∙_}
-use mathlib.Core.Bool.{Bool, true, false, cond, not, _&&_}
+use mathlib.Core.Path.{_≡_, refl}
+use mathlib.Core.Bool.{Bool, true, false, cond, not}
 use mathlib.Core.List.{List, []}
 use Prim.Native.Nat.{ℕ, _<_, _≤_}
 use native.Mathlib.Omega.{arith}
 use lib.Dec.{ltb}
 use lib.ListN.{getD}
-use Rattle.laws.specs.Search.{first, howMany}
+use Rattle.laws.specs.Search.{howMany}
 use Rattle.laws.proofs.Search.{first-same, first-to, many-same}
 use Rattle.number.specs.declared.form.Form.{Form}
 use Rattle.number.specs.declared.form.Form.the-variants.{Blank, Number, Malformed}
 use Rattle.number.specs.Reading.{readField}
 use Rattle.record.specs.Fields.{inField, firstField}
 use Rattle.record.specs.Numbers.{formAt, saysBlank, noValue, valueFault, isNumberAt, valuesOf}
-use Rattle.record.specs.declared.numbers.Values.{Values}
 
 -- a field that is not at fault is blank or a number
 by-form : (m t : Bool) (x : Form) → cond t (noValue m x) (not (saysBlank x)) ≡ false → noValue true x ≡ false

@@ -2,7 +2,7 @@
 --
 --   "The fourteen system identifiers are the names above with ENDBIB, ENDCOMMON and ENDDATA; one fills columns 1-11,
 --   blanks behind."
-use Prim.Native.Nat.{ℕ, _+_, _-_, _*_}
+use Prim.Native.Nat.{ℕ, _+_, _-_}
 use mathlib.Core.Path.{_≡_}
 use mathlib.Core.Bool.{Bool}
 use mathlib.Core.List.{List, [], _∷_, _++_}

@@ -1,11 +1,11 @@
 -- The headings to the left stand in the record in hand.
 -- Assumes nothing.
-use Prim.Native.Nat.{ℕ, _≤_, _/_, _*_}
+use Prim.Native.Nat.{ℕ, _≤_}
 use mathlib.Core.Path.{_≡_, _∙_, ap}
 use mathlib.Core.List.{List}
 use native.Mathlib.Omega.{arith}
 use lib.ListN.{length}
-use Rattle.rules.specs.Headings.{earlier, partOf, headingsIn, Left}
+use Rattle.rules.specs.Headings.{earlier, partOf, Left}
 
 pub left-fits : (common001 common table here part : List ℕ) (left s : ℕ)
     → part ≡ partOf (earlier common001 common table here 0) s → length here ≡ 81 → left ≤ 6 → Left part left s

@@ -1,12 +1,11 @@
 -- COMMON announces at most eighteen columns where its N1 is within the limit.
 -- Assumes nothing.
-use Prim.Native.Nat.{ℕ, _≤_}
+use Prim.Native.Nat.{ℕ}
 use mathlib.Core.Path.{_≡_}
 use mathlib.Core.Bool.{Bool, true, false, _&&_}
 use native.Mathlib.Omega.{arith}
 use borrow.Author.Tests.{leb-true}
 use lib.Dec.{leb}
-use Rattle.record.specs.Identifier.{COMMON}
 use Rattle.rules.specs.State.{MOST-COLUMNS}
 use Rattle.rules.specs.System.{Few, limitN1, meets}
 

@@ -1,11 +1,11 @@
 -- "within one record the lowest number; within that the leftmost column": the fault of a record is the least of all
 -- that the rules find on it, by number and then by column; and there is none only where they find nothing. The
 -- findings stand by rising numbers, and each gives its columns from left to right. Assumes nothing.
-use Prim.Native.Nat.{ℕ, zero, suc, _+_, _*_, _<_, _≤_}
-use mathlib.Core.Path.{_≡_, refl, sym, _∙_, ap}
+use Prim.Native.Nat.{ℕ, zero, suc, _+_, _<_, _≤_}
+use mathlib.Core.Path.{_≡_, refl, sym, ap}
 use mathlib.Core.Bool.{Bool, true, false, cond, not, _&&_, _||_}
 use mathlib.Core.List.{List, [], _∷_, _++_}
-use mathlib.Core.Logic.{_⊎_, inl, inr}
+use mathlib.Core.Logic.{inl, inr}
 use native.Mathlib.Omega.{arith}
 use borrow.Author.Tests.{eqb-true, eqb-false}
 use lib.Dec.{eqb}
@@ -18,7 +18,6 @@ use Rattle.record.specs.Identifier.{isEnd}
 use Rattle.record.specs.Numbers.{valueFault}
 use Rattle.record.specs.System.{subentryOf}
 use Rattle.record.specs.Word.{equalTo, badPointer, pointerFault, headingFault, unitFault}
-use Rattle.rules.specs.declared.fault.Fault.{Fault}
 use Rattle.rules.specs.declared.fault.Fault.the-variants.{Fine, At}
 use Rattle.rules.specs.declared.state.Track.{Track}
 use Rattle.rules.specs.State.{Seen, used}

@@ -1,12 +1,11 @@
 -- The leftmost of the columns that meet a test is that of the first place at which the test holds.
 -- Assumes nothing.
 use Prim.Native.Nat.{ℕ, zero, suc, _+_}
-use mathlib.Core.Path.{_≡_, refl, _∙_, ap}
+use mathlib.Core.Path.{_≡_}
 use mathlib.Core.Bool.{Bool, true, false, cond}
-use mathlib.Core.List.{List, [], _∷_}
+use mathlib.Core.List.{List, _∷_}
 use native.Mathlib.Omega.{arith}
 use borrow.Author.Tests.{lt-ltb, le-ltb}
-use lib.Dec.{ltb}
 use Rattle.laws.specs.Search.{first}
 use Rattle.rules.specs.Fault.{columnsFrom, columnsWhere, columnAt, leftmost}
 

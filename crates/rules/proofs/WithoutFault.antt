@@ -2,30 +2,29 @@
 -- record goes by what it reads to: one that reads alike, with permitted characters, is judged alike.
 -- Assumes nothing.
 use mathlib.Core.Path.{_≡_, refl, sym, ap, _∙_}
-use mathlib.Core.Bool.{Bool, true, false, cond, not, _&&_, _||_}
+use mathlib.Core.Bool.{Bool, true, false, cond, not, _||_}
 use mathlib.Core.List.{List, [], _∷_, _++_}
-use Prim.Native.Nat.{ℕ, zero, suc, _+_, _*_, _<_, _≤_}
+use Prim.Native.Nat.{ℕ, zero, suc, _+_, _<_, _≤_}
 use native.Mathlib.Omega.{arith}
 use borrow.Author.Tests.{eqb-true, not-false, ltb-false}
 use lib.Dec.{eqb, ltb}
-use lib.ListN.{length, take, drop, getD, List·getD-eq-default}
+use lib.ListN.{length, drop, getD, List·getD-eq-default}
 use lib.Seq.{drop-drop, getD-drop}
 use Rattle.laws.specs.Search.{first}
 use Rattle.laws.specs.Walk.{All}
-use Rattle.laws.proofs.Search.{first-pass, first-to, first-same, either}
+use Rattle.laws.proofs.Search.{first-pass, first-to, either}
 use Rattle.number.specs.Reading.{readField}
 use Rattle.record.specs.Columns.{hasLineFeed}
 use Rattle.record.specs.Class.{isPermitted, notPermitted}
 use Rattle.record.specs.Fields.{inField, fieldsOf}
 use Rattle.record.specs.Numbers.{formAt, noValue, valueFault}
-use Rattle.rules.specs.declared.fault.Fault.{Fault}
 use Rattle.rules.specs.declared.fault.Fault.the-variants.{Fine, At}
 use Rattle.rules.specs.declared.state.Track.{Track}
 use Rattle.rules.specs.State.{Seen, used}
 use Rattle.rules.specs.Role.{COMMON-VALUE, DATA-VALUE, isValue}
-use Rattle.rules.specs.Fault.{on, when, columnsFrom, columnsWhere, fieldColumn, columnAt, leftmost, Finding}
-use Rattle.rules.specs.Fault.{orElse, firstFault}
-use Rattle.rules.specs.Every.{rule2, rule3, rule4, rule5, rule6, expectedIdentification}
+use Rattle.rules.specs.Fault.{on, when, columnsFrom, columnsWhere, fieldColumn, leftmost, Finding}
+use Rattle.rules.specs.Fault.{firstFault}
+use Rattle.rules.specs.Every.{rule2, rule3, rule5, rule6, expectedIdentification}
 use Rattle.rules.specs.Values.{optional, lineBlank, rule15}
 use Rattle.rules.specs.Order.{findings, faultOf}
 use Rattle.rules.proofs.Leftmost.{leftmost-where}

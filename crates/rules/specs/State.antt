@@ -1,13 +1,11 @@
 -- Where judging stands between two records: a phase of the nesting, a track of plain numbers, and the parts of the
 -- entry that a rule may look back at. No rule sees anything else of what stands before its record.
 use mathlib.Core.Path.{_≡_}
-use mathlib.Core.Bool.{Bool, true, false, cond}
-use mathlib.Core.List.{List, [], _∷_}
-use Prim.Native.Nat.{ℕ, _+_, _*_, _-_, _<_, _≤_}
+use mathlib.Core.Bool.{Bool, true, cond}
+use mathlib.Core.List.{List, []}
+use Prim.Native.Nat.{ℕ, _+_, _*_, _-_, _≤_}
 use lib.Dec.{leb}
 use lib.ListN.{length, take, drop, replicate}
-use Rattle.record.specs.declared.columns.Index.{Index}
-use Rattle.record.specs.declared.columns.LineNo.{LineNo}
 use Rattle.rules.specs.declared.state.Phase.{Phase}
 use Rattle.rules.specs.declared.state.Phase.the-variants.{Start}
 use Rattle.rules.specs.declared.state.Totals.{Totals}

@@ -8,7 +8,6 @@ use Rattle.laws.proofs.Table.{at}
 use mathlib.Core.Path.{_≡_, refl}
 use native.Mathlib.Numerals.{add-one}
 use native.Mathlib.Omega.{arith}
-use borrow.Author.Needs.{needs}
 use Rattle.canonical.proofs.layout.measured.Statement.{statement}
 use Rattle.canonical.proofs.layout.measured.Tie as tie
 use Rattle.canonical.proofs.layout.measured.Reads as reads

@@ -4,7 +4,6 @@ use lib.IntN.{_+ℤ_, pos}
 use mir.Syntax.{w64}
 use mir.ValLaws.{toZ-ofZ}
 use native.Mathlib.Omega.{arith}
-use borrow.Author.Needs.{needs}
 use Rattle.canonical.proofs.layout.size_of.Statement.{statement}
 use Rattle.canonical.proofs.layout.size_of.Tie as tie
 use Rattle.canonical.proofs.layout.size_of.Reads as reads

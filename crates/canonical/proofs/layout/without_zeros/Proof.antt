@@ -3,7 +3,6 @@ use Rattle.canonical.proofs.Numbers.{zeros-few, zeros-go}
 use mathlib.Core.Path.{_≡_, sym}
 use native.Mathlib.Nat.{mul-one}
 use native.Mathlib.Omega.{arith}
-use borrow.Author.Needs.{needs}
 use Rattle.canonical.proofs.layout.without_zeros.Statement.{statement}
 use Rattle.canonical.proofs.layout.without_zeros.Tie as tie
 use Rattle.canonical.proofs.layout.without_zeros.Reads as reads

@@ -1,6 +1,5 @@
 use mathlib.Core.Path.{refl}
 use native.Mathlib.Omega.{arith}
-use borrow.Author.Needs.{needs}
 use Rattle.canonical.proofs.store.exponent_columns.Statement.{statement}
 use Rattle.canonical.proofs.store.exponent_columns.Tie as tie
 use Rattle.canonical.proofs.store.exponent_columns.Reads as reads

@@ -6,7 +6,6 @@ use lib.ListN.{drop, length, length-set}
 use mathlib.Core.List.{_++_}
 use mathlib.Core.Path.{_∙_, _≡_, refl}
 use native.Mathlib.Omega.{arith}
-use borrow.Author.Needs.{needs}
 use Rattle.canonical.proofs.store.put_blanks.Statement.{statement}
 use Rattle.canonical.proofs.store.put_blanks.Tie as tie
 use Rattle.canonical.proofs.store.put_blanks.Reads as reads

@@ -6,7 +6,6 @@ use Rattle.laws.proofs.Table.{at}
 use lib.ListN.{length, length-set}
 use mathlib.Core.Path.{_∙_, _≡_, refl, sym}
 use native.Mathlib.Omega.{arith}
-use borrow.Author.Needs.{needs}
 use Rattle.canonical.proofs.store.put_digits.Statement.{statement}
 use Rattle.canonical.proofs.store.put_digits.Tie as tie
 use Rattle.canonical.proofs.store.put_digits.Reads as reads

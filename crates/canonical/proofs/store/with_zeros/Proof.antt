@@ -3,7 +3,6 @@ use mathlib.Core.Path.{_≡_, refl}
 use native.Mathlib.Omega.{arith}
 use native.Mathlib.Nat.{mul-one}
 use mathlib.Core.Path.{sym}
-use borrow.Author.Needs.{needs}
 use Rattle.canonical.proofs.store.with_zeros.Statement.{statement}
 use Rattle.canonical.proofs.store.with_zeros.Tie as tie
 use Rattle.canonical.proofs.store.with_zeros.Reads as reads

@@ -1,5 +1,4 @@
 use borrow.Author.Tests.{eq-eqb, ne-eqb}
-use borrow.Author.Needs.{needs}
 use Rattle.entry.proofs.next.ends001.Statement.{statement}
 use Rattle.entry.proofs.next.ends001.Tie as tie
 use Rattle.entry.proofs.next.ends001.Reads as reads

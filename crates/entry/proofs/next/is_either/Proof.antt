@@ -1,5 +1,4 @@
 use borrow.Author.Tests.{eq-eqb, ne-eqb}
-use borrow.Author.Needs.{needs}
 use Rattle.entry.proofs.next.is_either.Statement.{statement}
 use Rattle.entry.proofs.next.is_either.Tie as tie
 use Rattle.entry.proofs.next.is_either.Reads as reads

@@ -1,4 +1,3 @@
-use borrow.Author.Needs.{needs}
 use Rattle.entry.proofs.next.still_blank.Statement.{statement}
 use Rattle.entry.proofs.next.still_blank.Tie as tie
 use Rattle.entry.proofs.next.still_blank.Reads as reads

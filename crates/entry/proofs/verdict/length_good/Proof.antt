@@ -1,6 +1,5 @@
 use Rattle.entry.specs.Verdict.{lengthGood}
 use borrow.Author.Tests.{eq-eqb, ne-eqb}
-use borrow.Author.Needs.{needs}
 use Rattle.entry.proofs.verdict.length_good.Statement.{statement}
 use Rattle.entry.proofs.verdict.length_good.Tie as tie
 use Rattle.entry.proofs.verdict.length_good.Reads as reads

@@ -1,5 +1,4 @@
 use borrow.Author.Tests.{le-leb, lt-leb}
-use borrow.Author.Needs.{needs}
 use Rattle.questions.proofs.ask.is_counted.Statement.{statement}
 use Rattle.questions.proofs.ask.is_counted.Tie as tie
 use Rattle.questions.proofs.ask.is_counted.Reads as reads

@@ -1,5 +1,4 @@
 use borrow.Author.Tests.{eq-eqb, ne-eqb}
-use borrow.Author.Needs.{needs}
 use Rattle.questions.proofs.ask.section_in.Statement.{statement}
 use Rattle.questions.proofs.ask.section_in.Tie as tie
 use Rattle.questions.proofs.ask.section_in.Reads as reads

@@ -1,6 +1,6 @@
 use Rattle.record.proofs.Found.{permitted-first}
 use Prim.Native.Nat.{_+_}
-use Rattle.record.specs.Class.{notPermitted, permittedTo}
+use Rattle.record.specs.Class.{notPermitted}
 use Rattle.rules.proofs.Leftmost.{leftmost-where}
 use Rattle.rules.specs.Every.{rule3}
 use borrow.Author.Tests.{le-ltb, lt-ltb}

@@ -1,6 +1,5 @@
 use Rattle.rules.specs.Every.{rule4}
 use borrow.Author.Tests.{eq-eqb, ne-eqb}
-use borrow.Author.Needs.{needs}
 use Rattle.rules.proofs.every.rule4.Statement.{statement}
 use Rattle.rules.proofs.every.rule4.Tie as tie
 use Rattle.rules.proofs.every.rule4.Reads as reads

@@ -1,5 +1,4 @@
 use borrow.Author.Tests.{eq-eqb, ne-eqb}
-use borrow.Author.Needs.{needs}
 use Rattle.rules.proofs.headings.part_of.Statement.{statement}
 use Rattle.rules.proofs.headings.part_of.Tie as tie
 use Rattle.rules.proofs.headings.part_of.Reads as reads

@@ -1,5 +1,4 @@
 use borrow.Author.Tests.{eq-eqb, ne-eqb}
-use borrow.Author.Needs.{needs}
 use Rattle.rules.proofs.role.is_heading.Statement.{statement}
 use Rattle.rules.proofs.role.is_heading.Tie as tie
 use Rattle.rules.proofs.role.is_heading.Reads as reads

@@ -1,5 +1,4 @@
 use borrow.Author.Tests.{eq-eqb, ne-eqb}
-use borrow.Author.Needs.{needs}
 use Rattle.rules.proofs.role.is_value.Statement.{statement}
 use Rattle.rules.proofs.role.is_value.Tie as tie
 use Rattle.rules.proofs.role.is_value.Reads as reads

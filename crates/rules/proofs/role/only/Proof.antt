@@ -1,5 +1,4 @@
 use borrow.Author.Tests.{eq-eqb, ne-eqb}
-use borrow.Author.Needs.{needs}
 use Rattle.rules.proofs.role.only.Statement.{statement}
 use Rattle.rules.proofs.role.only.Tie as tie
 use Rattle.rules.proofs.role.only.Reads as reads

@@ -1,5 +1,4 @@
 use borrow.Author.Tests.{eq-eqb, ne-eqb}
-use borrow.Author.Needs.{needs}
 use Rattle.rules.proofs.role.opens_subentry.Statement.{statement}
 use Rattle.rules.proofs.role.opens_subentry.Tie as tie
 use Rattle.rules.proofs.role.opens_subentry.Reads as reads

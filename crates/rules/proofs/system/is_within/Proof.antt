@@ -1,5 +1,4 @@
 use borrow.Author.Tests.{le-leb, lt-leb}
-use borrow.Author.Needs.{needs}
 use Rattle.rules.proofs.system.is_within.Statement.{statement}
 use Rattle.rules.proofs.system.is_within.Tie as tie
 use Rattle.rules.proofs.system.is_within.Reads as reads

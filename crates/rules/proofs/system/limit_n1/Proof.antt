@@ -1,6 +1,5 @@
 use Rattle.rules.specs.System.{limitN1}
 use borrow.Author.Tests.{eq-eqb, ne-eqb}
-use borrow.Author.Needs.{needs}
 use Rattle.rules.proofs.system.limit_n1.Statement.{statement}
 use Rattle.rules.proofs.system.limit_n1.Tie as tie
 use Rattle.rules.proofs.system.limit_n1.Reads as reads

@@ -1,7 +1,6 @@
 use Rattle.rules.specs.Fault.{firstFault}
 use Rattle.rules.specs.Order.{faultOf}
 use borrow.Author.Tests.{eq-eqb, ne-eqb}
-use borrow.Author.Needs.{needs}
 use Rattle.rules.proofs.state.Track.fault.Statement.{statement}
 use Rattle.rules.proofs.state.Track.fault.Tie as tie
 use Rattle.rules.proofs.state.Track.fault.Reads as reads

@@ -1,5 +1,4 @@
 use borrow.Author.Tests.{eq-eqb, le-ltb, lt-ltb, ne-eqb}
-use borrow.Author.Needs.{needs}
 use Rattle.rules.proofs.state.Track.number_due.Statement.{statement}
 use Rattle.rules.proofs.state.Track.number_due.Tie as tie
 use Rattle.rules.proofs.state.Track.number_due.Reads as reads
