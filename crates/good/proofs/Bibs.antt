@@ -12,7 +12,7 @@ use Rattle.record.specs.Fields.{fieldsOf}
 use Rattle.record.specs.Identifier.{BIB, NOBIB, ENDBIB}
 use Rattle.rules.specs.declared.state.Phase.the-variants.{InSubentry, InBib, AfterBib}
 use Rattle.rules.specs.State.{Context}
-use Rattle.rules.specs.Role.{TEXT, only, roleIn, bibRole}
+use Rattle.rules.specs.Role.{TEXT, only, roleIn, bibRole, either as oneOf}
 use Rattle.rules.specs.Every.{expectedIdentification, expectedSequence}
 use Rattle.rules.specs.System.{limitN1, limitN2, meets, trueCount, countN1, countN2}
 use Rattle.entry.specs.Next.{contextAfter, phaseAfter, trackAfter, afterSystem, seenAfter, partAfter, bibChange}

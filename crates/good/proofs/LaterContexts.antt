@@ -16,6 +16,7 @@ use Rattle.record.specs.Word.{equalTo}
 use Rattle.record.specs.Identifier.{SUBENT, ENDSUBENT}
 use Rattle.record.specs.Expected.{identificationFor}
 use Rattle.rules.specs.State.{Context}
+use Rattle.rules.specs.Headings.{pointersFor as pointersSeen}
 use Rattle.good.specs.Parts.{Record, Bib, Table, Section, bibRecords, tableRecords, First, Later, bodyOfFirst}
 use Rattle.good.specs.Bib.{textsOfPart, pointersIn}
 use Rattle.good.specs.Tables.{headingsOfPart}

@@ -20,6 +20,7 @@ use Rattle.good.proofs.Moves.{Moved, still, moved-on, recount}
 use Rattle.good.proofs.Marks.{following-append, following-left, following-right, following-as}
 use Rattle.good.proofs.Systems.{identificationIn}
 use Rattle.good.proofs.Rows.{Kind, values, roleFor, RowAt, NoEnd, InRow, pass-row, row-pass, row-left}
+use Rattle.good.proofs.Rows.{linesOf as rowLines}
 use Rattle.good.proofs.Values.{behind-values, count-numbers, values-good}
 
 pub in-row : (d : Bool) (k : Kind) (n last line : ℕ) (c : Context) → RowAt c d k n last line n → 1 ≤ n

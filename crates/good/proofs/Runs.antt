@@ -13,7 +13,7 @@ use Rattle.laws.proofs.Booleans.{differ}
 use Rattle.record.specs.Fields.{fieldsOf}
 use Rattle.rules.specs.declared.state.Phase.{Phase}
 use Rattle.rules.specs.State.{Context}
-use Rattle.rules.specs.Role.{NOT-DUE, only, roleIn}
+use Rattle.rules.specs.Role.{NOT-DUE, only, roleIn, either as oneOf}
 use Rattle.entry.specs.Verdict.{roleOf, isDone}
 use Rattle.good.specs.Parts.{Record}
 use Rattle.good.specs.Marks.{nameOf}

@@ -14,6 +14,7 @@ use Rattle.record.specs.Word.{equalTo}
 use Rattle.record.specs.Expected.{identificationFor}
 use Rattle.rules.specs.declared.state.Phase.the-variants.{InSubentry, AfterCommon}
 use Rattle.rules.specs.State.{Context}
+use Rattle.rules.specs.Headings.{pointersFor as pointersSeen}
 use Rattle.entry.specs.Verdict.{isDone}
 use Rattle.good.specs.Parts.{Record, Bib, Table, Section, bibRecords, tableRecords}
 use Rattle.good.specs.Marks.{Following, Once}

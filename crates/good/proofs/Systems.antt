@@ -16,6 +16,7 @@ use Rattle.rules.specs.State.{Context}
 use Rattle.rules.specs.Role.{TEXT, DATA-HEADING, NOT-DUE, isSystem, opensSubentry, opensSection, isHeading, isUnit}
 use Rattle.rules.specs.Role.{isValue}
 use Rattle.rules.specs.Fault.{on, leftmost}
+use Rattle.rules.specs.Every.{n1 as field1, n2 as field2}
 use Rattle.rules.specs.System.{FREE, COUNT, formN1, formN2, inForm, rule7, countN1, countN2, limitN1, limitN2, meets}
 use Rattle.rules.specs.System.{announcedFault, trueCount, keywordsTrue, countTrue, rule8, rule9}
 use Rattle.good.specs.Parts.{Record}

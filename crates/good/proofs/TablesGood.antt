@@ -11,6 +11,7 @@ use Rattle.record.specs.Fields.{fieldsOf}
 use Rattle.record.specs.System.{countOf, numberOf}
 use Rattle.record.specs.declared.system.Count.the-variants.{Number}
 use Rattle.rules.specs.State.{Context}
+use Rattle.rules.specs.Role.{either as oneOf}
 use Rattle.rules.specs.System.{trueCount}
 use Rattle.entry.specs.Verdict.{roleOf}
 use Rattle.good.specs.Parts.{Record, Table, Section, present, absent, concat, rowsOf, tableRecords}

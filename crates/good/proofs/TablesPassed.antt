@@ -9,6 +9,7 @@ use lib.ListN.{length}
 use Rattle.record.specs.Columns.{recordsFor}
 use Rattle.record.specs.Fields.{fieldsOf}
 use Rattle.rules.specs.State.{Context}
+use Rattle.rules.specs.Role.{either as oneOf}
 use Rattle.rules.specs.System.{trueCount, countN1, countN2}
 use Rattle.entry.specs.Verdict.{roleOf, isDone}
 use Rattle.good.specs.Parts.{Record, Table, Section, present, absent, concat, rowsOf, tableRecords}

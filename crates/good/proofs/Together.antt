@@ -19,7 +19,7 @@ use Rattle.laws.proofs.Members.{any-append}
 use Rattle.record.specs.Text.{isBlank}
 use Rattle.record.specs.Word.{equalTo, isWord, pointerOf}
 use Rattle.rules.specs.Text.{pointersOf}
-use Rattle.rules.specs.Headings.{headingPointerAt, headingPointers}
+use Rattle.rules.specs.Headings.{headingPointerAt, headingPointers, pointersFor as pointersSeen}
 use Rattle.good.specs.Parts.{Record}
 use Rattle.good.specs.Marks.{Once}
 use Rattle.good.specs.Bib.{pointersIn}

@@ -3,7 +3,7 @@ use Prim.Native.Nat.{ℕ}
 use Prim.Native.String.{String, [], _∷_}
 use Prim.Native.Char.{Char, code}
 use mathlib.Core.Bool.{Bool, _&&_}
-use mathlib.Core.List.{List}
+use mathlib.Core.List.{List, [] as nil, _∷_ as cons}
 use lib.Dec.{eqb, leb}
 
 -- the bytes of a text
