@@ -1,0 +1,218 @@
+//! What the library's own programs are expected to write, said once more by the reference: their stored outputs are
+//! compared with the proved functions at every check of the crates, and here with an implementation that shares nothing
+//! with these.
+
+use glockenbeacon::{reference, Decimal, NoAnswer, Part, Value, RECORD};
+use std::fmt::Write;
+use std::path::Path;
+
+/// What a program reads or is expected to write.
+fn stored(program: &str, file: &str) -> Vec<u8> {
+    let crates = Path::new(env!("CARGO_MANIFEST_DIR")).join("../crates");
+    std::fs::read(crates.join(program).join(file)).expect("a file of the program")
+}
+
+/// Compares line by line, so that a difference is shown alone.
+fn same_lines(program: &str, said: &[u8]) {
+    let expected = stored(program, "stdout");
+    let lines = |bytes: &[u8]| bytes.split(|&byte| byte == b'\n').map(<[u8]>::to_vec).collect::<Vec<_>>();
+    for (number, (a, b)) in lines(said).iter().zip(&lines(&expected)).enumerate() {
+        let show = String::from_utf8_lossy;
+        assert_eq!(show(a), show(b), "{program}, line {}", number + 1);
+    }
+    assert_eq!(said.len(), expected.len(), "{program}: the length");
+}
+
+fn decimal(value: Decimal, between: &str) -> String {
+    let sign = if value.negative { "-" } else { "" };
+    format!("{sign}{}{between}{}", value.coefficient, value.power)
+}
+
+#[test]
+fn fields_are_read_as_stored() {
+    let input = stored("read_fields", "stdin");
+    let mut said = Vec::new();
+    for line in input.strip_suffix(b"\n").unwrap_or(&input).split(|&byte| byte == b'\n') {
+        let shown = line.iter().map(|&byte| if (32..127).contains(&byte) { byte } else { b'?' });
+        said.push(b'[');
+        said.extend(shown);
+        let answer = match reference::read_number(line) {
+            Ok(Value::Blank) => "blank".to_string(),
+            Ok(Value::Number(value)) => decimal(value, " e"),
+            Err(refused) => format!("refused {}", refused.number),
+        };
+        said.extend(format!("] {answer}\n").bytes());
+    }
+    same_lines("read_fields", &said);
+}
+
+/// The number of an answer, and the three beside 31.
+fn numbers(refused: Option<&NoAnswer>) -> String {
+    let number = refused.map_or(0, |refused| refused.number);
+    let [refusal, record, column] =
+        refused.and_then(|refused| refused.entry).map_or([0; 3], |entry| [entry.number, entry.record, entry.column]);
+    format!("{number} {refusal} {record} {column}")
+}
+
+fn say_part(said: &mut Vec<u8>, entry: &[u8], answer: Result<Part, NoAnswer>) {
+    let none = Part { offset: 0, length: 0, pointer: b' ' };
+    let part = answer.as_ref().unwrap_or(&none);
+    let Part { offset, length, pointer } = *part;
+    said.extend(format!("{} {offset} {length} {pointer} [", numbers(answer.as_ref().err())).bytes());
+    said.extend(&entry[offset..offset + length]);
+    said.extend(b"]\n");
+}
+
+/// The number in the ten columns from a byte on.
+fn asked(line: &[u8], at: usize) -> u32 {
+    String::from_utf8_lossy(&line[at..at + 10]).trim().parse().expect("a number of ten columns")
+}
+
+fn ask(said: &mut Vec<u8>, entry: &[u8], line: &[u8]) {
+    let n = asked(line, 1);
+    match line[0] {
+        b'v' => {
+            let answer = reference::value(entry, n, asked(line, 11), asked(line, 21), asked(line, 31));
+            let value = match &answer {
+                Ok(Value::Number(value)) => format!("number {}", decimal(*value, " ")),
+                _ => "blank".to_string(),
+            };
+            said.extend(format!("{} {value}\n", numbers(answer.as_ref().err())).bytes());
+        }
+        b'h' => say_part(said, entry, reference::heading(entry, n, asked(line, 11), asked(line, 21))),
+        b'u' => say_part(said, entry, reference::unit(entry, n, asked(line, 11), asked(line, 21))),
+        b'p' => say_part(said, entry, reference::passage(entry, n, &line[11..21], line[21])),
+        other => panic!("a line that begins with {:?}", char::from(other)),
+    }
+}
+
+#[test]
+fn questions_are_answered_as_stored() {
+    let (mut entry, mut said) = (Vec::new(), Vec::new());
+    for line in stored("answers", "stdin").split(|&byte| byte == b'\n') {
+        match line.first() {
+            None | Some(b'#') => {}
+            Some(b'!') => entry.clear(),
+            Some(b'*') => entry.extend([&line[1..], b"\n"].concat()),
+            Some(_) => ask(&mut said, &entry, line),
+        }
+    }
+    same_lines("answers", &said);
+}
+
+/// A copy into a buffer of stars: the answer, the buffer, and how many stars it still has.
+fn copied(entry: &[u8], length: usize) -> (String, Vec<u8>, usize) {
+    let mut out = vec![b'*'; length];
+    let answer = reference::canonical_copy(entry, &mut out);
+    let stars = out.iter().filter(|&&byte| byte == b'*').count();
+    (numbers(answer.as_ref().err()), out, stars)
+}
+
+#[test]
+fn entries_are_copied_as_stored() {
+    let input = stored("copies", "stdin");
+    let (sample, rest) = input.split_at(26 * RECORD);
+    let (larger, refused) = rest.split_at(48 * RECORD);
+    let mut said = Vec::new();
+    for entry in [sample, larger] {
+        let n = entry.len();
+        let (answer, out, _) = copied(entry, n);
+        said.extend(format!("fits {answer}\n").bytes());
+        said.extend(&out);
+        let verdict = reference::judge(&out).numbers().map(|number| number.to_string()).join(" ");
+        let (answer, again, _) = copied(&out, n);
+        let same = if again == out { "the same" } else { "another" };
+        let (short, _, left) = copied(entry, n - 1);
+        let (long, _, more) = copied(entry, n + 10);
+        let mut lines = String::new();
+        writeln!(lines, "judged {verdict}\nagain {answer} {same}").expect("a string takes all");
+        writeln!(lines, "short {short} stars {left}\nlong {long} stars {more}").expect("a string takes all");
+        said.extend(lines.bytes());
+    }
+    for length in [26 * RECORD, 1] {
+        let (answer, _, stars) = copied(refused, length);
+        said.extend(format!("refused {answer} stars {stars}\n").bytes());
+    }
+    same_lines("copies", &said);
+}
+
+#[test]
+fn changed_bytes_are_judged_as_stored() {
+    let mut entry = stored("mutations", "stdin");
+    let (mut counts, mut sum) = ([0; 17], 0_u64);
+    let mut add = |entry: &[u8]| {
+        let [refusal, record, column, ..] = reference::judge(entry).numbers();
+        counts[refusal as usize] += 1;
+        for number in [refusal, record, column] {
+            sum = (sum * 65599 + u64::from(number)) % 4_294_967_291;
+        }
+    };
+    for at in 0..entry.len() {
+        let kept = entry[at];
+        for other in *b" 09A.-#\n" {
+            entry[at] = other;
+            add(&entry);
+        }
+        entry[at] = kept;
+    }
+    (0..entry.len() / RECORD).rev().for_each(|records| add(&entry[..records * RECORD]));
+    let mut said: String = counts.iter().enumerate().map(|(number, count)| format!("{number} {count}\n")).collect();
+    writeln!(said, "checksum {sum}").expect("a string takes all");
+    same_lines("mutations", said.as_bytes());
+}
+
+/// The columns of a record from a byte of a line on, blank up to 80, and a line feed.
+fn record(line: &[u8], from: usize) -> Vec<u8> {
+    let mut columns = line.get(from..).unwrap_or_default().to_vec();
+    columns.resize(RECORD - 1, b' ');
+    columns.push(b'\n');
+    columns
+}
+
+/// The number in some bytes of a line.
+fn numbered(line: &[u8], from: usize, past: usize) -> usize {
+    String::from_utf8_lossy(&line[from..past]).parse().expect("digits")
+}
+
+/// What a line of `verdicts` changes in a case.
+fn change(case: &mut Vec<u8>, line: &[u8]) {
+    let start = |line: &[u8]| (numbered(line, 1, 6) - 1) * RECORD;
+    let place = |line: &[u8]| start(line) + numbered(line, 7, 10) - 1;
+    match line[0] {
+        b'=' => {
+            let text = line[11..].split(|&byte| byte == b'|').next().unwrap_or_default();
+            let at = place(line);
+            case[at..at + text.len()].copy_from_slice(text);
+        }
+        b'@' => {
+            let at = place(line);
+            case[at] = numbered(line, 11, 14) as u8;
+        }
+        b'-' => drop(case.drain(start(line)..start(line) + RECORD)),
+        b'+' => drop(case.splice(start(line)..start(line), record(line, 7))),
+        b'<' => case.resize(numbered(line, 1, 8), b'\n'),
+        other => panic!("a line that begins with {:?}", char::from(other)),
+    }
+}
+
+#[test]
+fn cases_are_judged_as_stored() {
+    let (mut whole, mut case, mut said) = (Vec::new(), Vec::new(), Vec::new());
+    for line in stored("verdicts", "stdin").split(|&byte| byte == b'\n') {
+        match line.first() {
+            None | Some(b'#') => {}
+            Some(b'*') => {
+                whole.extend(record(line, 1));
+                case = whole.clone();
+            }
+            Some(b'!') => {
+                said.extend([&line[2..], b":"].concat());
+                reference::judge(&case).numbers().iter().for_each(|number| said.extend(format!(" {number}").bytes()));
+                said.push(b'\n');
+                case = whole.clone();
+            }
+            Some(_) => change(&mut case, line),
+        }
+    }
+    same_lines("verdicts", &said);
+}
