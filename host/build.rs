@@ -1,38 +1,50 @@
-//! Finds the archive of proved functions, `rt staticlib exports`, and has it linked.
+//! Finds the archives of proved functions, `rt staticlib exports` and `rt staticlib exports_questions`, and has them
+//! linked.
 //!
-//! `X4_ARCHIVE` names it and it must then be there; otherwise it is looked for where `rt` leaves it. `rt` makes
-//! archives for x86-64 only: for another processor, or where there is none, nothing is linked, the reference answers
-//! every call, and the build says so.
+//! `X4_ARCHIVES` names their folder and they must then be there; otherwise they are looked for where `rt` leaves them.
+//! `rt` makes archives for x86-64 only: for another processor, or where one is missing, nothing is linked, the reference
+//! answers every call, and the build says so.
 
 use std::env;
 use std::path::{Path, PathBuf};
 
+/// The crates whose functions are linked. They are two, since a function with one caller in an archive is inlined.
+const CRATES: [&str; 2] = ["exports", "exports_questions"];
+
 fn main() {
     println!("cargo::rustc-check-cfg=cfg(proved)");
-    println!("cargo::rerun-if-env-changed=X4_ARCHIVE");
-    let named = env::var_os("X4_ARCHIVE").map(PathBuf::from);
+    println!("cargo::rerun-if-env-changed=X4_ARCHIVES");
+    let named = env::var_os("X4_ARCHIVES").map(PathBuf::from);
     let home = PathBuf::from(env::var_os("CARGO_MANIFEST_DIR").expect("cargo sets it"));
-    let archive = named.clone().unwrap_or(home.join("../target/staticlib/libexports.a"));
-    println!("cargo::rerun-if-changed={}", archive.display());
+    let folder = named.clone().unwrap_or(home.join("../target/staticlib"));
+    let archives = CRATES.map(|name| folder.join(format!("lib{name}.a")));
+    archives.iter().for_each(|archive| println!("cargo::rerun-if-changed={}", archive.display()));
     let processor = env::var("CARGO_CFG_TARGET_ARCH").unwrap_or_default();
     if processor != "x86_64" {
-        println!("cargo::warning=the proved archive is for x86-64 and this is {processor}: the reference answers all");
+        println!(
+            "cargo::warning=the proved archives are for x86-64 and this is {processor}: the reference answers all"
+        );
         return;
     }
-    match archive.canonicalize() {
-        Ok(archive) => link(&archive),
-        Err(error) if named.is_some() => panic!("X4_ARCHIVE, {}: {error}", archive.display()),
-        Err(_) => println!("cargo::warning=no proved archive (rt staticlib exports): the reference answers all"),
+    match archives.iter().find(|archive| !archive.is_file()) {
+        None => link(&archives),
+        Some(missing) if named.is_some() => panic!("X4_ARCHIVES: there is no {}", missing.display()),
+        Some(_) => println!("cargo::warning=no proved archives (see host/README.md): the reference answers all"),
     }
 }
 
-/// Links the archive's members under a name that no other library has.
-fn link(archive: &Path) {
+/// Links the archives under names that no other library has.
+fn link(archives: &[PathBuf]) {
     let room = PathBuf::from(env::var_os("OUT_DIR").expect("cargo sets it"));
-    let copy = room.join("libx4_proved.a");
-    std::fs::copy(archive, &copy).expect("the archive can be copied");
+    for (name, archive) in CRATES.iter().zip(archives) {
+        copy(archive, &room.join(format!("libx4_{name}.a")));
+        println!("cargo::rustc-link-lib=static=x4_{name}");
+    }
     println!("cargo::rustc-link-search=native={}", room.display());
-    println!("cargo::rustc-link-lib=static=x4_proved");
-    println!("cargo::rustc-env=X4_ARCHIVE={}", copy.display());
+    println!("cargo::rustc-env=X4_LINKED={}", room.display());
     println!("cargo::rustc-cfg=proved");
+}
+
+fn copy(from: &Path, to: &Path) {
+    std::fs::copy(from, to).expect("an archive can be copied");
 }

@@ -1,4 +1,4 @@
-! The functions of the proved archive (rt staticlib exports) for Fortran. The numbers are document 01's; include/x4.h
+! The functions of the proved archives (rt staticlib) for Fortran. The numbers are document 01's; include/x4.h
 ! says how several of them stand in one word.
 module x4
   use, intrinsic :: iso_c_binding, only: c_char, c_int8_t, c_int32_t, c_int64_t, c_size_t

@@ -1,4 +1,4 @@
-/* The functions of the proved archive (rt staticlib exports) for C.
+/* The functions of the proved archives (rt staticlib) for C.
  *
  * A slice of bytes is a pointer and a length. Every call answers for every argument: nothing has to be tested before,
  * but a pointer must be that of so many bytes. A refused call stores nothing. The numbers are document 01's.

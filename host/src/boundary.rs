@@ -1,6 +1,6 @@
-//! Foreign functions: those of the proved archive as C sees them and with Rust's types, and one of C's library.
+//! Foreign functions: those of the proved archives as C sees them and with Rust's types, and one of C's library.
 //!
-//! Nothing checks these declarations against the archive, so they are few and stand together. A `&[u8]` is a pointer
+//! Nothing checks these declarations against the archives, so they are few and stand together. A `&[u8]` is a pointer
 //! and a length; the proofs cover every pointer and length that a slice can have, so the wrappers test nothing. This is
 //! the only module of the package that is unsafe.
 

@@ -1,17 +1,17 @@
-//! The calls that programs use. This is the only module that knows who answers them: the archive of proved functions
-//! where it is linked, and otherwise [`crate::reference`]. [`proved`] says which.
+//! The calls that programs use. This is the only module that knows who answers them: the archives of proved functions
+//! where they are linked, and otherwise [`crate::reference`]. [`proved`] says which.
 
 #[cfg(proved)]
-use crate::boundary as archive_or_reference;
+use crate::boundary as archives_or_reference;
 #[cfg(not(proved))]
-use crate::reference as archive_or_reference;
+use crate::reference as archives_or_reference;
 use crate::{Decimal, NoAnswer, Part, Value, Verdict};
 
 /// Every call, in the order of this module.
 pub const CALLS: [&str; 8] =
     ["judge", "value", "heading", "unit", "passage", "canonical_copy", "read_number", "write_number"];
 
-/// The calls that the archive of proved functions answers in this build.
+/// The calls that the archives of proved functions answer in this build.
 pub fn proved() -> &'static [&'static str] {
     match cfg!(proved) {
         true => &CALLS,
@@ -19,9 +19,10 @@ pub fn proved() -> &'static [&'static str] {
     }
 }
 
-/// The path of the archive that is linked, if one is.
-pub fn archive() -> Option<&'static str> {
-    option_env!("X4_ARCHIVE").filter(|_| cfg!(proved))
+/// The paths of the archives that are linked, if they are.
+pub fn archives() -> Option<[String; 2]> {
+    let folder = option_env!("X4_LINKED").filter(|_| cfg!(proved))?;
+    Some(["exports", "exports_questions"].map(|name| format!("{folder}/libx4_{name}.a")))
 }
 
 /// Who answers, in words.
@@ -33,41 +34,41 @@ pub fn who_answers() -> String {
 
 /// Judges one entry, from ENTRY to ENDENTRY.
 pub fn judge(entry: &[u8]) -> Verdict {
-    archive_or_reference::judge(entry)
+    archives_or_reference::judge(entry)
 }
 
 /// What stands in a column of a line of COMMON (section 1, line 1 only) or DATA (section 2).
 pub fn value(entry: &[u8], subentry: u32, section: u32, line: u32, column: u32) -> Result<Value, NoAnswer> {
-    archive_or_reference::value(entry, subentry, section, line, column)
+    archives_or_reference::value(entry, subentry, section, line, column)
 }
 
 /// The heading of a column: ten columns of the entry, and its pointer.
 pub fn heading(entry: &[u8], subentry: u32, section: u32, column: u32) -> Result<Part, NoAnswer> {
-    archive_or_reference::heading(entry, subentry, section, column)
+    archives_or_reference::heading(entry, subentry, section, column)
 }
 
 /// The unit of a column: ten columns of the entry, and the pointer of its heading.
 pub fn unit(entry: &[u8], subentry: u32, section: u32, column: u32) -> Result<Part, NoAnswer> {
-    archive_or_reference::unit(entry, subentry, section, column)
+    archives_or_reference::unit(entry, subentry, section, column)
 }
 
 /// The passage under a keyword (its ten bytes) and a pointer (blank for none): whole records of the entry. Bytes that
 /// are not ten are no keyword's place, and no passage is under them.
 pub fn passage(entry: &[u8], subentry: u32, keyword: &[u8], pointer: u8) -> Result<Part, NoAnswer> {
-    archive_or_reference::passage(entry, subentry, keyword, pointer)
+    archives_or_reference::passage(entry, subentry, keyword, pointer)
 }
 
 /// Writes the canonical copy of the entry to the front of the buffer. Refused, it stores nothing.
 pub fn canonical_copy(entry: &[u8], buffer: &mut [u8]) -> Result<(), NoAnswer> {
-    archive_or_reference::canonical_copy(entry, buffer)
+    archives_or_reference::canonical_copy(entry, buffer)
 }
 
 /// Reads one number field of eleven bytes.
 pub fn read_number(field: &[u8]) -> Result<Value, NoAnswer> {
-    archive_or_reference::read_number(field)
+    archives_or_reference::read_number(field)
 }
 
 /// Writes the canonical field of a value into eleven bytes. Refused, it stores nothing.
 pub fn write_number(decimal: Decimal, buffer: &mut [u8]) -> Result<(), NoAnswer> {
-    archive_or_reference::write_number(decimal, buffer)
+    archives_or_reference::write_number(decimal, buffer)
 }

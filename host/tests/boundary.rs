@@ -122,7 +122,7 @@ fn fortran_programs_get_the_same_verdicts() {
 #[test]
 fn what_is_proved_is_said() {
     let proved = library::proved();
-    assert_eq!(proved.is_empty(), library::archive().is_none());
+    assert_eq!(proved.is_empty(), library::archives().is_none());
     assert!(proved.iter().all(|call| library::CALLS.contains(call)));
     say(&format!("answered {}", library::who_answers()));
 }

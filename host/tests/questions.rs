@@ -143,9 +143,9 @@ fn fortran_programs_get_the_same_answers() {
     }
 }
 
-/// Every call is the archive's where it is linked.
+/// Every call is an archive's where they are linked.
 #[test]
 fn all_or_none_is_proved() {
-    let expected = if library::archive().is_some() { &library::CALLS[..] } else { &[] };
+    let expected = if library::archives().is_some() { &library::CALLS[..] } else { &[] };
     assert_eq!(library::proved(), expected);
 }

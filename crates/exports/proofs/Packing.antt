@@ -7,7 +7,6 @@ use native.Mathlib.Nat.{mod-eq-of-lt, mod-mod, div-eq-of-lt, add-mul-mod-self-le
 use native.Mathlib.Omega.{arith}
 use Rattle.exports.specs.Words.{packed, unpacked, InRooms, numberRooms}
 use Rattle.exports.specs.Verdicts.{totalsRooms}
-use Rattle.exports.specs.Questions.{partRooms}
 
 -- what the code makes of a coefficient, a power and a sign
 pub number-made : (c p s : ℕ)
@@ -25,14 +24,6 @@ totals-made a b c d =
     ap (λ (t : ℕ). a % 131072 + 131072 * (b % 32768 + 32768 * (c % 32768 + 32768 * t))) last
   where
     last : d % 32768 ≡ d % 32768 + 0
-    last = omega arith
-
--- what the code makes of a part
-pub part-made : (a b c : ℕ)
-    → a % 2097152 + 2097152 * (b % 2097152 + 2097152 * (c % 256)) ≡ packed partRooms (a ∷ b ∷ c ∷ 0 ∷ 0 ∷ [])
-part-made a b c = ap (λ (t : ℕ). a % 2097152 + 2097152 * (b % 2097152 + 2097152 * t)) last
-  where
-    last : c % 256 ≡ c % 256 + 0
     last = omega arith
 
 -- the lowest room, and what stands above it

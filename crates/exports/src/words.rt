@@ -2,11 +2,8 @@
 ghost use mathlib.Core.Path.{_≡_};
 ghost use Rattle.exports.specs.Words.{bit, lifted, refusedWord, numberWord, readingWord};
 ghost use Rattle.exports.specs.Verdicts.{totalsWord};
-ghost use Rattle.exports.specs.Questions.{answerWord, partWord};
 use number::value::Decimal;
 use number::value::Reading;
-use questions::ask::Answer;
-use questions::ask::PartAnswer;
 use rules::state::Totals;
 
 fn bit(b: bool) -> u64
@@ -37,14 +34,14 @@ pub(crate) fn number_word(v: Decimal) -> u64
     coefficient % 17179869184 + 17179869184 * (from + 268435456 * sign)
 }
 
-pub(crate) fn refused_word(number: u64, refusal: u64, record_no: u64, column: u64) -> u64
+pub fn refused_word(number: u64, refusal: u64, record_no: u64, column: u64) -> u64
     ensures { λ r. ⌜ r ≡ refusedWord number refusal record_no column ⌝ }
 {
     let place = record_no % 65536 + 65536 * (column % 256);
     number % 256 + 256 * (refusal % 256 + 256 * place) + 9223372036854775808
 }
 
-pub(crate) fn reading_word(said: Reading) -> u64
+pub fn reading_word(said: Reading) -> u64
     ensures { λ r. ⌜ r ≡ readingWord said ⌝ }
 {
     match said {
@@ -63,27 +60,4 @@ pub(crate) fn totals_word(t: Totals) -> u64
     let subentries = t.subentries;
     let upper = (keywords as u64) % 32768 + 32768 * ((subentries as u64) % 32768);
     (numbers as u64) % 131072 + 131072 * ((lines as u64) % 32768 + 32768 * upper)
-}
-
-pub(crate) fn answer_word(a: Answer) -> u64
-    ensures { λ r. ⌜ r ≡ answerWord a ⌝ }
-{
-    let number = a.number;
-    let refusal = a.refusal;
-    let column = a.column;
-    let at = a.record;
-    refused_word(number as u64, refusal as u64, at.0 as u64, column as u64)
-}
-
-pub(crate) fn part_word(p: PartAnswer) -> u64
-    ensures { λ r. ⌜ r ≡ partWord p ⌝ }
-{
-    let answer = p.answer;
-    if answer.number != 0 {
-        return answer_word(answer);
-    }
-    let first = p.first as u64;
-    let length = p.length as u64;
-    let pointer = p.pointer as u64;
-    first % 2097152 + 2097152 * (length % 2097152 + 2097152 * (pointer % 256))
 }

@@ -1,4 +1,4 @@
-//! The sample entry of the paper, and ways to change it; programs of other languages, compiled with the archive.
+//! The sample entry of the paper, and ways to change it; programs of other languages, compiled with the archives.
 
 #![allow(dead_code)]
 
@@ -109,17 +109,17 @@ pub fn say(words: &str) {
     std::io::stderr().write_all(format!("{words}\n").as_bytes()).unwrap();
 }
 
-/// Compiles a program with the archive; none if there is no archive or no compiler, which is said.
+/// Compiles a program with the archives; none if there are no archives or no compiler, which is said.
 pub fn compiled(compiler: &str, name: &str, arguments: &[&str], sources: &[&str]) -> Option<PathBuf> {
-    let Some(archive) = library::archive() else {
-        say(&format!("no proved archive is linked: {name} was not tried"));
+    let Some(archives) = library::archives() else {
+        say(&format!("no proved archives are linked: {name} was not tried"));
         return None;
     };
     let home = Path::new(env!("CARGO_MANIFEST_DIR"));
     let program = Path::new(env!("CARGO_TARGET_TMPDIR")).join(name);
     let sources: Vec<OsString> = sources.iter().map(|source| home.join(source).into_os_string()).collect();
     let mut command = Command::new(compiler);
-    command.current_dir(home).args(arguments).arg("-o").arg(&program).args(sources).arg(archive);
+    command.current_dir(home).args(arguments).arg("-o").arg(&program).args(sources).args(archives);
     match command.status() {
         Ok(status) => {
             assert!(status.success(), "{name} does not compile");

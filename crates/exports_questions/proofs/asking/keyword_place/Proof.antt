@@ -5,9 +5,9 @@ use Rattle.record.proofs.ReadColumns.{columns-read}
 use borrow.Author.Needs.{needs}
 use borrow.Author.Tests.{eq-eqb, ne-eqb}
 use mathlib.Core.Path.{_≡_, refl, _∙_}
-use Rattle.exports.specs.Questions.{keywordPlace}
-use Rattle.exports.proofs.asking.keyword_place.Statement.{statement}
-use Rattle.exports.proofs.asking.keyword_place.Tie as tie
+use Rattle.exports_questions.specs.Questions.{keywordPlace}
+use Rattle.exports_questions.proofs.asking.keyword_place.Statement.{statement}
+use Rattle.exports_questions.proofs.asking.keyword_place.Tie as tie
 
 returns : tie.Need-returns
 unfolding keywordPlace

@@ -1,7 +1,7 @@
 use borrow.Author.Needs.{needs}
-use Rattle.exports.specs.Questions.{answerWord}
-use Rattle.exports.proofs.words.answer_word.Statement.{statement}
-use Rattle.exports.proofs.words.answer_word.Tie as tie
+use Rattle.exports_questions.specs.Questions.{answerWord}
+use Rattle.exports_questions.proofs.words.answer_word.Statement.{statement}
+use Rattle.exports_questions.proofs.words.answer_word.Tie as tie
 
 cast-refused-word : tie.Need-cast-refused-word
 cast-refused-word c = search needs

@@ -1,9 +1,9 @@
 use mathlib.Core.Path.{refl}
 use borrow.Author.Needs.{needs}
 use borrow.Author.Tests.{eq-eqb, ne-eqb}
-use Rattle.exports.specs.Questions.{copiedWord}
-use Rattle.exports.proofs.copying.x4_copy.Statement.{statement}
-use Rattle.exports.proofs.copying.x4_copy.Tie as tie
+use Rattle.exports_questions.specs.Questions.{copiedWord}
+use Rattle.exports_questions.proofs.copying.x4_copy.Statement.{statement}
+use Rattle.exports_questions.proofs.copying.x4_copy.Tie as tie
 
 copy-requires : tie.Need-copy-requires
 copy-requires c κs = search needs

@@ -1,8 +1,8 @@
 use borrow.Author.Needs.{needs}
 use mathlib.Core.Path.{_∙_, ap}
-use Rattle.exports.specs.Questions.{partWord}
-use Rattle.exports.proofs.asking.x4_unit.Statement.{statement}
-use Rattle.exports.proofs.asking.x4_unit.Tie as tie
+use Rattle.exports_questions.specs.Questions.{partWord}
+use Rattle.exports_questions.proofs.asking.x4_unit.Statement.{statement}
+use Rattle.exports_questions.proofs.asking.x4_unit.Tie as tie
 
 unit-requires : tie.Need-unit-requires
 unit-requires c κs = search needs

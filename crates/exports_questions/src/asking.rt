@@ -1,10 +1,10 @@
 // The questions, for host programs.
 ghost use mathlib.Core.Path.{_≡_};
 ghost use Rattle.questions.specs.Ask.{valueOf, headingOf, unitOf, passageAnswer};
-ghost use Rattle.exports.specs.Questions.{valueWord, partWord, keywordPlace};
+ghost use Rattle.exports_questions.specs.Questions.{valueWord, partWord, keywordPlace};
 use crate::words::answer_word;
 use crate::words::part_word;
-use crate::words::reading_word;
+use exports::words::reading_word;
 use questions::ask::heading;
 use questions::ask::passage;
 use questions::ask::unit;
@@ -66,7 +66,8 @@ fn keyword_place(keyword: &[u8]) -> [u8; 10]
 // Where the passage with a keyword and a pointer stands.
 #[no_mangle]
 pub extern "C" fn x4_passage(entry: &[u8], subentry: u32, keyword: &[u8], pointer: u8) -> u64
-    ensures { λ r. ⌜ r ≡ partWord (passageAnswer (now (entry .entry)) subentry (keywordPlace (now (keyword .entry))) pointer) ⌝ }
+    ensures { λ r. ⌜ r
+        ≡ partWord (passageAnswer (now (entry .entry)) subentry (keywordPlace (now (keyword .entry))) pointer) ⌝ }
 {
     let place = keyword_place(keyword);
     part_word(passage(entry, subentry, place, pointer))

@@ -1,8 +1,8 @@
 use borrow.Author.Needs.{needs}
 use mathlib.Core.Path.{_∙_, ap}
-use Rattle.exports.specs.Questions.{partWord}
-use Rattle.exports.proofs.asking.x4_heading.Statement.{statement}
-use Rattle.exports.proofs.asking.x4_heading.Tie as tie
+use Rattle.exports_questions.specs.Questions.{partWord}
+use Rattle.exports_questions.proofs.asking.x4_heading.Statement.{statement}
+use Rattle.exports_questions.proofs.asking.x4_heading.Tie as tie
 
 heading-requires : tie.Need-heading-requires
 heading-requires c κs = search needs

@@ -1,9 +1,9 @@
-use Rattle.exports.proofs.Packing.{part-made}
+use Rattle.exports_questions.proofs.Rooms.{part-made}
 use borrow.Author.Needs.{needs}
 use borrow.Author.Tests.{eq-eqb, ne-eqb}
-use Rattle.exports.specs.Questions.{partWord}
-use Rattle.exports.proofs.words.part_word.Statement.{statement}
-use Rattle.exports.proofs.words.part_word.Tie as tie
+use Rattle.exports_questions.specs.Questions.{partWord}
+use Rattle.exports_questions.proofs.words.part_word.Statement.{statement}
+use Rattle.exports_questions.proofs.words.part_word.Tie as tie
 
 answer-word-requires : tie.Need-answer-word-requires
 answer-word-requires c κs = search needs

@@ -1,8 +1,8 @@
 use borrow.Author.Needs.{needs}
 use borrow.Author.Tests.{eq-eqb, ne-eqb}
-use Rattle.exports.specs.Questions.{valueWord}
-use Rattle.exports.proofs.asking.x4_value.Statement.{statement}
-use Rattle.exports.proofs.asking.x4_value.Tie as tie
+use Rattle.exports_questions.specs.Questions.{valueWord}
+use Rattle.exports_questions.proofs.asking.x4_value.Statement.{statement}
+use Rattle.exports_questions.proofs.asking.x4_value.Tie as tie
 
 value-requires : tie.Need-value-requires
 value-requires c κs = search needs

@@ -28,12 +28,12 @@ use Rattle.questions.specs.Passage.{passageOf, textAt, isKeyword, textRecords, 
 use Rattle.questions.specs.Ask.{sectionIn, columnRefusal, headingBy, headingOf, unitBy, unitOf, passageRefusal}
 use Rattle.questions.specs.Ask.{passageBy, passageAnswer, sectionRefusals, noColumn, noPassage, refusal, firstOf}
 use Rattle.questions.specs.Ask.{isRefused, isSubent, noSection, answer, answerFor, noPart, partFrom, partWith}
 use Rattle.exports.specs.Words.{refusedWord}
-use Rattle.exports.specs.Questions.{Bytes, answerWord, partRooms, partWord, partAt, partIn, keywordPlace}
+use Rattle.exports_questions.specs.Questions.{Bytes, answerWord, partRooms, partWord, partAt, partIn, keywordPlace}
 use Rattle.exports.proofs.Packing.{unpacked-packed}
 use Rattle.exports.proofs.Laws.{refused-high}
-use Rattle.exports.proofs.Refusals.{Fits, answer-fits, answer-back, answer-number, Numbered, one}
-use Rattle.exports.proofs.Refusals.{section-numbered, section-short}
+use Rattle.exports_questions.proofs.Refusals.{Fits, answer-fits, answer-back, answer-number, Numbered, one}
+use Rattle.exports_questions.proofs.Refusals.{section-numbered, section-short}
 
 -- ---- parts
 

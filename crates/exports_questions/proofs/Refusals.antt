@@ -18,11 +18,11 @@ use Rattle.questions.specs.declared.row.Row.{Row}
 use Rattle.questions.specs.declared.ask.Answer.{Answer}
 use Rattle.questions.specs.Ask.{isSubent, noSection, sectionRefusals, Refusal, refusal, firstOf, answer, answerFor}
 use Rattle.copy.proofs.Demand.{passed}
 use Rattle.exports.specs.Words.{unpacked, refusedRooms}
 use Rattle.exports.specs.Verdicts.{NearRefusal, Fitting, accepting, refusing}
-use Rattle.exports.specs.Questions.{answerWord, answerIn}
+use Rattle.exports_questions.specs.Questions.{answerWord, answerIn}
 use Rattle.exports.proofs.Sizes.{judge-fits}
 use Rattle.exports.proofs.Laws.{rooms-back}
 
 pub near-of : {v : Verdict} → Fitting v → NearRefusal (v .refusal) (v .«record») (v .column)
 near-of (accepting t h) = record { number = omega arith; «record» = omega arith; column = omega arith }

@@ -31,14 +31,14 @@ use Rattle.questions.specs.Ask.{valueOf, refusal, firstOf, answer, answerFor}
 use Rattle.questions.proofs.Records.{record-there}
 use Rattle.questions.proofs.Parts.{value-field}
 use Rattle.copy.specs.Answer.{plainly, entryRefused, copied}
 use Rattle.exports.specs.Words.{refusedWord, bit, lifted, numberWord, readingWord, readingIn}
 use Rattle.exports.specs.Verdicts.{NearRefusal}
-use Rattle.exports.specs.Questions.{answerWord, answerIn, copiedWord, copiedAt, copiedIn, refuses, valueWord}
-use Rattle.exports.specs.Questions.{valueIn}
+use Rattle.exports_questions.specs.Questions.{answerWord, answerIn, copiedWord, copiedAt, copiedIn, refuses, valueWord}
+use Rattle.exports_questions.specs.Questions.{valueIn}
 use Rattle.exports.proofs.Sizes.{judge-fits}
 use Rattle.exports.proofs.Laws.{number-low, refused-high, rooms-back, held, held-back}
-use Rattle.exports.proofs.PartWords.{field-cases}
-use Rattle.exports.proofs.Refusals.{near-of, Fits, answer-fits, answer-number, Numbered, one, section-numbered}
+use Rattle.exports_questions.proofs.PartWords.{field-cases}
+use Rattle.exports_questions.proofs.Refusals.{near-of, Fits, answer-fits, answer-number, Numbered, one, section-numbered}
 
 -- a field of an entry is eleven columns
 field-wide : (s : List ℕ) (p : Place) → p .field ≤ 5 → length (fieldOf s p) ≡ 11

@@ -2,9 +2,9 @@
 ghost use mathlib.Core.Path.{_≡_};
 ghost use lib.ListN.{length};
 ghost use Rattle.copy.specs.Answer.{copied, stored};
-ghost use Rattle.exports.specs.Questions.{copiedWord};
-use crate::words::refused_word;
+ghost use Rattle.exports_questions.specs.Questions.{copiedWord};
 use copy::copy::copy;
+use exports::words::refused_word;
 
 // Stores the copy of an entry in a buffer that may be longer: 0 done, else the word of refusal 31 or 37.
 #[no_mangle]

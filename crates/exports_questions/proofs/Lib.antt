@@ -1,0 +1,4 @@
+pub mod Rooms
+pub mod Refusals
+pub mod PartWords
+pub mod ValueWords
