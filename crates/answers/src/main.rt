@@ -5,6 +5,7 @@
 // the first byte, the length, the pointer and the part.
 ghost use Prim.Native.Nat.{_≤_};
 ghost use lib.ListN.{length};
+use columns::columns::LineNo;
 use number::value::Decimal;
 use number::value::Reading;
 use questions::ask::Answer;
@@ -16,7 +17,6 @@ use questions::ask::passage_part;
 use questions::ask::unit;
 use questions::ask::unit_part;
 use questions::ask::value;
-use record::columns::LineNo;
 
 fn say(word: &[u8], n: u64) {
     io::write_all(1, word);

@@ -19,8 +19,8 @@ use Rattle.canonical.specs.Replacing.{canonical, Formed}
 use Rattle.canonical.proofs.Laws.{canonical-length, canonical-same, canonical-alike, canonical-again}
 use Rattle.number.specs.Form.{formOf}
 use Rattle.record.specs.Numbers.{formAt, noValue}
-use Rattle.record.specs.Class.{isPermitted}
-use Rattle.record.specs.Fields.{fieldAt}
+use Rattle.columns.specs.Class.{isPermitted}
+use Rattle.columns.specs.Fields.{fieldAt}
 use Rattle.record.specs.Identifier.{identifierOf}
 use Rattle.copy.specs.Copy.{copyField}
 use Rattle.copy.specs.Demand.{AlikeField}

@@ -12,11 +12,11 @@ use Rattle.laws.specs.Blocks.{blockAt}
 use Rattle.laws.specs.Pasting.{pasteTurn, bytesLeft}
 use Rattle.laws.specs.Replacing.{replaced, mask}
 use Rattle.laws.proofs.Turns.{Run, run-all, run-next, run-out, run-done}
-use Rattle.record.specs.Columns.{Whole, columnsAt, recordOf}
+use Rattle.columns.specs.Columns.{Whole, columnsAt, recordOf}
 use Rattle.record.specs.Identifier.{identifierOf}
-use Rattle.rules.specs.declared.fault.Fault.the-variants.{Fine, At}
-use Rattle.rules.specs.State.{MOST-RECORDS, Stands}
-use Rattle.rules.specs.Role.{roleIn}
+use Rattle.rules_state.specs.declared.fault.Fault.the-variants.{Fine, At}
+use Rattle.rules_state.specs.State.{MOST-RECORDS, Stands}
+use Rattle.rules_state.specs.Role.{roleIn}
 use Rattle.entry.specs.declared.step.Judge.{Judge}
 use Rattle.entry.specs.declared.step.Step.{Step}
 use Rattle.entry.specs.Numbers.{contextOf, startJudge, onStep, Within, Stepped, Ready}

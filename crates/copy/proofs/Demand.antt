@@ -25,9 +25,9 @@ use Rattle.number.specs.declared.value.Reading.{Reading}
 use Rattle.number.specs.declared.value.Reading.the-variants.{Blank, Number, Refused}
 use Rattle.number.specs.Form.{formOf}
 use Rattle.number.specs.Reading.{readField}
-use Rattle.record.specs.Fields.{fieldAt}
+use Rattle.columns.specs.Fields.{fieldAt}
 use Rattle.record.specs.Numbers.{noValue}
-use Rattle.rules.specs.State.{Context, startContext, MOST-RECORDS}
+use Rattle.rules_state.specs.State.{Context, startContext, MOST-RECORDS}
 use Rattle.entry.specs.Verdict.{turnOf, endOf, lengthGood, refused, judgeOf, Accepted}
 use Rattle.copy.specs.Copy.{maskOf, copyRecord, recordsOf, numberField, fieldIn, copyOf}
 use Rattle.copy.specs.Demand.{AlikeField, inNumber, SameNumbers, CopyAccepted, CopyAgain, OneCopy}

@@ -15,16 +15,16 @@ use Rattle.laws.specs.Replacing.{replaced, Each, FieldsAlike}
 use Rattle.laws.proofs.Replacing.{each-of, length-mask, mask-at}
 use Rattle.laws.proofs.Booleans.{and-left}
 use Rattle.number.specs.Reading.{readField}
-use Rattle.record.specs.Class.{isPermitted}
-use Rattle.record.specs.Fields.{fieldAt, fieldsOf}
+use Rattle.columns.specs.Class.{isPermitted}
+use Rattle.columns.specs.Fields.{fieldAt, fieldsOf}
 use Rattle.record.specs.Identifier.{identifierOf}
-use Rattle.record.proofs.ReadColumns.{field-of}
-use Rattle.rules.specs.declared.fault.Fault.the-variants.{Fine}
-use Rattle.rules.specs.State.{Context, used}
-use Rattle.rules.specs.Role.{isValue, roleIn}
-use Rattle.rules.specs.Every.{rule3}
+use Rattle.columns.proofs.ReadColumns.{field-of}
+use Rattle.rules_state.specs.declared.fault.Fault.the-variants.{Fine}
+use Rattle.rules_state.specs.State.{Context, used}
+use Rattle.rules_state.specs.Role.{isValue, roleIn}
+use Rattle.rules_system.specs.Every.{rule3}
 use Rattle.rules.specs.Order.{faultOf}
-use Rattle.entry.specs.Next.{contextAfter}
+use Rattle.entry_next.specs.Next.{contextAfter}
 use Rattle.entry.specs.Verdict.{roleOf, turnOf}
 use Rattle.copy.specs.Copy.{numberIn, maskOf, copyField, copyRecord}
 use Rattle.copy.specs.Demand.{AlikeField}

@@ -12,7 +12,7 @@ use Rattle.laws.specs.Copies.{copies}
 use Rattle.laws.specs.Pasting.{Copying, pasteTurn, copyTurn, bytesLeft}
 use Rattle.laws.proofs.Agree.{Agree, runs-agree}
 use Rattle.laws.proofs.Pasting.{copy-pasted}
-use Rattle.rules.specs.State.{Context, startContext, MOST-RECORDS}
+use Rattle.rules_state.specs.State.{Context, startContext, MOST-RECORDS}
 use Rattle.entry.specs.declared.step.Judge.{Judge}
 use Rattle.entry.specs.declared.verdict.Verdict.{Verdict}
 use Rattle.entry.specs.Verdict.{turnOf, Accepted}

@@ -13,8 +13,8 @@ use Rattle.laws.proofs.Search.{either}
 use Rattle.laws.proofs.Blocks.{length-blocks, block-at}
 use Rattle.laws.proofs.Copies.{copies-marks, copies-at}
 use Rattle.number.specs.Reading.{readField}
-use Rattle.record.specs.Fields.{fieldAt}
-use Rattle.rules.specs.State.{startContext}
+use Rattle.columns.specs.Fields.{fieldAt}
+use Rattle.rules_state.specs.State.{startContext}
 use Rattle.entry.specs.Verdict.{roleOf, turnOf, Accepted}
 use Rattle.copy.specs.Copy.{copyRecord, recordsOf, fieldIn, copyOf}
 use Rattle.copy.specs.Demand.{CopyFields, CopyReads, CopyPart, CopyContexts, CopyRoles}

@@ -10,11 +10,11 @@ use lib.Seq.{paste, length-take-le, take-take}
 use Rattle.laws.specs.Replacing.{replaced, Each, mask}
 use Rattle.laws.proofs.Replacing.{each-of, length-mask, mask-at, length-copy, field-of-copy, behind-copy}
 use Rattle.canonical.proofs.Laws.{canonical-length}
-use Rattle.record.specs.Fields.{fieldAt, fieldsOf}
+use Rattle.columns.specs.Fields.{fieldAt, fieldsOf}
 use Rattle.record.specs.Identifier.{identifierOf}
-use Rattle.record.proofs.ReadColumns.{field-of}
-use Rattle.rules.specs.State.{Context}
-use Rattle.rules.specs.Role.{roleIn}
+use Rattle.columns.proofs.ReadColumns.{field-of}
+use Rattle.rules_state.specs.State.{Context}
+use Rattle.rules_state.specs.Role.{roleIn}
 use Rattle.copy.specs.Copy.{valueField, numberIn, maskOf, copyField, copyRecord}
 use Rattle.copy.proofs.Pasted.{paste-more}
 

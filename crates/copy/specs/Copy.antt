@@ -11,10 +11,10 @@ use Rattle.laws.specs.Blocks.{blocks, joined, blockAt}
 use Rattle.laws.specs.Copies.{copies, marks}
 use Rattle.laws.specs.Replacing.{replaced, mask}
 use Rattle.canonical.specs.Replacing.{canonical}
-use Rattle.record.specs.Fields.{fieldAt}
-use Rattle.rules.specs.declared.state.Track.{Track}
-use Rattle.rules.specs.State.{Context, startContext, used}
-use Rattle.rules.specs.Role.{isValue}
+use Rattle.columns.specs.Fields.{fieldAt}
+use Rattle.rules_state.specs.declared.state.Track.{Track}
+use Rattle.rules_state.specs.State.{Context, startContext, used}
+use Rattle.rules_state.specs.Role.{isValue}
 use Rattle.entry.specs.Verdict.{roleOf, turnOf}
 
 -- ---- number fields

@@ -15,7 +15,7 @@ use Rattle.number.specs.declared.value.Decimal.{Decimal}
 use Rattle.number.specs.declared.value.Reading.{Reading}
 use Rattle.number.specs.declared.value.Reading.the-variants.{Blank, Number}
 use Rattle.number.specs.Reading.{readField}
-use Rattle.rules.specs.State.{Context, startContext}
+use Rattle.rules_state.specs.State.{Context, startContext}
 use Rattle.entry.specs.Verdict.{roleOf, turnOf, judgeOf, Accepted}
 use Rattle.copy.specs.Answer.{plainly, copied, stored}
 use Rattle.copy.specs.Copy.{recordsOf, numberField, fieldIn, copyOf}

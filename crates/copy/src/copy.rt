@@ -1,22 +1,23 @@
 // The call.
 ghost use mathlib.Core.Path.{_≡_};
 ghost use lib.ListN.{length};
-ghost use Rattle.record.specs.Columns.{Whole, columnsAt};
+ghost use Rattle.columns.specs.Columns.{Whole, columnsAt};
 ghost use Rattle.record.specs.Identifier.{NamesLent, identifierOf};
-ghost use Rattle.rules.specs.Role.{roleIn};
+ghost use Rattle.rules_state.specs.Role.{roleIn};
 ghost use Rattle.copy.specs.Answer.{plainly, copied, stored};
 ghost use Rattle.copy.specs.Storing.{Room, copiedInto};
 use crate::records::copy_record;
+use columns::class::classes;
+use columns::columns::RecordNo;
+use columns::fields::field;
 use entry::step::Judge;
 use entry::verdict::judge;
 use number::form::kinds;
 use number::form::nexts;
-use record::class::classes;
-use record::columns::RecordNo;
-use record::fields::field;
+use record::identifier::Names;
 use record::identifier::identifier_of;
 use record::identifier::names;
-use rules::fault::Fault;
+use rules_state::fault::Fault;
 
 // Document 01's number: 0 copied, 31 entry refused, 37 buffer shorter than the entry. Beside 31 stand the entry's
 // refusal, its record and its column; else zeros.
@@ -39,7 +40,7 @@ fn plain(number: u8) -> Copied
 }
 
 // The role of a record.
-fn role_of(j: Judge, names: &[u8; 154], rec: &[u8]) -> usize
+fn role_of(j: Judge, names: &Names, rec: &[u8]) -> usize
     requires { ⌜ NamesLent (now names) × Whole (now rec) ⌝ }
     ensures { λ r. ⌜ r ≡ roleIn (j .phase) (j .track) (identifierOf (columnsAt 0 11 (now (rec .entry)))) ⌝ }
 {

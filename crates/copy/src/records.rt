@@ -4,13 +4,13 @@ ghost use Prim.Native.Nat.{_+_, _≤_};
 ghost use lib.ListN.{length, drop};
 ghost use lib.Seq.{paste};
 ghost use Rattle.laws.specs.Replacing.{replaced, mask};
-ghost use Rattle.record.specs.Columns.{Whole};
+ghost use Rattle.columns.specs.Columns.{Whole};
 ghost use Rattle.copy.specs.Copy.{valueField, copyField};
 use crate::fields::put_field;
-use record::fields::field;
-use rules::role::COMMON_VALUE;
-use rules::role::DATA_VALUE;
-use rules::state::Track;
+use columns::fields::field;
+use rules_state::role::COMMON_VALUE;
+use rules_state::role::DATA_VALUE;
+use rules_state::state::Track;
 
 // Whether the field k of a record with this role is a value field.
 fn is_value_field(t: Track, role: usize, k: usize) -> bool

@@ -13,19 +13,19 @@ use Rattle.laws.specs.Copies.{Passing, copies}
 use Rattle.laws.proofs.Search.{either}
 use Rattle.laws.proofs.Blocks.{block-at, next-block}
 use Rattle.number.specs.Reading.{readField}
-use Rattle.record.specs.Fields.{fieldsOf}
+use Rattle.columns.specs.Fields.{fieldsOf}
 use Rattle.record.specs.Identifier.{identifierOf}
-use Rattle.record.specs.declared.columns.RecordNo.{RecordNo}
-use Rattle.record.specs.declared.columns.Place.{Place}
-use Rattle.record.proofs.ReadColumns.{field-of}
-use Rattle.rules.specs.State.{Context, startContext}
-use Rattle.rules.specs.Role.{isValue}
+use Rattle.columns.specs.declared.columns.RecordNo.{RecordNo}
+use Rattle.columns.specs.declared.columns.Place.{Place}
+use Rattle.columns.proofs.ReadColumns.{field-of}
+use Rattle.rules_state.specs.State.{Context, startContext}
+use Rattle.rules_state.specs.Role.{isValue}
 use Rattle.entry.specs.Verdict.{turnOf, Accepted}
 use Rattle.entry.proofs.GoingOn.{go-fine}
 use Rattle.entry.specs.Contexts.{contextAt, roleAt, behind}
-use Rattle.questions.specs.Place.{hasRecord, fieldsAt, identifierAt, fieldOf}
+use Rattle.questions_places.specs.Place.{hasRecord, fieldsAt, identifierAt, fieldOf}
 use Rattle.inside.proofs.Contexts.{Walked, walked, context-start, context-next}
-use Rattle.questions.proofs.Records.{record-there}
+use Rattle.questions_places.proofs.Records.{record-there}
 use Rattle.inside.proofs.RowWalked.{fields-at}
 use Rattle.copy.specs.Copy.{copyRecord, recordsOf, copyOf}
 use Rattle.copy.proofs.FaithfulRecords.{identifier-kept, not-copied, faithful}

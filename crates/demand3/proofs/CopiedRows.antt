@@ -10,12 +10,12 @@ use lib.Dec.{eqb}
 use lib.ListN.{length}
 use Rattle.laws.specs.Blocks.{blockAt}
 use Rattle.laws.specs.Copies.{Passing}
-use Rattle.record.specs.Columns.{recordOf}
-use Rattle.record.specs.Fields.{fieldsOf}
+use Rattle.columns.specs.Columns.{recordOf}
+use Rattle.columns.specs.Fields.{fieldsOf}
 use Rattle.record.specs.Identifier.{BIB, COMMON, DATA}
-use Rattle.record.specs.declared.columns.RecordNo.{RecordNo}
-use Rattle.rules.specs.declared.state.Track.{Track}
-use Rattle.rules.specs.Role.{opensSubentry, isValue}
+use Rattle.columns.specs.declared.columns.RecordNo.{RecordNo}
+use Rattle.rules_state.specs.declared.state.Track.{Track}
+use Rattle.rules_state.specs.Role.{opensSubentry, isValue}
 use Rattle.rules.proofs.WithoutFault.{of-values}
 use Rattle.entry.specs.Verdict.{roleOf, turnOf, Accepted}
 use Rattle.entry.specs.Contexts.{contextAt, roleAt}
@@ -23,7 +23,7 @@ use Rattle.entry.proofs.Contexts.{records-at}
 use Rattle.questions.specs.declared.row.Row.{Row}
 use Rattle.questions.specs.Row.{NONE, withFirst, withBib, withCommon, withData, noted, subentryIn, notedAs}
 use Rattle.questions.specs.Row.{noteOf, rowOf}
-use Rattle.questions.specs.Place.{COMMON-SECTION, DATA-SECTION, fieldsAt, shapeOf}
+use Rattle.questions_places.specs.Place.{COMMON-SECTION, DATA-SECTION, fieldsAt, shapeOf}
 use Rattle.questions.specs.Ask.{sectionIn}
 use Rattle.inside.proofs.Contexts.{walked}
 use Rattle.inside.proofs.RowWalked.{rowAt, found-row}

@@ -9,19 +9,19 @@ use native.Mathlib.Nat.{suc-mul, zero-mul}
 use lib.Dec.{eqb}
 use borrow.Author.Tests.{eqb-true, eqb-false}
 use Rattle.laws.specs.Blocks.{blockAt}
-use Rattle.record.specs.Columns.{recordsFor}
-use Rattle.record.specs.Fields.{fieldsOf}
+use Rattle.columns.specs.Columns.{recordsFor}
+use Rattle.columns.specs.Fields.{fieldsOf}
 use Rattle.record.specs.Word.{pointerOf}
-use Rattle.record.specs.declared.columns.RecordNo.{RecordNo}
-use Rattle.record.specs.declared.columns.Place.{Place}
-use Rattle.rules.specs.Role.{isValue}
-use Rattle.rules.specs.System.{countN1}
+use Rattle.columns.specs.declared.columns.RecordNo.{RecordNo}
+use Rattle.columns.specs.declared.columns.Place.{Place}
+use Rattle.rules_state.specs.Role.{isValue}
+use Rattle.rules_system.specs.System.{countN1}
 use Rattle.entry.specs.declared.verdict.Verdict.{Verdict}
 use Rattle.entry.specs.Verdict.{Accepted}
 use Rattle.questions.specs.declared.row.Row.{Row}
-use Rattle.questions.specs.declared.place.Shape.{Shape}
+use Rattle.questions_places.specs.declared.place.Shape.{Shape}
 use Rattle.questions.specs.Row.{NONE, rowOf}
-use Rattle.questions.specs.Place.{COMMON-SECTION, DATA-SECTION, shapeOf, headingPlace, unitPlace, fieldOf, byteOf}
+use Rattle.questions_places.specs.Place.{COMMON-SECTION, DATA-SECTION, shapeOf, headingPlace, unitPlace, fieldOf, byteOf}
 use Rattle.questions.specs.Ask.{Refusal, refusal, firstOf, isRefused, isSubent, sectionIn, noSection, sectionRefusals}
 use Rattle.questions.specs.Ask.{noColumn, columnRefusal, headingBy, headingOf, unitBy, unitOf}
 use Rattle.questions.proofs.Refusals.{column-inside}

@@ -8,13 +8,13 @@ use native.Mathlib.Omega.{arith}
 use lib.Dec.{eqb, leb}
 use lib.ListN.{length, take, drop, getD}
 use borrow.Author.Tests.{eqb-true, leb-true}
-use Rattle.rules.specs.Role.{isValue}
-use Rattle.record.specs.declared.columns.RecordNo.{RecordNo}
+use Rattle.rules_state.specs.Role.{isValue}
+use Rattle.columns.specs.declared.columns.RecordNo.{RecordNo}
 use Rattle.entry.specs.declared.verdict.Verdict.{Verdict}
 use Rattle.entry.specs.Verdict.{Accepted}
 use Rattle.entry.specs.Contexts.{roleAt}
 use Rattle.questions.specs.declared.ask.PartAnswer.{PartAnswer}
-use Rattle.questions.specs.Place.{fieldsAt}
+use Rattle.questions_places.specs.Place.{fieldsAt}
 use Rattle.questions.specs.Ask.{answer, answerFor, noPart, partWith}
 use Rattle.copy.specs.Copy.{copyOf}
 use Rattle.copy.proofs.Demand.{passed, copy-long, byte-of}

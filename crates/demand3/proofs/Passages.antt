@@ -11,15 +11,15 @@ use borrow.Author.Tests.{eq-eqb, ltb-true}
 use Rattle.laws.specs.Search.{first}
 use Rattle.laws.proofs.Search.{first-to, first-same}
 use Rattle.record.specs.System.{integerOf}
-use Rattle.record.specs.declared.columns.RecordNo.{RecordNo}
-use Rattle.rules.specs.System.{countN2}
+use Rattle.columns.specs.declared.columns.RecordNo.{RecordNo}
+use Rattle.rules_system.specs.System.{countN2}
 use Rattle.entry.specs.declared.verdict.Verdict.{Verdict}
 use Rattle.entry.specs.Verdict.{Accepted}
-use Rattle.questions.specs.declared.passage.Passage.{Passage}
+use Rattle.questions_places.specs.declared.passage.Passage.{Passage}
 use Rattle.questions.specs.Row.{rowOf}
-use Rattle.questions.specs.Place.{fieldsAt, firstByte}
-use Rattle.questions.specs.Passage.{textRecords, textRecord, textAt, hasKeyword, isKeyword, begins, beginsWith}
-use Rattle.questions.specs.Passage.{firstText, NO-PASSAGE, passageUnder, passageOf}
+use Rattle.questions_places.specs.Place.{fieldsAt, firstByte}
+use Rattle.questions_places.specs.Passage.{textRecords, textRecord, textAt, hasKeyword, isKeyword, begins, beginsWith}
+use Rattle.questions_places.specs.Passage.{firstText, NO-PASSAGE, passageUnder, passageOf}
 use Rattle.questions.specs.Ask.{passageRefusal, passageBy, passageAnswer}
 use Rattle.inside.proofs.TextLaid.{row-texts}
 use Rattle.copy.specs.Copy.{copyOf}

@@ -3,16 +3,16 @@
 use Prim.Native.Nat.{ℕ}
 use mathlib.Core.Path.{_≡_, ap}
 use mathlib.Core.List.{List}
-use Rattle.record.specs.Columns.{placeOf}
-use Rattle.record.specs.declared.columns.LineNo.{LineNo}
-use Rattle.record.specs.declared.columns.RecordNo.{RecordNo}
+use Rattle.columns.specs.Columns.{placeOf}
+use Rattle.columns.specs.declared.columns.LineNo.{LineNo}
+use Rattle.columns.specs.declared.columns.RecordNo.{RecordNo}
 use Rattle.entry.specs.declared.verdict.Verdict.{Verdict}
 use Rattle.entry.specs.Verdict.{Accepted}
 use Rattle.questions.specs.declared.row.Row.{Row}
-use Rattle.questions.specs.declared.place.Shape.{Shape}
+use Rattle.questions_places.specs.declared.place.Shape.{Shape}
 use Rattle.questions.specs.declared.ask.ValueAnswer.{ValueAnswer}
 use Rattle.questions.specs.Row.{rowOf}
-use Rattle.questions.specs.Place.{shapeOf}
+use Rattle.questions_places.specs.Place.{shapeOf}
 use Rattle.questions.specs.Ask.{sectionIn, valueRefusal, valueBy, valueOf}
 use Rattle.copy.specs.Copy.{copyOf}
 use Rattle.copy.proofs.Demand.{copy-accepted}

@@ -3,7 +3,7 @@
 use Prim.Native.Nat.{ℕ}
 use mathlib.Core.Path.{_≡_}
 use mathlib.Core.List.{List}
-use Rattle.record.specs.declared.columns.LineNo.{LineNo}
+use Rattle.columns.specs.declared.columns.LineNo.{LineNo}
 use Rattle.entry.specs.Verdict.{Accepted}
 use Rattle.questions.specs.declared.ask.ValueAnswer.{ValueAnswer}
 use Rattle.questions.specs.declared.ask.PartAnswer.{PartAnswer}

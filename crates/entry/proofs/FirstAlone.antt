@@ -9,9 +9,9 @@ use native.Mathlib.Omega.{arith}
 use borrow.Author.Tests.{leb-true, leb-false}
 use lib.Dec.{leb}
 use lib.ListN.{length, getD}
-use Rattle.rules.specs.Fault.{leftmost, Finding}
+use Rattle.rules_state.specs.Fault.{leftmost, Finding}
 use Rattle.rules.specs.Order.{Before, noFinding, Least}
-use Rattle.rules.proofs.EitherWay.{no}
+use Rattle.rules_state.proofs.EitherWay.{no}
 use Rattle.entry.specs.declared.verdict.Verdict.{Verdict}
 use Rattle.entry.specs.Verdict.{refused, judgeOf}
 use Rattle.entry.specs.First.{foundAt, Nothing, NothingBefore, FirstAt, First, by-length, by-record, by-end}

@@ -13,11 +13,11 @@ use Rattle.laws.specs.Turns.{Turn, after, run}
 use Rattle.laws.specs.Walk.{walk}
 use Rattle.laws.specs.Blocks.{blocks, blockAt}
 use Rattle.laws.proofs.Blocks.{run-walk}
-use Rattle.record.specs.Columns.{recordOf}
-use Rattle.record.specs.Fields.{fieldsOf}
-use Rattle.rules.specs.declared.fault.Fault.{Fault}
-use Rattle.rules.specs.declared.fault.Fault.the-variants.{Fine, At}
-use Rattle.rules.specs.State.{Context, startContext}
+use Rattle.columns.specs.Columns.{recordOf}
+use Rattle.columns.specs.Fields.{fieldsOf}
+use Rattle.rules_state.specs.declared.fault.Fault.{Fault}
+use Rattle.rules_state.specs.declared.fault.Fault.the-variants.{Fine, At}
+use Rattle.rules_state.specs.State.{Context, startContext}
 use Rattle.rules.specs.Order.{faultOf, Least}
 use Rattle.rules.proofs.Least.{fault-least, fault-none}
 use Rattle.entry.specs.declared.verdict.Verdict.{Verdict}

@@ -12,18 +12,20 @@ use Rattle.laws.specs.Turns.{go, out}
 use Rattle.laws.specs.Walk.{All}
 use Rattle.laws.specs.Copies.{Passing}
 use Rattle.number.specs.Reading.{readField}
-use Rattle.record.specs.Columns.{recordOf}
-use Rattle.record.specs.Fields.{fieldsOf}
-use Rattle.rules.specs.declared.fault.Fault.{Fault}
-use Rattle.rules.specs.declared.fault.Fault.the-variants.{Fine, At}
-use Rattle.rules.specs.State.{Context, used}
-use Rattle.rules.specs.Role.{COMMON-VALUE, DATA-VALUE, isValue}
-use Rattle.rules.specs.Fault.{leftmost, Finding, firstFault}
-use Rattle.rules.specs.Values.{optional, valuesFor}
+use Rattle.columns.specs.Columns.{recordOf}
+use Rattle.columns.specs.Fields.{fieldsOf}
+use Rattle.rules_state.specs.declared.fault.Fault.{Fault}
+use Rattle.rules_state.specs.declared.fault.Fault.the-variants.{Fine, At}
+use Rattle.rules_state.specs.State.{Context, used}
+use Rattle.rules_state.specs.Role.{COMMON-VALUE, DATA-VALUE, isValue}
+use Rattle.rules_state.specs.Fault.{leftmost, Finding, firstFault}
+use Rattle.rules_section.specs.Values.{optional, valuesFor}
 use Rattle.rules.specs.Order.{findings, faultOf}
 use Rattle.entry.specs.declared.verdict.Verdict.{Verdict}
-use Rattle.entry.specs.Next.{trackAfter, afterInside, partAfter, bibChange, underChange, tableChange}
-use Rattle.entry.specs.Next.{seenAfter, contextAfter}
+use Rattle.entry_next.specs.Counted.{trackAfter, afterInside}
+use Rattle.entry_next.specs.Parts.{partAfter, bibChange, underChange, tableChange}
+use Rattle.entry_next.specs.Parts.{seenAfter}
+use Rattle.entry_next.specs.Next.{contextAfter}
 use Rattle.entry.specs.Verdict.{roleOf, accepted, refused, onFault, turnAs, turnOf, isDone, endOf}
 use Rattle.record.proofs.Readings.{values-same}
 use Rattle.rules.proofs.WithoutFault.{of-values}

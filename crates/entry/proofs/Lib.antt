@@ -1,5 +1,3 @@
-pub mod Counting
-pub mod Following
 pub mod Numbered
 pub mod Stepping
 pub mod GoingOn

@@ -14,21 +14,22 @@ use Rattle.laws.specs.Blocks.{blocks, blockAt}
 use Rattle.laws.specs.Walk.{walk}
 use Rattle.laws.proofs.Agree.{Agree, runs-agree}
 use Rattle.laws.proofs.Blocks.{run-walk}
-use Rattle.record.specs.Columns.{recordOf}
-use Rattle.record.specs.Fields.{fieldsOf}
+use Rattle.columns.specs.Columns.{recordOf}
+use Rattle.columns.specs.Fields.{fieldsOf}
 use Rattle.record.specs.Identifier.{identifierOf}
-use Rattle.rules.specs.declared.fault.Fault.{Fault}
-use Rattle.rules.specs.declared.fault.Fault.the-variants.{Fine, At}
-use Rattle.rules.specs.State.{Context, startContext, MOST-RECORDS, Bounded, AllPlaced, seenOf}
+use Rattle.rules_state.specs.declared.fault.Fault.{Fault}
+use Rattle.rules_state.specs.declared.fault.Fault.the-variants.{Fine, At}
+use Rattle.rules_state.specs.State.{Context, startContext, MOST-RECORDS, Bounded, AllPlaced, seenOf}
 use Rattle.rules.specs.Order.{faultOf}
 use Rattle.entry.specs.declared.step.Judge.{Judge}
-use Rattle.entry.specs.Next.{trackAfter, contextAfter}
+use Rattle.entry_next.specs.Counted.{trackAfter}
+use Rattle.entry_next.specs.Next.{contextAfter}
 use Rattle.entry.specs.Verdict.{roleOf, refused, onFault, turnAs, turnOf, endOf, lengthGood, judgeOf}
 use Rattle.entry.specs.Numbers.{contextOf, judgeAfter, stepFor, stepAs, stepOf, startJudge, onStep, stepTurn}
 use Rattle.entry.specs.Numbers.{finishOf, judgeByNumbers}
-use Rattle.entry.proofs.Counting.{Follows, track-follows}
+use Rattle.entry_next.proofs.Counting.{Follows, track-follows}
 use Rattle.entry.proofs.Stepping.{next-bytes}
-use Rattle.entry.proofs.Following.{Joins, all-placed, seen-next, reaches, joins-next}
+use Rattle.entry_next.proofs.Following.{Joins, all-placed, seen-next, reaches, joins-next}
 
 module _ (s : List ℕ) (n : ℕ) (whole : length s ≡ n * 81) (few : n ≤ MOST-RECORDS) where
   -- the context before the record with the index i, and the numbers that stand for it

@@ -9,13 +9,13 @@ use lib.ListN.{length, take, length-append}
 use lib.Seq.{take-add, length-take-le}
 use Rattle.laws.specs.Blocks.{blockAt}
 use Rattle.laws.proofs.Turns.{Run, run-all}
-use Rattle.rules.specs.State.{Stands}
+use Rattle.rules_state.specs.State.{Stands}
 use Rattle.entry.specs.declared.step.Judge.{Judge}
-use Rattle.entry.specs.Next.{trackAfter}
+use Rattle.entry_next.specs.Counted.{trackAfter}
 use Rattle.entry.specs.Verdict.{lengthGood}
 use Rattle.entry.specs.Numbers.{judgeAfter, startJudge, stepTurn, finishOf, judgeByNumbers, Ready}
-use Rattle.entry.proofs.Counting.{Follows, track-follows}
-use Rattle.entry.proofs.Following.{all-placed}
+use Rattle.entry_next.proofs.Counting.{Follows, track-follows}
+use Rattle.entry_next.proofs.Following.{all-placed}
 
 -- the state after a record stands before the next one
 pub stands-after : (j : Judge) (before rec : List ℕ) → Ready j before rec → (role : ℕ) (fs : List (List ℕ))

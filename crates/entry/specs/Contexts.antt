@@ -2,9 +2,9 @@
 use Prim.Native.Nat.{ℕ, zero, suc}
 use mathlib.Core.List.{List}
 use Rattle.laws.specs.Blocks.{blockAt}
-use Rattle.record.specs.Fields.{fieldsOf}
-use Rattle.rules.specs.State.{Context, startContext}
-use Rattle.entry.specs.Next.{contextAfter}
+use Rattle.columns.specs.Fields.{fieldsOf}
+use Rattle.rules_state.specs.State.{Context, startContext}
+use Rattle.entry_next.specs.Next.{contextAfter}
 use Rattle.entry.specs.Verdict.{roleOf}
 
 -- the context behind a record without fault

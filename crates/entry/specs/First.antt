@@ -10,9 +10,9 @@ use mathlib.Core.Bool.{true, false}
 use mathlib.Core.List.{List, []}
 use lib.ListN.{length, getD}
 use Rattle.laws.specs.Blocks.{blockAt}
-use Rattle.record.specs.Fields.{fieldsOf}
-use Rattle.rules.specs.State.{Context}
-use Rattle.rules.specs.Fault.{Finding}
+use Rattle.columns.specs.Fields.{fieldsOf}
+use Rattle.rules_state.specs.State.{Context}
+use Rattle.rules_state.specs.Fault.{Finding}
 use Rattle.rules.specs.Order.{findings, noFinding, Least}
 use Rattle.entry.specs.declared.verdict.Verdict.{Verdict}
 use Rattle.entry.specs.Verdict.{refused, accepted, roleOf, isDone, lengthGood, judgeOf}

@@ -1,4 +1,3 @@
-pub mod Next
 pub mod Verdict
 pub mod Numbers
 pub mod Contexts

@@ -8,62 +8,28 @@ use lib.Dec.{eqb}
 use lib.ListN.{length, take, getD}
 use Rattle.laws.specs.Turns.{Turn, go, out, run}
 use Rattle.laws.specs.Blocks.{blockAt}
-use Rattle.record.specs.Columns.{Whole, recordOf}
-use Rattle.record.specs.Fields.{fieldsOf}
-use Rattle.record.specs.Identifier.{ENDCOMMON}
-use Rattle.record.specs.declared.columns.Index.{Index}
-use Rattle.record.specs.declared.columns.RecordNo.{RecordNo}
-use Rattle.rules.specs.declared.state.Phase.the-variants.{Start}
-use Rattle.rules.specs.declared.state.Track.{Track}
-use Rattle.rules.specs.declared.state.Range.{Range}
-use Rattle.rules.specs.declared.state.Ranges.{Ranges}
-use Rattle.rules.specs.declared.fault.Fault.{Fault}
-use Rattle.rules.specs.declared.fault.Fault.the-variants.{Fine, At}
-use Rattle.rules.specs.State.{Context, MOST-RECORDS, startTrack, seenOf, Stands}
-use Rattle.rules.specs.Role.{opensSubentry}
+use Rattle.columns.specs.Columns.{Whole, recordOf}
+use Rattle.columns.specs.Fields.{fieldsOf}
+use Rattle.columns.specs.declared.columns.RecordNo.{RecordNo}
+use Rattle.rules_state.specs.declared.state.Phase.the-variants.{Start}
+use Rattle.rules_state.specs.declared.state.Track.{Track}
+use Rattle.rules_state.specs.declared.state.Range.{Range}
+use Rattle.rules_state.specs.declared.state.Ranges.{Ranges}
+use Rattle.rules_state.specs.declared.fault.Fault.{Fault}
+use Rattle.rules_state.specs.declared.fault.Fault.the-variants.{Fine, At}
+use Rattle.rules_state.specs.State.{Context, MOST-RECORDS, startTrack, seenOf, Stands}
 use Rattle.rules.specs.Order.{faultOf}
-use Rattle.entry.specs.declared.next.Change.{Change}
-use Rattle.entry.specs.declared.next.Change.the-variants.{Kept, Emptied, Begun, Joined}
 use Rattle.entry.specs.declared.step.Judge.{Judge}
 use Rattle.entry.specs.declared.step.Step.{Step}
 use Rattle.entry.specs.declared.verdict.Verdict.{Verdict}
-use Rattle.entry.specs.Next.{phaseAfter, trackAfter, bibChange, underChange, tableChange, ends001}
+use Rattle.entry_next.specs.Due.{phaseAfter}
+use Rattle.entry_next.specs.Counted.{trackAfter}
+use Rattle.entry_next.specs.Ranging.{rangesAfter}
 use Rattle.entry.specs.Verdict.{roleOf, refused, accepted, isDone, lengthGood}
 
 -- the context that the numbers stand for, where `before` is all that stands before the record in hand
 abbrev pub contextOf : List ℕ → Judge → Context
 contextOf before j = record { phase = j .phase; track = j .track; seen = seenOf before (j .ranges) }
-
--- the index behind i
-abbrev pub behind : Index → Index
-behind i = record { 0 = i .0 + 1 }
-
--- no record yet, the next one may join
-abbrev pub none : Index → Range
-none n = record { from = n; past = n }
-
--- the records of a part, after the record with the index i
-unfoldable pub rangeAfter : Change → Range → Index → Range
-rangeAfter Kept g i = g
-rangeAfter Emptied g i = none (behind i)
-rangeAfter Begun g i = record { from = i; past = behind i }
-rangeAfter Joined g i = record { from = g .from; past = behind i }
-
--- this subentry's COMMON is the table that ENDCOMMON ends
-unfoldable pub commonAfter : Ranges → ℕ → Index → Range
-commonAfter g role i =
-    cond (opensSubentry role) (rangeAfter Emptied (g .common) i) (cond (eqb role ENDCOMMON) (g .table) (g .common))
-
-unfoldable pub rangesAfter : Ranges → Track → ℕ → List (List ℕ) → Ranges
-rangesAfter g t role fs =
-    record {
-      bib = rangeAfter (bibChange role) (g .bib) (t .records);
-      under = rangeAfter (underChange role (getD fs 0 [])) (g .under) (t .records);
-      bib001 = cond (ends001 t role) (g .bib) (g .bib001);
-      common001 = cond (ends001 t role) (g .common) (g .common001);
-      common = commonAfter g role (t .records);
-      table = rangeAfter (tableChange role) (g .table) (t .records);
-    }
 
 unfoldable pub judgeAfter : Judge → ℕ → List (List ℕ) → List ℕ → Judge
 judgeAfter j role fs r =

@@ -4,22 +4,25 @@ ghost use mathlib.Core.List.{_++_};
 ghost use Prim.Native.Nat.{ℕ, _+_, _-_, _*_, _≤_, _<_};
 ghost use lib.ListN.{length, getD};
 ghost use Rattle.number.specs.Form.{Tables};
-ghost use Rattle.record.specs.Class.{ClassesLent};
+ghost use Rattle.columns.specs.Class.{ClassesLent};
 ghost use Rattle.record.specs.Identifier.{NamesLent};
-ghost use Rattle.rules.specs.Values.{valuesFor};
+ghost use Rattle.rules_section.specs.Values.{valuesFor};
 ghost use Rattle.entry.specs.Numbers.{startJudge, judgeAfter, stepAs, Stepped, SteppedAs, Ready};
-use crate::next::phase_after;
-use crate::next::ranges_after;
-use crate::next::track_after;
-use record::columns::Index;
-use record::fields::fields;
+use columns::columns::Index;
+use columns::fields::fields;
+use entry_next::counted::track_after;
+use entry_next::due::phase_after;
+use entry_next::parts::ranges_after;
+use record::identifier::Names;
 use record::identifier::identifier_of;
 use record::numbers::Values;
-use rules::fault::Fault;
-use rules::state::Phase;
-use rules::state::Range;
-use rules::state::Ranges;
-use rules::state::Track;
+use rules::order::fault;
+use rules_section::values::values;
+use rules_state::fault::Fault;
+use rules_state::state::Phase;
+use rules_state::state::Range;
+use rules_state::state::Ranges;
+use rules_state::state::Track;
 
 // The state before a record: what is due, what is counted, and the records that a rule may look back at.
 pub struct Judge {
@@ -87,7 +90,7 @@ impl Judge {
     fn step_as<'a>(
         self,
         classes: &[u8; 256],
-        names: &[u8; 154],
+        names: &Names,
         kinds: &[u8; 256],
         nexts: &[u8; 88],
         before: &'a [u8],
@@ -103,8 +106,9 @@ impl Judge {
     {
         let t = self.track;
         let g = self.ranges;
-        let values = t.values(kinds, nexts, role, fs);
-        let found = t.fault(
+        let values = values(t, kinds, nexts, role, fs);
+        let found = fault(
+            t,
             classes,
             names,
             kinds,
@@ -135,7 +139,7 @@ impl Judge {
     pub fn step<'a>(
         self,
         classes: &[u8; 256],
-        names: &[u8; 154],
+        names: &Names,
         kinds: &[u8; 256],
         nexts: &[u8; 88],
         before: &'a [u8],

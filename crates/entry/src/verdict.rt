@@ -2,19 +2,19 @@
 ghost use mathlib.Core.Path.{_≡_};
 ghost use Prim.Native.Nat.{ℕ, _+_, _-_, _*_, _≤_, _<_};
 ghost use lib.ListN.{length, getD};
-ghost use Rattle.rules.specs.State.{Bounded};
+ghost use Rattle.rules_state.specs.State.{Bounded};
 ghost use Rattle.entry.specs.Verdict.{refused, isDone, lengthGood, judgeOf};
 ghost use Rattle.entry.specs.Numbers.{finishOf};
 use crate::step::Judge;
+use columns::class::classes;
+use columns::columns::RecordNo;
+use columns::columns::record_of;
 use number::form::kinds;
 use number::form::nexts;
-use record::class::classes;
-use record::columns::RecordNo;
-use record::columns::record_of;
 use record::identifier::names;
-use rules::fault::Fault;
-use rules::state::Phase;
-use rules::state::Totals;
+use rules_state::fault::Fault;
+use rules_state::state::Phase;
+use rules_state::state::Totals;
 
 // Refusal 0, record 0 and column 0 with the totals, or the refusal with zeros.
 pub struct Verdict {

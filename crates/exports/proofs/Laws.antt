@@ -17,8 +17,8 @@ use Rattle.number.specs.Reading.{readField, readNumber}
 use Rattle.number.proofs.Laws.{read-bounds-eleven, reads-exactly, says-exactly}
 use Rattle.exports.specs.Words.{unpacked, numberRooms, refusedRooms, bit, lifted, fromZero}
 use Rattle.exports.specs.Words.{numberWord, refusedWord, readingWord, numberIn, refusalIn, readingIn}
-use Rattle.record.specs.declared.columns.RecordNo.{RecordNo}
-use Rattle.rules.specs.declared.state.Totals.{Totals}
+use Rattle.columns.specs.declared.columns.RecordNo.{RecordNo}
+use Rattle.rules_state.specs.declared.state.Totals.{Totals}
 use Rattle.entry.specs.declared.verdict.Verdict.{Verdict}
 use Rattle.entry.specs.Verdict.{refused, accepted, judgeOf}
 use Rattle.exports.specs.Verdicts.{totalsRooms, totalsWord, verdictWord, acceptedIn, refusedIn, verdictIn}

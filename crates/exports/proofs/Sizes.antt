@@ -11,17 +11,17 @@ use Rattle.laws.specs.Turns.{after}
 use Rattle.laws.specs.Walk.{walk}
 use Rattle.laws.specs.Blocks.{blocks}
 use Rattle.laws.proofs.Blocks.{length-blocks}
-use Rattle.record.specs.Columns.{recordOf}
-use Rattle.record.specs.Fields.{fieldsOf}
-use Rattle.rules.specs.declared.fault.Fault.{Fault}
-use Rattle.rules.specs.declared.fault.Fault.the-variants.{Fine, At}
-use Rattle.rules.specs.declared.state.Track.{Track}
-use Rattle.rules.specs.State.{Context, startContext, MOST-RECORDS, Bounded}
+use Rattle.columns.specs.Columns.{recordOf}
+use Rattle.columns.specs.Fields.{fieldsOf}
+use Rattle.rules_state.specs.declared.fault.Fault.{Fault}
+use Rattle.rules_state.specs.declared.fault.Fault.the-variants.{Fine, At}
+use Rattle.rules_state.specs.declared.state.Track.{Track}
+use Rattle.rules_state.specs.State.{Context, startContext, MOST-RECORDS, Bounded}
 use Rattle.rules.specs.Order.{faultOf}
-use Rattle.rules.proofs.EitherWay.{either-way}
-use Rattle.entry.specs.Next.{contextAfter}
+use Rattle.rules_state.proofs.EitherWay.{either-way}
+use Rattle.entry_next.specs.Next.{contextAfter}
 use Rattle.entry.specs.Verdict.{refused, roleOf, onFault, turnAs, turnOf, isDone, endOf, lengthGood, judgeOf}
-use Rattle.entry.proofs.Counting.{Follows, track-follows}
+use Rattle.entry_next.proofs.Counting.{Follows, track-follows}
 use Rattle.entry.proofs.Numbered.{whole-records}
 use Rattle.exports.specs.Verdicts.{FewTotals, NearRefusal, Fitting, accepting, refusing}
 use Rattle.exports.proofs.NearFaults.{Near, near-fault}

@@ -4,7 +4,7 @@ ghost use Rattle.exports.specs.Words.{bit, lifted, refusedWord, numberWo
 ghost use Rattle.exports.specs.Verdicts.{totalsWord};
 use number::value::Decimal;
 use number::value::Reading;
-use rules::state::Totals;
+use rules_state::state::Totals;
 
 fn bit(b: bool) -> u64
     ensures { λ r. ⌜ r ≡ bit b ⌝ }

@@ -13,18 +13,18 @@ use Rattle.laws.specs.Blocks.{blockAt}
 use Rattle.laws.specs.Search.{first}
 use Rattle.laws.proofs.Search.{first-same, pass-first}
 use Rattle.number.specs.Grammar.{blanks}
-use Rattle.record.specs.declared.columns.Place.{Place}
-use Rattle.record.specs.declared.columns.RecordNo.{RecordNo}
-use Rattle.record.specs.Fields.{fieldAt, fieldsOf}
+use Rattle.columns.specs.declared.columns.Place.{Place}
+use Rattle.columns.specs.declared.columns.RecordNo.{RecordNo}
+use Rattle.columns.specs.Fields.{fieldAt, fieldsOf}
 use Rattle.record.specs.Word.{pointerOf, filledAt, differAt, blankTo, equalTo}
-use Rattle.record.proofs.ReadColumns.{field-of}
+use Rattle.columns.proofs.ReadColumns.{field-of}
 use Rattle.entry.specs.declared.verdict.Verdict.{Verdict}
 use Rattle.entry.specs.Verdict.{judgeOf}
 use Rattle.questions.specs.declared.ask.Answer.{Answer}
 use Rattle.questions.specs.declared.ask.PartAnswer.{PartAnswer}
 use Rattle.questions.specs.Row.{rowOf}
-use Rattle.questions.specs.Place.{hasRecord, fieldsAt, shapeOf, headingPlace, unitPlace, fieldOf, firstByte, byteOf}
-use Rattle.questions.specs.Passage.{passageOf, textAt, isKeyword, textRecords, NO-PASSAGE}
+use Rattle.questions_places.specs.Place.{hasRecord, fieldsAt, shapeOf, headingPlace, unitPlace, fieldOf, firstByte, byteOf}
+use Rattle.questions_places.specs.Passage.{passageOf, textAt, isKeyword, textRecords, NO-PASSAGE}
 use Rattle.questions.specs.Ask.{sectionIn, columnRefusal, headingBy, headingOf, unitBy, unitOf, passageRefusal}
 use Rattle.questions.specs.Ask.{passageBy, passageAnswer, sectionRefusals, noColumn, noPassage, refusal, firstOf}
 use Rattle.questions.specs.Ask.{isRefused, isSubent, noSection, answer, answerFor, noPart, partFrom, partWith}

@@ -9,8 +9,8 @@ use borrow.Author.Tests.{eqb-true}
 use lib.Dec.{eqb}
 use lib.ListN.{length}
 use Rattle.laws.specs.Walk.{All}
-use Rattle.record.specs.declared.columns.RecordNo.{RecordNo}
-use Rattle.rules.proofs.EitherWay.{either-way}
+use Rattle.columns.specs.declared.columns.RecordNo.{RecordNo}
+use Rattle.rules_state.proofs.EitherWay.{either-way}
 use Rattle.entry.specs.declared.verdict.Verdict.{Verdict}
 use Rattle.entry.specs.Verdict.{judgeOf}
 use Rattle.entry.proofs.Numbered.{whole-records}

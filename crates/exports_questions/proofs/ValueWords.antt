@@ -15,20 +15,20 @@ use Rattle.number.specs.declared.value.Reading.the-variants.{Blank, Number, Ref
 use Rattle.number.specs.Value.{Says, malformed}
 use Rattle.number.specs.Reading.{readField}
 use Rattle.number.proofs.Laws.{says-exactly}
-use Rattle.record.specs.declared.columns.LineNo.{LineNo}
-use Rattle.record.specs.declared.columns.Place.{Place}
-use Rattle.record.specs.Columns.{placeOf}
-use Rattle.record.specs.Fields.{fieldsOf}
-use Rattle.record.proofs.ReadColumns.{field-of}
+use Rattle.columns.specs.declared.columns.LineNo.{LineNo}
+use Rattle.columns.specs.declared.columns.Place.{Place}
+use Rattle.columns.specs.Columns.{placeOf}
+use Rattle.columns.specs.Fields.{fieldsOf}
+use Rattle.columns.proofs.ReadColumns.{field-of}
 use Rattle.entry.specs.declared.verdict.Verdict.{Verdict}
 use Rattle.entry.specs.Verdict.{judgeOf}
 use Rattle.questions.specs.declared.ask.Answer.{Answer}
 use Rattle.questions.specs.declared.ask.ValueAnswer.{ValueAnswer}
 use Rattle.questions.specs.Row.{rowOf}
-use Rattle.questions.specs.Place.{hasRecord, fieldsAt, shapeOf, fieldOf}
+use Rattle.questions_places.specs.Place.{hasRecord, fieldsAt, shapeOf, fieldOf}
 use Rattle.questions.specs.Ask.{sectionIn, valueRefusal, sectionRefusals, noColumn, noLine, valueWith, valueBy}
 use Rattle.questions.specs.Ask.{valueOf, refusal, firstOf, answer, answerFor}
-use Rattle.questions.proofs.Records.{record-there}
+use Rattle.questions_places.proofs.Records.{record-there}
 use Rattle.questions.proofs.Parts.{value-field}
 use Rattle.copy.specs.Answer.{plainly, entryRefused, copied}
 use Rattle.exports.specs.Words.{refusedWord, bit, lifted, numberWord, readingWord, readingIn}

@@ -4,12 +4,12 @@ ghost use Rattle.questions.specs.Ask.{valueOf, headingOf, unitOf, passageAnswer
 ghost use Rattle.exports_questions.specs.Questions.{valueWord, partWord, keywordPlace};
 use crate::words::answer_word;
 use crate::words::part_word;
+use columns::columns::LineNo;
 use exports::words::reading_word;
 use questions::ask::heading;
 use questions::ask::passage;
 use questions::ask::unit;
 use questions::ask::value;
-use record::columns::LineNo;
 
 // The value in a line and a column of COMMON (section 1) or DATA (section 2) of a subentry.
 #[no_mangle]

@@ -8,15 +8,18 @@ use native.Mathlib.Nat.{zero-add}
 use lib.ListN.{length, length-append}
 use borrow.Author.Tests.{eqb-true, eq-eqb, leb-true, le-leb}
 use Rattle.laws.specs.Blocks.{joined}
-use Rattle.record.specs.Fields.{fieldsOf}
+use Rattle.columns.specs.Fields.{fieldsOf}
 use Rattle.record.specs.Identifier.{BIB, NOBIB, ENDBIB}
-use Rattle.rules.specs.declared.state.Phase.the-variants.{InSubentry, InBib, AfterBib}
-use Rattle.rules.specs.State.{Context}
-use Rattle.rules.specs.Role.{TEXT, only, roleIn, bibRole, either as oneOf}
-use Rattle.rules.specs.Every.{expectedIdentification, expectedSequence}
-use Rattle.rules.specs.System.{limitN1, limitN2, meets, trueCount, countN1, countN2}
-use Rattle.entry.specs.Next.{contextAfter, phaseAfter, trackAfter, afterSystem, seenAfter, partAfter, bibChange}
-use Rattle.entry.specs.Next.{underChange}
+use Rattle.rules_state.specs.declared.state.Phase.the-variants.{InSubentry, InBib, AfterBib}
+use Rattle.rules_state.specs.State.{Context}
+use Rattle.rules_state.specs.Role.{TEXT, only, roleIn, bibRole, either as oneOf}
+use Rattle.rules_system.specs.Every.{expectedIdentification, expectedSequence}
+use Rattle.rules_system.specs.System.{limitN1, limitN2, meets, trueCount, countN1, countN2}
+use Rattle.entry_next.specs.Next.{contextAfter}
+use Rattle.entry_next.specs.Due.{phaseAfter}
+use Rattle.entry_next.specs.Counted.{trackAfter, afterSystem}
+use Rattle.entry_next.specs.Parts.{seenAfter, partAfter, bibChange}
+use Rattle.entry_next.specs.Parts.{underChange}
 use Rattle.entry.specs.Verdict.{roleOf, isDone}
 use Rattle.good.specs.Parts.{Record, Bib, Section, present, absent, textsOf, bibRecords}
 use Rattle.good.specs.Marks.{Marked, Following, nameOf, n1, n2, Says}

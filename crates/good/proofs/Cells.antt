@@ -8,9 +8,9 @@ use lib.Dec.{leb}
 use lib.ListN.{length, getD}
 use borrow.Author.Tests.{leb-true, leb-false}
 use Rattle.laws.proofs.Search.{either}
-use Rattle.record.specs.Fields.{fieldAt, fieldsOf}
-use Rattle.rules.specs.declared.state.Track.{Track}
-use Rattle.rules.specs.State.{used}
+use Rattle.columns.specs.Fields.{fieldAt, fieldsOf}
+use Rattle.rules_state.specs.declared.state.Track.{Track}
+use Rattle.rules_state.specs.State.{used}
 use Rattle.good.specs.Parts.{Record}
 use Rattle.good.specs.Tables.{cell}
 use Rattle.good.proofs.Rowwise.{RowFine}

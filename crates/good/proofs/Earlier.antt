@@ -16,11 +16,11 @@ use Rattle.laws.specs.Walk.{All}
 use Rattle.laws.specs.Blocks.{joined}
 use Rattle.laws.proofs.Search.{either, pass-first}
 use Rattle.laws.proofs.Blocks.{length-joined}
-use Rattle.record.specs.Fields.{fieldAt}
+use Rattle.columns.specs.Fields.{fieldAt}
 use Rattle.record.specs.Word.{equalTo}
-use Rattle.rules.specs.declared.headings.Found.{Found}
-use Rattle.rules.specs.Headings.{headingAt, headingsIn, equalAt, equalIn, equalHeading, sectionTurn, nowhere, isFound}
-use Rattle.rules.specs.Headings.{earlier, placeOf}
+use Rattle.rules_section.specs.declared.headings.Found.{Found}
+use Rattle.rules_section.specs.Headings.{headingAt, headingsIn, equalAt, equalIn, equalHeading, sectionTurn, nowhere, isFound}
+use Rattle.rules_section.specs.Headings.{earlier, placeOf}
 use Rattle.good.specs.Parts.{Record}
 use Rattle.good.specs.Tables.{cell}
 use Rattle.good.proofs.Lists.{Long, drop-record}

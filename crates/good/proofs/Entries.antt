@@ -12,10 +12,10 @@ use Rattle.laws.proofs.Booleans.{differ}
 use Rattle.laws.specs.Walk.{All}
 use Rattle.record.specs.Identifier.{ENTRY, SUBENT, NOSUBENT, ENDENTRY}
 use Rattle.record.specs.Expected.{accessionOf}
-use Rattle.rules.specs.declared.state.Phase.the-variants.{Start, Between, Done}
-use Rattle.rules.specs.declared.state.Totals.{Totals}
-use Rattle.rules.specs.State.{Context, startContext, LAST-SUBENTRY}
-use Rattle.rules.specs.Role.{NOT-DUE, only, nextRole, roleIn, either as oneOf}
+use Rattle.rules_state.specs.declared.state.Phase.the-variants.{Start, Between, Done}
+use Rattle.rules_state.specs.declared.state.Totals.{Totals}
+use Rattle.rules_state.specs.State.{Context, startContext, LAST-SUBENTRY}
+use Rattle.rules_state.specs.Role.{NOT-DUE, only, nextRole, roleIn, either as oneOf}
 use Rattle.entry.specs.Verdict.{roleOf, isDone}
 use Rattle.good.specs.Parts.{Record, First, Subentry, nosubent, subent, Entry, bodyOf, firstRecords, laterRecords}
 use Rattle.good.specs.Parts.{subentriesRecords, recordsOf}

@@ -9,9 +9,9 @@ use borrow.Author.Tests.{eq-eqb}
 use Rattle.laws.specs.Blocks.{joined}
 use Rattle.laws.specs.Members.{listOf}
 use Rattle.record.specs.Identifier.{SUBENT, ENDSUBENT}
-use Rattle.rules.specs.declared.state.Phase.the-variants.{Opened}
-use Rattle.rules.specs.State.{Context}
-use Rattle.rules.specs.Role.{only, roleIn}
+use Rattle.rules_state.specs.declared.state.Phase.the-variants.{Opened}
+use Rattle.rules_state.specs.State.{Context}
+use Rattle.rules_state.specs.Role.{only, roleIn}
 use Rattle.entry.specs.Verdict.{roleOf, isDone}
 use Rattle.good.specs.Parts.{Record, bibRecords, tableRecords, First, bodyOfFirst, firstRecords}
 use Rattle.good.specs.Marks.{nameOf}

@@ -14,14 +14,14 @@ use Rattle.laws.specs.Walk.{All}
 use Rattle.laws.specs.Blocks.{joined}
 use Rattle.laws.specs.Members.{anyOf}
 use Rattle.laws.proofs.Search.{either}
-use Rattle.record.specs.Columns.{recordsFor}
-use Rattle.record.specs.Fields.{fieldAt, fieldsOf, inField}
-use Rattle.record.specs.Text.{isBlank}
+use Rattle.columns.specs.Columns.{recordsFor}
+use Rattle.columns.specs.Fields.{fieldAt, fieldsOf, inField}
+use Rattle.columns.specs.Text.{isBlank}
 use Rattle.record.specs.Word.{isWord, blankTo, pointerOf, pointerFault, headingFault}
-use Rattle.rules.specs.State.{Context, used}
-use Rattle.rules.specs.Fault.{leftmost, fieldColumn, pointerColumn}
-use Rattle.rules.specs.Headings.{rule11Heading, rule12Heading, headingRepeated, rule13, pointersFor, pointerLost}
-use Rattle.rules.specs.Headings.{lostAt, rule14}
+use Rattle.rules_state.specs.State.{Context, used}
+use Rattle.rules_state.specs.Fault.{leftmost, fieldColumn, pointerColumn}
+use Rattle.rules_section.specs.Headings.{rule11Heading, rule12Heading, headingRepeated, rule13, pointersFor, pointerLost}
+use Rattle.rules_section.specs.Headings.{lostAt, rule14}
 use Rattle.rules.proofs.WithoutFault.{where-none}
 use Rattle.good.specs.Parts.{Record}
 use Rattle.good.specs.Marks.{Following}

@@ -12,7 +12,7 @@ use Rattle.laws.proofs.Listing.{any-and}
 use Rattle.laws.specs.Walk.{All}
 use Rattle.laws.specs.Members.{anyOf}
 use Rattle.laws.proofs.Members.{any-append}
-use Rattle.record.specs.Text.{isBlank}
+use Rattle.columns.specs.Text.{isBlank}
 use Rattle.record.specs.Word.{blankTo, equalTo, isWord, pointerOf}
 use Rattle.good.specs.Parts.{Record, Keyword, textsOf}
 use Rattle.good.specs.Marks.{Following, Once}

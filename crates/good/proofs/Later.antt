@@ -11,7 +11,7 @@ use Rattle.laws.specs.Walk.{All}
 use Rattle.record.specs.Word.{pointerOf}
 use Rattle.record.specs.Identifier.{SUBENT, ENDSUBENT}
 use Rattle.record.specs.Expected.{identificationFor}
-use Rattle.rules.specs.State.{Context, LAST-SUBENTRY}
+use Rattle.rules_state.specs.State.{Context, LAST-SUBENTRY}
 use Rattle.entry.specs.Verdict.{roleOf, isDone}
 use Rattle.good.specs.Parts.{Record, bibRecords, tableRecords, First, Later, subent, bodyOf, laterRecords}
 use Rattle.good.specs.Marks.{Following, nameOf}

@@ -11,12 +11,12 @@ use Rattle.laws.proofs.Listing.{all-left, all-right}
 use Rattle.laws.specs.Walk.{All}
 use Rattle.laws.specs.Blocks.{joined}
 use Rattle.laws.specs.Members.{anyOf}
-use Rattle.record.specs.Text.{isBlank}
+use Rattle.columns.specs.Text.{isBlank}
 use Rattle.record.specs.Word.{equalTo}
 use Rattle.record.specs.Identifier.{SUBENT, ENDSUBENT}
 use Rattle.record.specs.Expected.{identificationFor}
-use Rattle.rules.specs.State.{Context}
-use Rattle.rules.specs.Headings.{pointersFor as pointersSeen}
+use Rattle.rules_state.specs.State.{Context}
+use Rattle.rules_section.specs.Headings.{pointersFor as pointersSeen}
 use Rattle.good.specs.Parts.{Record, Bib, Table, Section, bibRecords, tableRecords, First, Later, bodyOfFirst}
 use Rattle.good.specs.Bib.{textsOfPart, pointersIn}
 use Rattle.good.specs.Tables.{headingsOfPart}

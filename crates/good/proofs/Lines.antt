@@ -7,8 +7,8 @@ use mathlib.Core.List.{List, [], _∷_, _++_, append-assoc}
 use native.Mathlib.Omega.{arith}
 use lib.ListN.{length, length-append}
 use Rattle.laws.specs.Walk.{All}
-use Rattle.record.specs.Columns.{recordsFor}
-use Rattle.rules.specs.State.{Context}
+use Rattle.columns.specs.Columns.{recordsFor}
+use Rattle.rules_state.specs.State.{Context}
 use Rattle.entry.specs.Verdict.{isDone}
 use Rattle.good.specs.Parts.{Record, concat}
 use Rattle.good.specs.Marks.{Following}

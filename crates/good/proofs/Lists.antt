@@ -12,7 +12,7 @@ use Rattle.laws.specs.Walk.{All}
 use Rattle.laws.specs.Blocks.{joined}
 use Rattle.laws.proofs.Blocks.{length-joined}
 use Rattle.record.specs.Word.{pointerOf}
-use Rattle.rules.specs.Text.{placeAt, placesOf, pointerAt, pointersOf}
+use Rattle.rules_section.specs.Text.{placeAt, placesOf, pointerAt, pointersOf}
 use Rattle.good.specs.Parts.{Record}
 use Rattle.good.specs.Bib.{placeOf, pointersIn}
 

@@ -7,11 +7,11 @@ use native.Mathlib.Omega.{arith}
 use lib.ListN.{length}
 use Rattle.laws.proofs.Booleans.{differ}
 use Rattle.laws.specs.Walk.{All}
-use Rattle.record.specs.Fields.{fieldsOf}
+use Rattle.columns.specs.Fields.{fieldsOf}
 use Rattle.record.specs.System.{countOf, isCount, numberOf}
 use Rattle.record.specs.declared.system.Count.{Count}
 use Rattle.record.specs.declared.system.Count.the-variants.{Number, Bad}
-use Rattle.rules.specs.System.{countN1, countN2}
+use Rattle.rules_system.specs.System.{countN1, countN2}
 use Rattle.good.specs.Parts.{Record}
 use Rattle.good.specs.Marks.{Following, n1, n2, Says}
 use Rattle.good.proofs.Lists.{Long}

@@ -8,18 +8,21 @@ use lib.Dec.{eqb, ltb, leb}
 use borrow.Author.Tests.{not-false, eqb-true, eq-eqb, ne-eqb, ltb-true, lt-ltb, leb-true, le-leb}
 use Rattle.laws.proofs.Booleans.{and-left, and-right}
 use Rattle.laws.specs.Search.{first}
-use Rattle.record.specs.Columns.{columnsAt}
-use Rattle.record.specs.Fields.{fieldsOf}
+use Rattle.columns.specs.Columns.{columnsAt}
+use Rattle.columns.specs.Fields.{fieldsOf}
 use Rattle.record.specs.Word.{equalTo}
 use Rattle.record.specs.Identifier.{ENTRY, SUBENT, NOSUBENT, ENDSUBENT, ENDENTRY, isEnd}
 use Rattle.record.specs.System.{isSubentN1, isDate}
 use Rattle.record.specs.Expected.{accessionOf, identificationFor}
-use Rattle.rules.specs.declared.state.Phase.{Phase}
-use Rattle.rules.specs.declared.state.Phase.the-variants.{Opened, InSubentry, Between, Done}
-use Rattle.rules.specs.State.{Context, LAST-SUBENTRY, startContext}
-use Rattle.rules.specs.Every.{expectedIdentification, expectedSequence}
-use Rattle.rules.specs.System.{formN1, formN2, inForm, rule8, numberDue, rule9, trueCount}
-use Rattle.entry.specs.Next.{contextAfter, phaseAfter, trackAfter, afterSystem, seenAfter, partAfter, bibChange}
+use Rattle.rules_state.specs.declared.state.Phase.{Phase}
+use Rattle.rules_state.specs.declared.state.Phase.the-variants.{Opened, InSubentry, Between, Done}
+use Rattle.rules_state.specs.State.{Context, LAST-SUBENTRY, startContext}
+use Rattle.rules_system.specs.Every.{expectedIdentification, expectedSequence}
+use Rattle.rules_system.specs.System.{formN1, formN2, inForm, rule8, numberDue, rule9, trueCount}
+use Rattle.entry_next.specs.Next.{contextAfter}
+use Rattle.entry_next.specs.Due.{phaseAfter}
+use Rattle.entry_next.specs.Counted.{trackAfter, afterSystem}
+use Rattle.entry_next.specs.Parts.{seenAfter, partAfter, bibChange}
 use Rattle.good.specs.Parts.{Record}
 use Rattle.good.specs.Marks.{Marked, nameOf, n1, n2, Says}
 use Rattle.good.specs.Subentries.{Opens, ownNumber}

@@ -8,19 +8,22 @@ use native.Mathlib.Omega.{arith}
 use lib.Dec.{eqb, leb}
 use lib.ListN.{length}
 use borrow.Author.Tests.{le-leb, lt-leb, le-ltb, lt-ltb}
-use Rattle.record.specs.Columns.{recordsFor}
-use Rattle.record.specs.Fields.{fieldsOf}
+use Rattle.columns.specs.Columns.{recordsFor}
+use Rattle.columns.specs.Fields.{fieldsOf}
 use Rattle.record.specs.Identifier.{ENDCOMMON, ENDDATA, isEnd}
-use Rattle.record.specs.declared.columns.LineNo.{LineNo}
-use Rattle.rules.specs.declared.state.Phase.{Phase}
-use Rattle.rules.specs.declared.state.Phase.the-variants.{InCommon, InData}
-use Rattle.rules.specs.declared.state.Table.{Table}
-use Rattle.rules.specs.State.{Context, HEADINGS, UNITS, VALUES}
-use Rattle.rules.specs.Role.{COMMON-HEADING, COMMON-UNIT, COMMON-VALUE, DATA-HEADING, DATA-UNIT, DATA-VALUE, NOT-DUE}
-use Rattle.rules.specs.Role.{only, roleIn, tableRole}
-use Rattle.rules.specs.Values.{valuesFor}
-use Rattle.entry.specs.Next.{contextAfter, phaseAfter, trackAfter, afterInside, headingsRead, unitsRead, valuesRead}
-use Rattle.entry.specs.Next.{nextRow, sameRow, nextLine, seenAfter, partAfter, bibChange, tableChange}
+use Rattle.columns.specs.declared.columns.LineNo.{LineNo}
+use Rattle.rules_state.specs.declared.state.Phase.{Phase}
+use Rattle.rules_state.specs.declared.state.Phase.the-variants.{InCommon, InData}
+use Rattle.rules_state.specs.declared.state.Table.{Table}
+use Rattle.rules_state.specs.State.{Context, HEADINGS, UNITS, VALUES}
+use Rattle.rules_state.specs.Role.{COMMON-HEADING, COMMON-UNIT, COMMON-VALUE, DATA-HEADING, DATA-UNIT, DATA-VALUE, NOT-DUE}
+use Rattle.rules_state.specs.Role.{only, roleIn, tableRole}
+use Rattle.rules_section.specs.Values.{valuesFor}
+use Rattle.entry_next.specs.Next.{contextAfter}
+use Rattle.entry_next.specs.Due.{phaseAfter}
+use Rattle.entry_next.specs.Counted.{trackAfter, afterInside, headingsRead, unitsRead, valuesRead}
+use Rattle.entry_next.specs.Counted.{nextRow, sameRow, nextLine}
+use Rattle.entry_next.specs.Parts.{seenAfter, partAfter, bibChange, tableChange}
 use Rattle.entry.specs.Verdict.{roleOf, isDone}
 use Rattle.good.specs.Parts.{Record}
 use Rattle.good.specs.Marks.{nameOf}

@@ -10,10 +10,10 @@ use lib.ListN.{length}
 use borrow.Author.Tests.{le-leb, lt-leb}
 use Rattle.laws.specs.Walk.{All}
 use Rattle.laws.specs.Blocks.{joined}
-use Rattle.record.specs.Columns.{recordsFor}
-use Rattle.rules.specs.declared.state.Table.{Table}
-use Rattle.rules.specs.State.{Context}
-use Rattle.rules.specs.Every.{expectedIdentification, expectedSequence}
+use Rattle.columns.specs.Columns.{recordsFor}
+use Rattle.rules_state.specs.declared.state.Table.{Table}
+use Rattle.rules_state.specs.State.{Context}
+use Rattle.rules_system.specs.Every.{expectedIdentification, expectedSequence}
 use Rattle.good.specs.Parts.{Record}
 use Rattle.good.specs.Marks.{Following}
 use Rattle.good.proofs.Steps.{Takes, next, MarkedFor, takes-marked}

@@ -10,10 +10,10 @@ use lib.Dec.{eqb}
 use lib.ListN.{length}
 use borrow.Author.Tests.{eqb-true, eq-eqb, ne-eqb}
 use Rattle.laws.proofs.Booleans.{differ}
-use Rattle.record.specs.Fields.{fieldsOf}
-use Rattle.rules.specs.declared.state.Phase.{Phase}
-use Rattle.rules.specs.State.{Context}
-use Rattle.rules.specs.Role.{NOT-DUE, only, roleIn, either as oneOf}
+use Rattle.columns.specs.Fields.{fieldsOf}
+use Rattle.rules_state.specs.declared.state.Phase.{Phase}
+use Rattle.rules_state.specs.State.{Context}
+use Rattle.rules_state.specs.Role.{NOT-DUE, only, roleIn, either as oneOf}
 use Rattle.entry.specs.Verdict.{roleOf, isDone}
 use Rattle.good.specs.Parts.{Record}
 use Rattle.good.specs.Marks.{nameOf}

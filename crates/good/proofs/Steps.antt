@@ -10,25 +10,25 @@ use lib.ListN.{length, getD}
 use borrow.Author.Tests.{not-false}
 use Rattle.laws.specs.Turns.{go}
 use Rattle.laws.specs.Walk.{Goes, All}
-use Rattle.record.specs.Columns.{recordOf, hasLineFeed}
-use Rattle.record.specs.Class.{isPermitted, notPermitted}
-use Rattle.record.specs.Fields.{fieldsOf}
+use Rattle.columns.specs.Columns.{recordOf, hasLineFeed}
+use Rattle.columns.specs.Class.{isPermitted, notPermitted}
+use Rattle.columns.specs.Fields.{fieldsOf}
 use Rattle.record.specs.Word.{equalTo}
 use Rattle.record.specs.Expected.{identificationOf, sequenceOf, inDigits}
-use Rattle.rules.specs.declared.fault.Fault.{Fault}
-use Rattle.rules.specs.declared.fault.Fault.the-variants.{Fine, At}
-use Rattle.rules.specs.declared.state.Track.{Track}
-use Rattle.rules.specs.State.{Context, Seen}
-use Rattle.rules.specs.Role.{TEXT, DATA-HEADING, NOT-DUE, isSystem, opensSubentry, isHeading, isUnit, isValue}
-use Rattle.rules.specs.Fault.{on, when, columnsFrom, columnsWhere, leftmost, Finding, finding, firstFault}
-use Rattle.rules.specs.Every.{rule2, rule3, rule4, rule5, rule6, expectedIdentification, expectedSequence}
-use Rattle.rules.specs.System.{rule7, rule8, rule9}
-use Rattle.rules.specs.Text.{rule10, rule11Text}
-use Rattle.rules.specs.Headings.{rule11Heading, rule12Heading, rule12Unit, rule13, rule14}
-use Rattle.rules.specs.Values.{rule15}
+use Rattle.rules_state.specs.declared.fault.Fault.{Fault}
+use Rattle.rules_state.specs.declared.fault.Fault.the-variants.{Fine, At}
+use Rattle.rules_state.specs.declared.state.Track.{Track}
+use Rattle.rules_state.specs.State.{Context, Seen}
+use Rattle.rules_state.specs.Role.{TEXT, DATA-HEADING, NOT-DUE, isSystem, opensSubentry, isHeading, isUnit, isValue}
+use Rattle.rules_state.specs.Fault.{on, when, columnsFrom, columnsWhere, leftmost, Finding, finding, firstFault}
+use Rattle.rules_system.specs.Every.{rule2, rule3, rule4, rule5, rule6, expectedIdentification, expectedSequence}
+use Rattle.rules_system.specs.System.{rule7, rule8, rule9}
+use Rattle.rules_section.specs.Text.{rule10, rule11Text}
+use Rattle.rules_section.specs.Headings.{rule11Heading, rule12Heading, rule12Unit, rule13, rule14}
+use Rattle.rules_section.specs.Values.{rule15}
 use Rattle.rules.specs.Order.{findings, faultOf}
 use Rattle.rules.proofs.WithoutFault.{fine-none, where-none}
-use Rattle.entry.specs.Next.{contextAfter}
+use Rattle.entry_next.specs.Next.{contextAfter}
 use Rattle.entry.specs.Verdict.{roleOf, onFault, turnAs, turnOf}
 use Rattle.good.specs.Parts.{Record}
 use Rattle.good.specs.Marks.{Marked}

@@ -13,9 +13,9 @@ use Rattle.laws.specs.Blocks.{joined}
 use Rattle.laws.specs.Members.{listOf}
 use Rattle.record.specs.Identifier.{ENDSUBENT}
 use Rattle.record.specs.Expected.{identificationFor}
-use Rattle.rules.specs.declared.state.Phase.the-variants.{AfterBib, AfterCommon, AfterData, Between}
-use Rattle.rules.specs.State.{Context}
-use Rattle.rules.specs.Role.{only, roleIn, dataRole, either as oneOf}
+use Rattle.rules_state.specs.declared.state.Phase.the-variants.{AfterBib, AfterCommon, AfterData, Between}
+use Rattle.rules_state.specs.State.{Context}
+use Rattle.rules_state.specs.Role.{only, roleIn, dataRole, either as oneOf}
 use Rattle.entry.specs.Verdict.{roleOf}
 use Rattle.good.specs.Parts.{Record, Bib, Table, Section, present, absent, concat, textsOf, rowsOf, bibRecords}
 use Rattle.good.specs.Parts.{tableRecords}

@@ -12,9 +12,9 @@ use Rattle.laws.specs.Blocks.{joined}
 use Rattle.laws.specs.Members.{listOf}
 use Rattle.record.specs.Word.{equalTo}
 use Rattle.record.specs.Expected.{identificationFor}
-use Rattle.rules.specs.declared.state.Phase.the-variants.{InSubentry, AfterCommon}
-use Rattle.rules.specs.State.{Context}
-use Rattle.rules.specs.Headings.{pointersFor as pointersSeen}
+use Rattle.rules_state.specs.declared.state.Phase.the-variants.{InSubentry, AfterCommon}
+use Rattle.rules_state.specs.State.{Context}
+use Rattle.rules_section.specs.Headings.{pointersFor as pointersSeen}
 use Rattle.entry.specs.Verdict.{isDone}
 use Rattle.good.specs.Parts.{Record, Bib, Table, Section, bibRecords, tableRecords}
 use Rattle.good.specs.Marks.{Following, Once}

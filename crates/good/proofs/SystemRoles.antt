@@ -7,9 +7,9 @@ use Rattle.laws.specs.Search.{first}
 use Rattle.record.specs.Word.{equalTo}
 use Rattle.record.specs.Identifier.{BIB, NOBIB, ENDBIB, COMMON, NOCOMMON, ENDCOMMON, DATA, NODATA, ENDDATA, ENDSUBENT}
 use Rattle.record.specs.Identifier.{ENDENTRY, isEnd}
-use Rattle.rules.specs.Role.{TEXT, DATA-HEADING, NOT-DUE, isSystem, isHeading, isUnit, isValue}
-use Rattle.rules.specs.Every.{expectedIdentification, expectedSequence}
-use Rattle.rules.specs.System.{formN1, formN2}
+use Rattle.rules_state.specs.Role.{TEXT, DATA-HEADING, NOT-DUE, isSystem, isHeading, isUnit, isValue}
+use Rattle.rules_system.specs.Every.{expectedIdentification, expectedSequence}
+use Rattle.rules_system.specs.System.{formN1, formN2}
 use Rattle.good.proofs.Systems.{SystemRole, Inside, FreeRole, OpenRole, EndRole}
 
 pub system-role : (role : ℕ) → isSystem role ≡ true → eqb role TEXT ≡ false → isHeading role ≡ false

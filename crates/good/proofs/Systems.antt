@@ -8,17 +8,17 @@ use native.Mathlib.Omega.{arith}
 use lib.Dec.{eqb}
 use borrow.Author.Tests.{eqb-true, eq-eqb, not-false}
 use Rattle.laws.proofs.Booleans.{and-left, and-right}
-use Rattle.record.specs.Fields.{fieldsOf}
+use Rattle.columns.specs.Fields.{fieldsOf}
 use Rattle.record.specs.Identifier.{isEnd}
 use Rattle.record.specs.Expected.{identificationFor}
-use Rattle.rules.specs.declared.state.Track.{Track}
-use Rattle.rules.specs.State.{Context}
-use Rattle.rules.specs.Role.{TEXT, DATA-HEADING, NOT-DUE, isSystem, opensSubentry, opensSection, isHeading, isUnit}
-use Rattle.rules.specs.Role.{isValue}
-use Rattle.rules.specs.Fault.{on, leftmost}
-use Rattle.rules.specs.Every.{n1 as field1, n2 as field2}
-use Rattle.rules.specs.System.{FREE, COUNT, formN1, formN2, inForm, rule7, countN1, countN2, limitN1, limitN2, meets}
-use Rattle.rules.specs.System.{announcedFault, trueCount, keywordsTrue, countTrue, rule8, rule9}
+use Rattle.rules_state.specs.declared.state.Track.{Track}
+use Rattle.rules_state.specs.State.{Context}
+use Rattle.rules_state.specs.Role.{TEXT, DATA-HEADING, NOT-DUE, isSystem, opensSubentry, opensSection, isHeading, isUnit}
+use Rattle.rules_state.specs.Role.{isValue}
+use Rattle.rules_state.specs.Fault.{on, leftmost}
+use Rattle.rules_system.specs.Every.{n1 as field1, n2 as field2}
+use Rattle.rules_system.specs.System.{FREE, COUNT, formN1, formN2, inForm, rule7, countN1, countN2, limitN1, limitN2, meets}
+use Rattle.rules_system.specs.System.{announcedFault, trueCount, keywordsTrue, countTrue, rule8, rule9}
 use Rattle.good.specs.Parts.{Record}
 use Rattle.good.specs.Marks.{Marked, n1, n2, Says}
 use Rattle.good.proofs.Steps.{Takes, MarkedFor, when-none, whens-none, takes-marked, takes-own, own-takes}

@@ -7,12 +7,16 @@ use mathlib.Core.List.{List, []}
 use borrow.Author.Tests.{le-leb}
 use Rattle.laws.specs.Walk.{All}
 use Rattle.laws.specs.Blocks.{joined}
-use Rattle.record.specs.Fields.{fieldsOf}
-use Rattle.rules.specs.State.{Context, MOST-COLUMNS, MOST-LINES}
-use Rattle.rules.specs.Headings.{pointersFor}
-use Rattle.rules.specs.System.{countN1, countN2}
-use Rattle.entry.specs.Next.{contextAfter, phaseAfter, trackAfter, afterSystem, seenAfter, partAfter, bibChange}
-use Rattle.entry.specs.Next.{tableChange, upTo}
+use Rattle.columns.specs.Fields.{fieldsOf}
+use Rattle.rules_state.specs.State.{Context, MOST-COLUMNS, MOST-LINES}
+use Rattle.rules_section.specs.Headings.{pointersFor}
+use Rattle.rules_system.specs.System.{countN1, countN2}
+use Rattle.entry_next.specs.Next.{contextAfter}
+use Rattle.entry_next.specs.Due.{phaseAfter}
+use Rattle.entry_next.specs.Counted.{trackAfter, afterSystem}
+use Rattle.entry_next.specs.Parts.{seenAfter, partAfter, bibChange}
+use Rattle.entry_next.specs.Parts.{tableChange}
+use Rattle.entry_next.specs.Counted.{upTo}
 use Rattle.good.specs.Parts.{Record}
 use Rattle.good.proofs.Steps.{next}
 use Rattle.good.proofs.Moves.{Moved, quiet}

@@ -8,13 +8,13 @@ use lib.Dec.{leb}
 use lib.ListN.{length}
 use borrow.Author.Tests.{leb-true, le-leb}
 use Rattle.laws.proofs.Booleans.{and-left, and-right, differ}
-use Rattle.record.specs.Columns.{recordsFor}
+use Rattle.columns.specs.Columns.{recordsFor}
 use Rattle.record.specs.Identifier.{COMMON, NOCOMMON, DATA, NODATA}
-use Rattle.rules.specs.declared.state.Phase.{Phase}
-use Rattle.rules.specs.declared.state.Phase.the-variants.{AfterCommon, AfterData}
-use Rattle.rules.specs.State.{Context, MOST-COLUMNS, MOST-LINES}
-use Rattle.rules.specs.Every.{expectedIdentification, expectedSequence}
-use Rattle.rules.specs.System.{limitN1, limitN2, meets, trueCount, keywordsTrue}
+use Rattle.rules_state.specs.declared.state.Phase.{Phase}
+use Rattle.rules_state.specs.declared.state.Phase.the-variants.{AfterCommon, AfterData}
+use Rattle.rules_state.specs.State.{Context, MOST-COLUMNS, MOST-LINES}
+use Rattle.rules_system.specs.Every.{expectedIdentification, expectedSequence}
+use Rattle.rules_system.specs.System.{limitN1, limitN2, meets, trueCount, keywordsTrue}
 use Rattle.good.specs.Parts.{Record, Table, Section, present}
 use Rattle.good.specs.Marks.{nameOf, n2, Says}
 use Rattle.good.specs.Tables.{columnsOf, GoodTable, GoodCommonPart, GoodDataPart}

@@ -7,8 +7,8 @@ use mathlib.Core.List.{List, [], _∷_, _++_}
 use native.Mathlib.Omega.{arith}
 use lib.ListN.{length, length-append}
 use Rattle.laws.specs.Blocks.{joined}
-use Rattle.record.specs.Columns.{recordsFor}
-use Rattle.rules.specs.State.{Context}
+use Rattle.columns.specs.Columns.{recordsFor}
+use Rattle.rules_state.specs.State.{Context}
 use Rattle.good.specs.Parts.{Record, Table, Section, present, absent, concat, rowsOf, tableRecords}
 use Rattle.good.specs.Marks.{Following}
 use Rattle.good.specs.Tables.{columnsOf}

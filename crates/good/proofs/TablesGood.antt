@@ -6,13 +6,13 @@ use mathlib.Core.Bool.{Bool, true, false}
 use mathlib.Core.List.{List, [], _∷_, _++_}
 use native.Mathlib.Omega.{arith}
 use lib.ListN.{length}
-use Rattle.record.specs.Columns.{recordsFor}
-use Rattle.record.specs.Fields.{fieldsOf}
+use Rattle.columns.specs.Columns.{recordsFor}
+use Rattle.columns.specs.Fields.{fieldsOf}
 use Rattle.record.specs.System.{countOf, numberOf}
 use Rattle.record.specs.declared.system.Count.the-variants.{Number}
-use Rattle.rules.specs.State.{Context}
-use Rattle.rules.specs.Role.{either as oneOf}
-use Rattle.rules.specs.System.{trueCount}
+use Rattle.rules_state.specs.State.{Context}
+use Rattle.rules_state.specs.Role.{either as oneOf}
+use Rattle.rules_system.specs.System.{trueCount}
 use Rattle.entry.specs.Verdict.{roleOf}
 use Rattle.good.specs.Parts.{Record, Table, Section, present, absent, concat, rowsOf, tableRecords}
 use Rattle.good.specs.Marks.{Marked, Following, nameOf, n1}

@@ -6,11 +6,11 @@ use mathlib.Core.Bool.{Bool, true, false}
 use mathlib.Core.List.{List, [], _∷_, _++_, append-assoc}
 use native.Mathlib.Omega.{arith}
 use lib.ListN.{length}
-use Rattle.record.specs.Columns.{recordsFor}
-use Rattle.record.specs.Fields.{fieldsOf}
-use Rattle.rules.specs.State.{Context}
-use Rattle.rules.specs.Role.{either as oneOf}
-use Rattle.rules.specs.System.{trueCount, countN1, countN2}
+use Rattle.columns.specs.Columns.{recordsFor}
+use Rattle.columns.specs.Fields.{fieldsOf}
+use Rattle.rules_state.specs.State.{Context}
+use Rattle.rules_state.specs.Role.{either as oneOf}
+use Rattle.rules_system.specs.System.{trueCount, countN1, countN2}
 use Rattle.entry.specs.Verdict.{roleOf, isDone}
 use Rattle.good.specs.Parts.{Record, Table, Section, present, absent, concat, rowsOf, tableRecords}
 use Rattle.good.specs.Marks.{Marked, Following, nameOf, n1}

@@ -14,18 +14,21 @@ use Rattle.laws.proofs.Listing.{all-append, joined-one}
 use Rattle.laws.specs.Walk.{All}
 use Rattle.laws.specs.Blocks.{joined}
 use Rattle.laws.specs.Members.{anyOf}
-use Rattle.record.specs.Fields.{fieldsOf}
-use Rattle.record.specs.Text.{isBlank}
+use Rattle.columns.specs.Fields.{fieldsOf}
+use Rattle.columns.specs.Text.{isBlank}
 use Rattle.record.specs.Word.{blankTo, equalTo, isWord, pointerOf, badPointer}
 use Rattle.record.specs.Identifier.{OTHER}
 use Rattle.record.specs.Expected.{identificationFor}
-use Rattle.rules.specs.declared.state.Phase.the-variants.{InBib}
-use Rattle.rules.specs.State.{Context}
-use Rattle.rules.specs.Role.{TEXT, NOT-DUE, roleIn, bibRole}
-use Rattle.rules.specs.Every.{expectedIdentification, expectedSequence}
-use Rattle.rules.specs.Text.{keywordFault, rule10, pointerRepeated, rule11Text}
-use Rattle.entry.specs.Next.{contextAfter, phaseAfter, trackAfter, afterInside, textRead, seenAfter, partAfter}
-use Rattle.entry.specs.Next.{bibChange, underChange}
+use Rattle.rules_state.specs.declared.state.Phase.the-variants.{InBib}
+use Rattle.rules_state.specs.State.{Context}
+use Rattle.rules_state.specs.Role.{TEXT, NOT-DUE, roleIn, bibRole}
+use Rattle.rules_system.specs.Every.{expectedIdentification, expectedSequence}
+use Rattle.rules_section.specs.Text.{keywordFault, rule10, pointerRepeated, rule11Text}
+use Rattle.entry_next.specs.Next.{contextAfter}
+use Rattle.entry_next.specs.Due.{phaseAfter}
+use Rattle.entry_next.specs.Counted.{trackAfter, afterInside, textRead}
+use Rattle.entry_next.specs.Parts.{seenAfter, partAfter}
+use Rattle.entry_next.specs.Parts.{bibChange, underChange}
 use Rattle.entry.specs.Verdict.{roleOf, isDone}
 use Rattle.good.specs.Parts.{Record}
 use Rattle.good.specs.Marks.{Marked, nameOf}

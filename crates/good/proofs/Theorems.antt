@@ -22,12 +22,12 @@ use Rattle.laws.specs.Walk.{walk, All}
 use Rattle.laws.specs.Blocks.{blocks, joined}
 use Rattle.laws.proofs.Walk.{goes-walk, walk-goes}
 use Rattle.laws.proofs.Blocks.{joined-blocks, blocks-joined, length-joined, blocks-wide, length-blocks}
-use Rattle.record.specs.Columns.{recordOf}
-use Rattle.record.specs.Fields.{fieldsOf}
-use Rattle.rules.specs.declared.fault.Fault.{Fault}
-use Rattle.rules.specs.declared.fault.Fault.the-variants.{Fine, At}
-use Rattle.rules.specs.State.{Context, startContext, MOST-RECORDS}
-use Rattle.rules.specs.Fault.{Finding, firstFault, leftmost}
+use Rattle.columns.specs.Columns.{recordOf}
+use Rattle.columns.specs.Fields.{fieldsOf}
+use Rattle.rules_state.specs.declared.fault.Fault.{Fault}
+use Rattle.rules_state.specs.declared.fault.Fault.the-variants.{Fine, At}
+use Rattle.rules_state.specs.State.{Context, startContext, MOST-RECORDS}
+use Rattle.rules_state.specs.Fault.{Finding, firstFault, leftmost}
 use Rattle.rules.specs.Order.{findings, faultOf}
 use Rattle.entry.specs.declared.verdict.Verdict.{Verdict}
 use Rattle.entry.specs.Verdict.{roleOf, onFault, turnAs, turnOf, refused, accepted, isDone, endOf, lengthGood, judgeOf}

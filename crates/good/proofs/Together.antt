@@ -16,10 +16,10 @@ use Rattle.laws.specs.Walk.{All}
 use Rattle.laws.specs.Blocks.{joined}
 use Rattle.laws.proofs.Search.{either}
 use Rattle.laws.proofs.Members.{any-append}
-use Rattle.record.specs.Text.{isBlank}
+use Rattle.columns.specs.Text.{isBlank}
 use Rattle.record.specs.Word.{equalTo, isWord, pointerOf}
-use Rattle.rules.specs.Text.{pointersOf}
-use Rattle.rules.specs.Headings.{headingPointerAt, headingPointers, pointersFor as pointersSeen}
+use Rattle.rules_section.specs.Text.{pointersOf}
+use Rattle.rules_section.specs.Headings.{headingPointerAt, headingPointers, pointersFor as pointersSeen}
 use Rattle.good.specs.Parts.{Record}
 use Rattle.good.specs.Marks.{Once}
 use Rattle.good.specs.Bib.{pointersIn}

@@ -9,12 +9,12 @@ use lib.ListN.{length}
 use borrow.Author.Tests.{lt-ltb, le-ltb, not-false}
 use Rattle.laws.specs.Walk.{All}
 use Rattle.laws.proofs.Search.{either}
-use Rattle.record.specs.Columns.{recordsFor}
-use Rattle.record.specs.Fields.{fieldAt, fieldsOf, inField}
+use Rattle.columns.specs.Columns.{recordsFor}
+use Rattle.columns.specs.Fields.{fieldAt, fieldsOf, inField}
 use Rattle.record.specs.Word.{isUnit, unitFault, blankTo}
-use Rattle.rules.specs.State.{Context, used}
-use Rattle.rules.specs.Fault.{leftmost, fieldColumn}
-use Rattle.rules.specs.Headings.{rule12Unit}
+use Rattle.rules_state.specs.State.{Context, used}
+use Rattle.rules_state.specs.Fault.{leftmost, fieldColumn}
+use Rattle.rules_section.specs.Headings.{rule12Unit}
 use Rattle.rules.proofs.WithoutFault.{where-none}
 use Rattle.good.specs.Parts.{Record}
 use Rattle.good.specs.Marks.{Following}

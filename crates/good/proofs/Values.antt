@@ -15,13 +15,13 @@ use Rattle.laws.specs.Walk.{All}
 use Rattle.laws.proofs.Search.{either, pass-first}
 use Rattle.number.specs.declared.form.Form.{Form}
 use Rattle.number.specs.declared.form.Form.the-variants as Form
-use Rattle.record.specs.Columns.{recordsFor}
-use Rattle.record.specs.Fields.{fieldAt, fieldsOf, inField, firstField}
+use Rattle.columns.specs.Columns.{recordsFor}
+use Rattle.columns.specs.Fields.{fieldAt, fieldsOf, inField, firstField}
 use Rattle.record.specs.Numbers.{formAt, saysBlank, saysNumber, noValue, valueFault, isNumberAt, valuesOf}
-use Rattle.rules.specs.declared.state.Table.{Table}
-use Rattle.rules.specs.State.{Context, used}
-use Rattle.rules.specs.Fault.{when, columnsWhere, leftmost, fieldColumn}
-use Rattle.rules.specs.Values.{optional, blankFields, lineBlank, rule15, valuesFor}
+use Rattle.rules_state.specs.declared.state.Table.{Table}
+use Rattle.rules_state.specs.State.{Context, used}
+use Rattle.rules_state.specs.Fault.{when, columnsWhere, leftmost, fieldColumn}
+use Rattle.rules_section.specs.Values.{optional, blankFields, lineBlank, rule15, valuesFor}
 use Rattle.rules.proofs.WithoutFault.{where-none}
 use Rattle.good.specs.Parts.{Record}
 use Rattle.good.specs.Marks.{Following}

@@ -6,8 +6,8 @@ use mathlib.Core.List.{List, [], _∷_, map}
 use lib.Dec.{eqb}
 use lib.ListN.{length}
 use Rattle.laws.specs.Walk.{All}
-use Rattle.record.specs.Fields.{fieldAt}
-use Rattle.record.specs.Text.{isBlank}
+use Rattle.columns.specs.Fields.{fieldAt}
+use Rattle.columns.specs.Text.{isBlank}
 use Rattle.record.specs.Word.{equalTo, blankTo, isWord, pointerOf, badPointer}
 use Rattle.record.specs.Identifier.{BIB, NOBIB, ENDBIB, OTHER}
 use Rattle.good.specs.Parts.{Record, Keyword, Bib, Section, present, absent, textsOf}

@@ -9,7 +9,7 @@ use Rattle.laws.specs.Blocks.{joined}
 use Rattle.record.specs.Identifier.{ENTRY, ENDENTRY}
 use Rattle.record.specs.System.{isEntryN1, isDate}
 use Rattle.record.specs.Expected.{accessionOf, identificationFor, entryAccession}
-use Rattle.rules.specs.State.{MOST-RECORDS}
+use Rattle.rules_state.specs.State.{MOST-RECORDS}
 use Rattle.good.specs.Parts.{Record, Entry, recordsOf}
 use Rattle.good.specs.Marks.{Marked, nameOf, n1, n2, Says}
 use Rattle.good.specs.Subentries.{GoodFirst, GoodSubentry, Rising}

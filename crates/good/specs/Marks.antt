@@ -6,9 +6,9 @@ use mathlib.Core.Bool.{Bool, true, false}
 use mathlib.Core.List.{List, [], _∷_, _++_}
 use lib.ListN.{length, getD}
 use Rattle.laws.specs.Members.{anyOf}
-use Rattle.record.specs.Columns.{hasLineFeed}
-use Rattle.record.specs.Class.{isPermitted}
-use Rattle.record.specs.Fields.{fieldAt}
+use Rattle.columns.specs.Columns.{hasLineFeed}
+use Rattle.columns.specs.Class.{isPermitted}
+use Rattle.columns.specs.Fields.{fieldAt}
 use Rattle.record.specs.Word.{equalTo}
 use Rattle.record.specs.Identifier.{identifierOf}
 use Rattle.record.specs.System.{countOf}

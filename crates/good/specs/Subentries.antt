@@ -7,13 +7,13 @@ use lib.Dec.{eqb}
 use lib.ListN.{length}
 use Rattle.laws.specs.Members.{anyOf}
 use Rattle.laws.specs.Walk.{All}
-use Rattle.record.specs.Columns.{columnsAt}
-use Rattle.record.specs.Text.{isBlank}
+use Rattle.columns.specs.Columns.{columnsAt}
+use Rattle.columns.specs.Text.{isBlank}
 use Rattle.record.specs.Word.{equalTo, pointerOf}
 use Rattle.record.specs.Identifier.{SUBENT, NOSUBENT, ENDSUBENT}
 use Rattle.record.specs.System.{isSubentN1, isDate, subentryOf}
 use Rattle.record.specs.Expected.{identificationFor, subentIdentification}
-use Rattle.rules.specs.State.{LAST-SUBENTRY}
+use Rattle.rules_state.specs.State.{LAST-SUBENTRY}
 use Rattle.good.specs.Parts.{Record, First, Later, Subentry, nosubent, subent, bodyOfFirst, bodyOf}
 use Rattle.good.specs.Marks.{Marked, Following, nameOf, n1, n2, Says, Once}
 use Rattle.good.specs.Bib.{GoodBibPart, pointersIn, textsOfPart}

@@ -9,13 +9,13 @@ use Rattle.laws.specs.Members.{listOf}
 use Rattle.laws.specs.Walk.{All}
 use Rattle.number.specs.declared.form.Form.{Form}
 use Rattle.number.specs.declared.form.Form.the-variants as Form
-use Rattle.record.specs.Columns.{recordsFor}
-use Rattle.record.specs.Fields.{fieldAt}
+use Rattle.columns.specs.Columns.{recordsFor}
+use Rattle.columns.specs.Fields.{fieldAt}
 use Rattle.record.specs.Word.{isWord, badPointer, isUnit, blankTo}
 use Rattle.record.specs.Identifier.{COMMON, NOCOMMON, ENDCOMMON, DATA, NODATA, ENDDATA, isEnd}
 use Rattle.record.specs.System.{countOf, isCount, numberOf}
 use Rattle.record.specs.Numbers.{formAt, saysNumber, noValue}
-use Rattle.rules.specs.State.{MOST-COLUMNS, MOST-LINES}
+use Rattle.rules_state.specs.State.{MOST-COLUMNS, MOST-LINES}
 use Rattle.good.specs.Parts.{Record, Table, Section, present, absent, rowsOf}
 use Rattle.good.specs.Marks.{nameOf, n1, n2, Says}
 

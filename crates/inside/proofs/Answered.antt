@@ -10,30 +10,30 @@ use lib.Dec.{eqb, leb}
 use lib.ListN.{length, getD}
 use borrow.Author.Tests.{eqb-true, ne-eqb, le-leb}
 use Rattle.laws.specs.Blocks.{blockAt}
-use Rattle.record.specs.Columns.{recordsFor, placeOf}
-use Rattle.record.specs.Fields.{fieldsOf}
-use Rattle.record.specs.Text.{within}
+use Rattle.columns.specs.Columns.{recordsFor, placeOf}
+use Rattle.columns.specs.Fields.{fieldsOf}
+use Rattle.columns.specs.Text.{within}
 use Rattle.record.specs.Numbers.{noValue}
 use Rattle.number.specs.Form.{formOf}
 use Rattle.record.specs.Identifier.{COMMON, DATA}
-use Rattle.record.specs.declared.columns.RecordNo.{RecordNo}
-use Rattle.record.specs.declared.columns.LineNo.{LineNo}
-use Rattle.record.specs.declared.columns.Place.{Place}
+use Rattle.columns.specs.declared.columns.RecordNo.{RecordNo}
+use Rattle.columns.specs.declared.columns.LineNo.{LineNo}
+use Rattle.columns.specs.declared.columns.Place.{Place}
 use Rattle.number.specs.Reading.{readField}
 use Rattle.number.specs.declared.value.Reading.{Reading}
 use Rattle.number.specs.declared.value.Reading.the-variants.{Blank, Number, Refused}
-use Rattle.rules.specs.System.{countN1, countN2}
-use Rattle.rules.specs.Role.{NOT-DUE, isValue}
+use Rattle.rules_system.specs.System.{countN1, countN2}
+use Rattle.rules_state.specs.Role.{NOT-DUE, isValue}
 use Rattle.entry.specs.Verdict.{roleOf, judgeOf, Accepted}
 use Rattle.rules.proofs.DueRecords.{fine-due}
 use Rattle.rules.proofs.WithoutFault.{fine-reads}
 use Rattle.entry.proofs.GoingOn.{go-fine}
 use Rattle.entry.specs.Contexts.{contextAt, roleAt}
 use Rattle.questions.specs.declared.row.Row.{Row}
-use Rattle.questions.specs.declared.place.Shape.{Shape}
+use Rattle.questions_places.specs.declared.place.Shape.{Shape}
 use Rattle.questions.specs.Row.{rowOf}
-use Rattle.questions.specs.Place.{COMMON-SECTION, DATA-SECTION, fieldsAt, shapeOf, headingPlace, unitPlace}
-use Rattle.questions.specs.Place.{fieldOf, byteOf}
+use Rattle.questions_places.specs.Place.{COMMON-SECTION, DATA-SECTION, fieldsAt, shapeOf, headingPlace, unitPlace}
+use Rattle.questions_places.specs.Place.{fieldOf, byteOf}
 use Rattle.questions.specs.Ask.{firstOf, refusal, sectionIn, noSection, noLine, noColumn, sectionRefusals, valueRefusal}
 use Rattle.questions.specs.Ask.{valueBy, valueOf, columnRefusal, headingBy, headingOf, unitBy, unitOf}
 use Rattle.inside.specs.Inside.{Opens, isSaid, ValueAnswered, HeadingAnswered, UnitAnswered}

@@ -14,7 +14,7 @@ use Rattle.laws.specs.Walk.{walk, Goes}
 use Rattle.laws.specs.Blocks.{blocks, blockAt}
 use Rattle.laws.proofs.Walk.{walk-goes, goes-walk}
 use Rattle.laws.proofs.Blocks.{next-block}
-use Rattle.rules.specs.State.{Context, startContext}
+use Rattle.rules_state.specs.State.{Context, startContext}
 use Rattle.entry.specs.declared.verdict.Verdict.{Verdict}
 use Rattle.entry.specs.Verdict.{refused, turnOf, endOf, isDone, lengthGood, judgeOf, Accepted}
 use Rattle.entry.proofs.GoingOn.{go-fine, out-refused, done-of}

@@ -13,17 +13,19 @@ use native.Mathlib.Omega.{arith}
 use lib.ListN.{getD}
 use borrow.Author.Tests.{le-leb, lt-leb, le-ltb}
 use Rattle.laws.specs.Turns.{go}
-use Rattle.record.specs.Fields.{fieldsOf}
+use Rattle.columns.specs.Fields.{fieldsOf}
 use Rattle.record.specs.Identifier.{identifierOf, isEnd}
-use Rattle.rules.specs.declared.state.Phase.{Phase}
-use Rattle.rules.specs.declared.state.Phase.the-variants.{InCommon, InData}
-use Rattle.rules.specs.declared.state.Table.{Table}
-use Rattle.rules.specs.declared.state.Track.{Track}
-use Rattle.rules.specs.State.{Context, HEADINGS, UNITS, VALUES}
-use Rattle.rules.specs.Role.{COMMON-HEADING, COMMON-UNIT, COMMON-VALUE, DATA-HEADING, DATA-UNIT, DATA-VALUE, NOT-DUE}
-use Rattle.rules.specs.Role.{allRead, tableRole, roleIn}
-use Rattle.rules.specs.Values.{valuesFor}
-use Rattle.entry.specs.Next.{headingsRead, unitsRead, valuesRead, phaseAfter, afterInside, trackAfter, contextAfter}
+use Rattle.rules_state.specs.declared.state.Phase.{Phase}
+use Rattle.rules_state.specs.declared.state.Phase.the-variants.{InCommon, InData}
+use Rattle.rules_state.specs.declared.state.Table.{Table}
+use Rattle.rules_state.specs.declared.state.Track.{Track}
+use Rattle.rules_state.specs.State.{Context, HEADINGS, UNITS, VALUES}
+use Rattle.rules_state.specs.Role.{COMMON-HEADING, COMMON-UNIT, COMMON-VALUE, DATA-HEADING, DATA-UNIT, DATA-VALUE, NOT-DUE}
+use Rattle.rules_state.specs.Role.{allRead, tableRole, roleIn}
+use Rattle.rules_section.specs.Values.{valuesFor}
+use Rattle.entry_next.specs.Counted.{headingsRead, unitsRead, valuesRead, afterInside, trackAfter}
+use Rattle.entry_next.specs.Due.{phaseAfter}
+use Rattle.entry_next.specs.Next.{contextAfter}
 use Rattle.entry.specs.Verdict.{roleOf, turnOf}
 use Rattle.rules.proofs.DueRecords.{fine-due}
 use Rattle.entry.proofs.GoingOn.{go-fine}

@@ -10,23 +10,25 @@ use lib.ListN.{getD}
 use borrow.Author.Tests.{eqb-true, leb-true, ltb-true}
 use Rattle.laws.specs.Turns.{go}
 use Rattle.laws.proofs.Booleans.{and-left, and-right, or-other, either-as}
-use Rattle.record.specs.Fields.{fieldsOf}
+use Rattle.columns.specs.Fields.{fieldsOf}
 use Rattle.record.specs.Identifier.{ENTRY, SUBENT, NOSUBENT, BIB, NOBIB, ENDBIB, COMMON, NOCOMMON, ENDCOMMON, DATA}
 use Rattle.record.specs.Identifier.{NODATA, ENDDATA, ENDSUBENT, ENDENTRY, OTHER, identifierOf, isEnd}
 use Rattle.record.specs.System.{subentryOf}
 use Rattle.record.specs.Word.{blankTo}
-use Rattle.rules.specs.declared.state.Phase.{Phase}
-use Rattle.rules.specs.declared.state.Phase.the-variants.{Start, Opened, InSubentry, InBib, AfterBib, InCommon}
-use Rattle.rules.specs.declared.state.Phase.the-variants.{AfterCommon, InData, AfterData, Between, Done}
-use Rattle.rules.specs.declared.state.Track.{Track}
-use Rattle.rules.specs.State.{Context, HEADINGS, UNITS}
-use Rattle.rules.specs.Role.{TEXT, NOT-DUE, isSystem, opensSubentry, isHeading, isUnit, isValue, bibRole, allRead}
-use Rattle.rules.specs.Role.{tableRole, dataRole, roleIn}
-use Rattle.rules.specs.Every.{n1}
-use Rattle.rules.specs.System.{numberDue}
+use Rattle.rules_state.specs.declared.state.Phase.{Phase}
+use Rattle.rules_state.specs.declared.state.Phase.the-variants.{Start, Opened, InSubentry, InBib, AfterBib, InCommon}
+use Rattle.rules_state.specs.declared.state.Phase.the-variants.{AfterCommon, InData, AfterData, Between, Done}
+use Rattle.rules_state.specs.declared.state.Track.{Track}
+use Rattle.rules_state.specs.State.{Context, HEADINGS, UNITS}
+use Rattle.rules_state.specs.Role.{TEXT, NOT-DUE, isSystem, opensSubentry, isHeading, isUnit, isValue, bibRole, allRead}
+use Rattle.rules_state.specs.Role.{tableRole, dataRole, roleIn}
+use Rattle.rules_system.specs.Every.{n1}
+use Rattle.rules_system.specs.System.{numberDue}
 use Rattle.rules.proofs.DueRecords.{fine-due, fine-number}
-use Rattle.rules.proofs.EitherWay.{either-way}
-use Rattle.entry.specs.Next.{phaseAfter, textRead, afterSystem, afterInside, trackAfter, contextAfter}
+use Rattle.rules_state.proofs.EitherWay.{either-way}
+use Rattle.entry_next.specs.Due.{phaseAfter}
+use Rattle.entry_next.specs.Counted.{textRead, afterSystem, afterInside, trackAfter}
+use Rattle.entry_next.specs.Next.{contextAfter}
 use Rattle.entry.specs.Verdict.{roleOf, turnOf}
 use Rattle.entry.proofs.GoingOn.{go-fine}
 

@@ -12,18 +12,18 @@ use borrow.Author.Tests.{eqb-true, eqb-false, eq-eqb, ne-eqb, le-leb, lt-ltb, no
 use Rattle.laws.proofs.Booleans.{differ, and-left, and-right, or-other, and-none}
 use Rattle.laws.proofs.Search.{first-from, first-to}
 use Rattle.laws.proofs.Counting.{first-before, first-past, first-holds, first-is}
-use Rattle.record.specs.Text.{isBlank}
+use Rattle.columns.specs.Text.{isBlank}
 use Rattle.record.specs.Word.{equalTo, pointerOf}
-use Rattle.record.specs.declared.columns.RecordNo.{RecordNo}
+use Rattle.columns.specs.declared.columns.RecordNo.{RecordNo}
 use Rattle.record.proofs.EqualColumns.{equal-both, equal-taken}
-use Rattle.rules.specs.Text.{placeAt}
+use Rattle.rules_section.specs.Text.{placeAt}
 use Rattle.entry.specs.Verdict.{judgeOf, Accepted}
 use Rattle.questions.specs.declared.row.Row.{Row}
-use Rattle.questions.specs.declared.passage.Passage.{Passage}
+use Rattle.questions_places.specs.declared.passage.Passage.{Passage}
 use Rattle.questions.specs.Row.{rowOf}
-use Rattle.questions.specs.Place.{firstByte}
-use Rattle.questions.specs.Passage.{textRecord, textAt, hasKeyword, isKeyword, begins, beginsWith}
-use Rattle.questions.specs.Passage.{firstText, passageUnder, passageOf}
+use Rattle.questions_places.specs.Place.{firstByte}
+use Rattle.questions_places.specs.Passage.{textRecord, textAt, hasKeyword, isKeyword, begins, beginsWith}
+use Rattle.questions_places.specs.Passage.{firstText, passageUnder, passageOf}
 use Rattle.questions.specs.Ask.{firstOf, refusal, noSection, noPassage, sectionRefusals, passageRefusal, passageBy}
 use Rattle.questions.specs.Ask.{passageAnswer}
 use Rattle.questions.proofs.Refusals.{section-none}

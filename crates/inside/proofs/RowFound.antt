@@ -12,26 +12,26 @@ use lib.ListN.{length, getD}
 use borrow.Author.Tests.{eqb-true}
 use Rattle.laws.specs.Blocks.{blockAt}
 use Rattle.laws.proofs.Booleans.{either-as}
-use Rattle.record.specs.Columns.{recordOf}
-use Rattle.record.specs.Fields.{fieldsOf}
+use Rattle.columns.specs.Columns.{recordOf}
+use Rattle.columns.specs.Fields.{fieldsOf}
 use Rattle.record.specs.Identifier.{SUBENT, NOSUBENT, BIB, COMMON, DATA, ENTRY, NOBIB, ENDBIB, NOCOMMON, ENDCOMMON}
 use Rattle.record.specs.Identifier.{NODATA, ENDDATA, ENDSUBENT, ENDENTRY, OTHER, identifierOf, isEnd}
 use Rattle.record.specs.System.{subentryOf}
-use Rattle.record.specs.declared.columns.RecordNo.{RecordNo}
-use Rattle.rules.specs.declared.state.Phase.{Phase}
-use Rattle.rules.specs.declared.state.Phase.the-variants.{Start, Opened, InSubentry, InBib, AfterBib, InCommon}
-use Rattle.rules.specs.declared.state.Phase.the-variants.{AfterCommon, InData, AfterData, Between, Done}
-use Rattle.rules.specs.declared.state.Track.{Track}
-use Rattle.rules.specs.State.{Context, HEADINGS, UNITS}
-use Rattle.rules.specs.Role.{opensSubentry, bibRole, allRead, tableRole, dataRole, roleIn}
-use Rattle.rules.specs.Every.{n1}
-use Rattle.rules.proofs.EitherWay.{either-way}
-use Rattle.entry.specs.Next.{phaseAfter}
+use Rattle.columns.specs.declared.columns.RecordNo.{RecordNo}
+use Rattle.rules_state.specs.declared.state.Phase.{Phase}
+use Rattle.rules_state.specs.declared.state.Phase.the-variants.{Start, Opened, InSubentry, InBib, AfterBib, InCommon}
+use Rattle.rules_state.specs.declared.state.Phase.the-variants.{AfterCommon, InData, AfterData, Between, Done}
+use Rattle.rules_state.specs.declared.state.Track.{Track}
+use Rattle.rules_state.specs.State.{Context, HEADINGS, UNITS}
+use Rattle.rules_state.specs.Role.{opensSubentry, bibRole, allRead, tableRole, dataRole, roleIn}
+use Rattle.rules_system.specs.Every.{n1}
+use Rattle.rules_state.proofs.EitherWay.{either-way}
+use Rattle.entry_next.specs.Due.{phaseAfter}
 use Rattle.entry.specs.Verdict.{Accepted}
 use Rattle.entry.specs.Contexts.{contextAt, roleAt}
 use Rattle.entry.proofs.Contexts.{records-at}
 use Rattle.questions.specs.Row.{rowOf}
-use Rattle.questions.specs.Place.{fieldsAt, identifierAt}
+use Rattle.questions_places.specs.Place.{fieldsAt, identifierAt}
 use Rattle.questions.proofs.RowChanges.{Section, bib, common, table, opener, named, level, first-stays, first-set}
 use Rattle.questions.proofs.RowChanges.{section-stays, section-set}
 use Rattle.inside.proofs.Contexts.{Walked, walked}

@@ -14,15 +14,15 @@ use Rattle.laws.specs.Walk.{walk}
 use Rattle.laws.specs.Blocks.{blocks, blockAt}
 use Rattle.laws.specs.Seeking.{Noted, noting}
 use Rattle.laws.proofs.Blocks.{next-block}
-use Rattle.record.specs.Fields.{fieldsOf}
-use Rattle.record.specs.declared.columns.RecordNo.{RecordNo}
-use Rattle.rules.specs.State.{Context}
+use Rattle.columns.specs.Fields.{fieldsOf}
+use Rattle.columns.specs.declared.columns.RecordNo.{RecordNo}
+use Rattle.rules_state.specs.State.{Context}
 use Rattle.entry.specs.Verdict.{roleOf, refused, turnOf, endOf, lengthGood, judgeOf, Accepted}
 use Rattle.entry.specs.Contexts.{contextAt, roleAt}
 use Rattle.questions.specs.declared.row.Row.{Row}
 use Rattle.questions.specs.declared.row.Located.{Located}
 use Rattle.questions.specs.Row.{NONE, emptyRow, notedAs, noteOf, locating, located, startRow, locate, rowOf}
-use Rattle.questions.specs.Place.{fieldsAt}
+use Rattle.questions_places.specs.Place.{fieldsAt}
 use Rattle.questions.proofs.RowChanges.{number-stays}
 use Rattle.inside.proofs.Contexts.{Walked, walked}
 

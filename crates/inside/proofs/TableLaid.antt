@@ -10,14 +10,16 @@ use native.Mathlib.Numerals.{add-one}
 use borrow.Author.Tests.{le-leb}
 use Rattle.laws.specs.Blocks.{blockAt}
 use Rattle.laws.proofs.Search.{either}
-use Rattle.record.specs.Columns.{recordsFor}
-use Rattle.record.specs.Fields.{fieldsOf}
+use Rattle.columns.specs.Columns.{recordsFor}
+use Rattle.columns.specs.Fields.{fieldsOf}
 use Rattle.record.specs.Identifier.{COMMON, DATA}
-use Rattle.rules.specs.declared.state.Phase.{Phase}
-use Rattle.rules.specs.State.{Context}
-use Rattle.rules.specs.System.{countN1, countN2}
+use Rattle.rules_state.specs.declared.state.Phase.{Phase}
+use Rattle.rules_state.specs.State.{Context}
+use Rattle.rules_system.specs.System.{countN1, countN2}
 use Rattle.rules.proofs.DueRecords.{fine-common, fine-data}
-use Rattle.entry.specs.Next.{phaseAfter, afterSystem, trackAfter, contextAfter}
+use Rattle.entry_next.specs.Due.{phaseAfter}
+use Rattle.entry_next.specs.Counted.{afterSystem, trackAfter}
+use Rattle.entry_next.specs.Next.{contextAfter}
 use Rattle.entry.specs.Verdict.{roleOf, isDone}
 use Rattle.entry.proofs.GoingOn.{go-fine}
 use Rattle.entry.specs.Contexts.{contextAt, roleAt}

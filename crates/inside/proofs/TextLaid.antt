@@ -15,18 +15,20 @@ use Rattle.laws.specs.Walk.{walk}
 use Rattle.laws.specs.Blocks.{blocks, blockAt}
 use Rattle.laws.proofs.Search.{either}
 use Rattle.laws.proofs.Booleans.{either-as}
-use Rattle.record.specs.Fields.{fieldsOf}
+use Rattle.columns.specs.Fields.{fieldsOf}
 use Rattle.record.specs.Identifier.{BIB, OTHER, identifierOf}
 use Rattle.record.specs.Word.{blankTo}
-use Rattle.record.specs.declared.columns.RecordNo.{RecordNo}
-use Rattle.rules.specs.declared.state.Phase.{Phase}
-use Rattle.rules.specs.declared.state.Phase.the-variants.{InBib}
-use Rattle.rules.specs.declared.state.Track.{Track}
-use Rattle.rules.specs.State.{Context, startContext, MOST-RECORDS}
-use Rattle.rules.specs.System.{countN2}
-use Rattle.rules.specs.Role.{TEXT, NOT-DUE, isValue, bibRole, roleIn}
+use Rattle.columns.specs.declared.columns.RecordNo.{RecordNo}
+use Rattle.rules_state.specs.declared.state.Phase.{Phase}
+use Rattle.rules_state.specs.declared.state.Phase.the-variants.{InBib}
+use Rattle.rules_state.specs.declared.state.Track.{Track}
+use Rattle.rules_state.specs.State.{Context, startContext, MOST-RECORDS}
+use Rattle.rules_system.specs.System.{countN2}
+use Rattle.rules_state.specs.Role.{TEXT, NOT-DUE, isValue, bibRole, roleIn}
 use Rattle.rules.proofs.DueRecords.{fine-due}
-use Rattle.entry.specs.Next.{phaseAfter, textRead, afterSystem, afterInside, trackAfter, contextAfter}
+use Rattle.entry_next.specs.Due.{phaseAfter}
+use Rattle.entry_next.specs.Counted.{textRead, afterSystem, afterInside, trackAfter}
+use Rattle.entry_next.specs.Next.{contextAfter}
 use Rattle.entry.specs.Verdict.{roleOf, isDone, turnOf, endOf, lengthGood, judgeOf, refused, Accepted}
 use Rattle.entry.proofs.GoingOn.{go-fine}
 use Rattle.entry.proofs.Numbered.{whole-records}
@@ -34,7 +36,7 @@ use Rattle.entry.specs.Contexts.{behind, contextAt, roleAt}
 use Rattle.entry.proofs.Contexts.{records-at}
 use Rattle.questions.specs.declared.row.Row.{Row}
 use Rattle.questions.specs.Row.{NONE, notedAs, rowOf}
-use Rattle.questions.specs.Passage.{textRecords}
+use Rattle.questions_places.specs.Passage.{textRecords}
 use Rattle.questions.proofs.RowChanges.{Section, bib, common, table, opener, named, section-stays, section-set}
 use Rattle.inside.specs.Inside.{TextOf}
 use Rattle.inside.proofs.Contexts.{walked}

@@ -10,13 +10,14 @@ use lib.ListN.{length, getD}
 use borrow.Author.Tests.{eqb-true, eqb-false, eq-eqb}
 use Rattle.laws.specs.Blocks.{blockAt}
 use Rattle.laws.proofs.Booleans.{differ, either-as}
-use Rattle.record.specs.Fields.{fieldsOf}
+use Rattle.columns.specs.Fields.{fieldsOf}
 use Rattle.record.specs.Identifier.{BIB, ENDBIB, OTHER, identifierOf}
-use Rattle.rules.specs.State.{Context}
-use Rattle.rules.specs.Role.{TEXT, NOT-DUE, only, bibRole, roleIn, inBib}
-use Rattle.rules.proofs.RolePlaces.{text-in-bib}
-use Rattle.entry.specs.Next.{phaseAfter, contextAfter}
-use Rattle.entry.proofs.Following.{bib-led, one-of}
+use Rattle.rules_state.specs.State.{Context}
+use Rattle.rules_state.specs.Role.{TEXT, NOT-DUE, only, bibRole, roleIn, inBib}
+use Rattle.rules_state.proofs.RolePlaces.{text-in-bib}
+use Rattle.entry_next.specs.Due.{phaseAfter}
+use Rattle.entry_next.specs.Next.{contextAfter}
+use Rattle.entry_next.proofs.Following.{bib-led, one-of}
 use Rattle.entry.specs.Verdict.{Accepted}
 use Rattle.entry.specs.Contexts.{contextAt, roleAt}
 use Rattle.questions.proofs.RowChanges.{bib}

@@ -14,23 +14,24 @@ use Rattle.laws.specs.Blocks.{blockAt}
 use Rattle.laws.specs.Members.{anyOf}
 use Rattle.laws.proofs.Booleans.{differ, or-right}
 use Rattle.laws.proofs.Search.{either}
-use Rattle.record.specs.Fields.{fieldsOf}
+use Rattle.columns.specs.Fields.{fieldsOf}
 use Rattle.record.specs.Identifier.{BIB}
-use Rattle.record.specs.Text.{isBlank}
+use Rattle.columns.specs.Text.{isBlank}
 use Rattle.record.specs.Word.{blankTo, equalTo, isWord, pointerOf, badPointer}
-use Rattle.rules.specs.declared.fault.Fault.the-variants.{Fine}
-use Rattle.rules.specs.declared.state.Track.{Track}
-use Rattle.rules.specs.State.{Seen, Context}
-use Rattle.rules.specs.Role.{TEXT}
-use Rattle.rules.specs.Fault.{when, leftmost}
-use Rattle.rules.specs.Text.{placeAt, placesOf, pointersOf, keywordFault, rule10, pointerRepeated, rule11Text}
+use Rattle.rules_state.specs.declared.fault.Fault.the-variants.{Fine}
+use Rattle.rules_state.specs.declared.state.Track.{Track}
+use Rattle.rules_state.specs.State.{Seen, Context}
+use Rattle.rules_state.specs.Role.{TEXT}
+use Rattle.rules_state.specs.Fault.{when, leftmost}
+use Rattle.rules_section.specs.Text.{placeAt, placesOf, pointersOf, keywordFault, rule10, pointerRepeated, rule11Text}
 use Rattle.rules.specs.Order.{faultOf}
 use Rattle.rules.proofs.WithoutFault.{none-found}
-use Rattle.entry.specs.Next.{partAfter, bibChange, underChange, seenAfter, contextAfter}
+use Rattle.entry_next.specs.Parts.{partAfter, bibChange, underChange, seenAfter}
+use Rattle.entry_next.specs.Next.{contextAfter}
 use Rattle.entry.specs.Verdict.{roleOf, Accepted}
 use Rattle.entry.proofs.GoingOn.{go-fine}
 use Rattle.entry.specs.Contexts.{behind, contextAt, roleAt}
-use Rattle.questions.specs.Passage.{hasKeyword}
+use Rattle.questions_places.specs.Passage.{hasKeyword}
 use Rattle.questions.proofs.RowChanges.{bib}
 use Rattle.inside.specs.Inside.{TextOf, Under}
 use Rattle.inside.proofs.Contexts.{walked, context-next}

@@ -12,18 +12,18 @@ use lib.ListN.{length, take}
 use Rattle.laws.specs.Blocks.{blockAt}
 use Rattle.number.specs.declared.value.Reading.{Reading}
 use Rattle.number.specs.declared.value.Reading.the-variants.{Blank, Number, Refused}
-use Rattle.record.specs.Fields.{fieldsOf}
+use Rattle.columns.specs.Fields.{fieldsOf}
 use Rattle.record.specs.Word.{equalTo, pointerOf}
 use Rattle.record.specs.Identifier.{COMMON, DATA}
-use Rattle.record.specs.declared.columns.LineNo.{LineNo}
-use Rattle.rules.specs.System.{countN1, countN2}
-use Rattle.rules.specs.Text.{placeAt}
-use Rattle.rules.specs.Role.{TEXT, NOT-DUE}
+use Rattle.columns.specs.declared.columns.LineNo.{LineNo}
+use Rattle.rules_system.specs.System.{countN1, countN2}
+use Rattle.rules_section.specs.Text.{placeAt}
+use Rattle.rules_state.specs.Role.{TEXT, NOT-DUE}
 use Rattle.entry.specs.Verdict.{Accepted}
 use Rattle.entry.specs.Contexts.{contextAt, roleAt}
-use Rattle.questions.specs.Place.{COMMON-SECTION, DATA-SECTION}
+use Rattle.questions_places.specs.Place.{COMMON-SECTION, DATA-SECTION}
 use Rattle.questions.specs.declared.ask.PartAnswer.{PartAnswer}
-use Rattle.questions.specs.Passage.{hasKeyword, begins, beginsWith}
+use Rattle.questions_places.specs.Passage.{hasKeyword, begins, beginsWith}
 use Rattle.questions.specs.Ask.{valueOf, headingOf, unitOf, passageAnswer}
 
 -- ---- tables

@@ -9,7 +9,7 @@ use Rattle.laws.specs.Turns.{Turn, go, out, after}
 use Rattle.laws.specs.Walk.{walk}
 use Rattle.laws.specs.Blocks.{blocks}
 use Rattle.laws.specs.Seeking.{Noted, noteTurn, noting}
-use Rattle.rules.specs.State.{Context, startContext}
+use Rattle.rules_state.specs.State.{Context, startContext}
 use Rattle.entry.specs.declared.verdict.Verdict.{Verdict}
 use Rattle.entry.specs.Verdict.{refused, turnOf, endOf, lengthGood, judgeOf}
 use Rattle.questions.specs.declared.row.Row.{Row}

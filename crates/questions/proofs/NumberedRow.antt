@@ -13,7 +13,7 @@ use Rattle.laws.specs.Seeking.{Noted, noteTurn, noting}
 use Rattle.laws.proofs.Agree.{Agree, runs-agree}
 use Rattle.laws.proofs.Blocks.{run-walk}
 use Rattle.laws.proofs.Turns.{Run, run-all}
-use Rattle.rules.specs.State.{Context, MOST-RECORDS}
+use Rattle.rules_state.specs.State.{Context, MOST-RECORDS}
 use Rattle.entry.specs.declared.step.Judge.{Judge}
 use Rattle.entry.specs.declared.verdict.Verdict.{Verdict}
 use Rattle.entry.specs.Verdict.{refused, turnOf, lengthGood}

@@ -9,16 +9,16 @@ use native.Mathlib.Nat.{mul-le-mul}
 use lib.Dec.{eqb, leb}
 use lib.ListN.{length}
 use borrow.Author.Tests.{leb-true}
-use Rattle.record.specs.Columns.{placeOf, InTable}
-use Rattle.record.specs.declared.columns.RecordNo.{RecordNo}
+use Rattle.columns.specs.Columns.{placeOf, InTable}
+use Rattle.columns.specs.declared.columns.RecordNo.{RecordNo}
 use Rattle.record.specs.Word.{pointerOf}
-use Rattle.record.specs.declared.columns.Place.{Place}
-use Rattle.record.specs.declared.columns.LineNo.{LineNo}
+use Rattle.columns.specs.declared.columns.Place.{Place}
+use Rattle.columns.specs.declared.columns.LineNo.{LineNo}
 use Rattle.entry.specs.declared.verdict.Verdict.{Verdict}
 use Rattle.questions.specs.declared.row.Row.{Row}
-use Rattle.questions.specs.declared.place.Shape.{Shape}
-use Rattle.questions.specs.Place.{shapeOf, headingPlace, unitPlace, fieldOf, firstByte, byteOf}
-use Rattle.questions.specs.Passage.{passageOf}
+use Rattle.questions_places.specs.declared.place.Shape.{Shape}
+use Rattle.questions_places.specs.Place.{shapeOf, headingPlace, unitPlace, fieldOf, firstByte, byteOf}
+use Rattle.questions_places.specs.Passage.{passageOf}
 use Rattle.questions.specs.Ask.{sectionIn, columnRefusal, passageRefusal, answer, answerFor, noPart, partFrom}
 use Rattle.questions.specs.Ask.{partWith, Lies, headingBy, unitBy, passageBy, Inside}
 

@@ -5,13 +5,13 @@ use mathlib.Core.Path.{_≡_, refl}
 use mathlib.Core.Bool.{Bool, true, false, not}
 use mathlib.Core.List.{List, [], _∷_, _++_}
 use native.Mathlib.Omega.{arith}
-use Rattle.record.specs.Text.{within}
-use Rattle.record.specs.declared.columns.RecordNo.{RecordNo}
-use Rattle.record.specs.declared.columns.LineNo.{LineNo}
+use Rattle.columns.specs.Text.{within}
+use Rattle.columns.specs.declared.columns.RecordNo.{RecordNo}
+use Rattle.columns.specs.declared.columns.LineNo.{LineNo}
 use Rattle.entry.specs.declared.verdict.Verdict.{Verdict}
 use Rattle.rules.proofs.DueRecords.{within-bounds}
 use Rattle.questions.specs.declared.row.Row.{Row}
-use Rattle.questions.specs.declared.place.Shape.{Shape}
+use Rattle.questions_places.specs.declared.place.Shape.{Shape}
 use Rattle.questions.specs.Ask.{Refusal, refusal, firstOf, isRefused, isSubent, noSection, sectionRefusals}
 use Rattle.questions.specs.Ask.{Inside, valueRefusal, columnRefusal}
 

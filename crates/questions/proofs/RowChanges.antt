@@ -6,13 +6,13 @@ use mathlib.Core.Bool.{Bool, true, false, cond}
 use mathlib.Core.List.{List}
 use lib.Dec.{eqb}
 use borrow.Author.Tests.{eqb-true, eq-eqb}
-use Rattle.record.specs.Columns.{recordOf}
+use Rattle.columns.specs.Columns.{recordOf}
 use Rattle.record.specs.Identifier.{BIB, COMMON, DATA}
 use Rattle.record.specs.System.{subentryOf}
-use Rattle.record.specs.declared.columns.RecordNo.{RecordNo}
-use Rattle.rules.specs.declared.state.Track.{Track}
-use Rattle.rules.specs.Role.{opensSubentry}
-use Rattle.rules.specs.Every.{n1}
+use Rattle.columns.specs.declared.columns.RecordNo.{RecordNo}
+use Rattle.rules_state.specs.declared.state.Track.{Track}
+use Rattle.rules_state.specs.Role.{opensSubentry}
+use Rattle.rules_system.specs.Every.{n1}
 use Rattle.questions.specs.declared.row.Row.{Row}
 use Rattle.questions.specs.Row.{withFirst, withBib, withCommon, withData, noted, subentryIn, notedAs}
 

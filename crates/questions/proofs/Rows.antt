@@ -5,16 +5,16 @@ use mathlib.Core.Bool.{Bool, true, false, cond}
 use mathlib.Core.List.{List}
 use native.Mathlib.Omega.{arith}
 use lib.Dec.{eqb}
-use Rattle.record.specs.Columns.{recordOf}
+use Rattle.columns.specs.Columns.{recordOf}
 use Rattle.record.specs.Identifier.{BIB, COMMON, DATA}
-use Rattle.record.specs.declared.columns.RecordNo.{RecordNo}
-use Rattle.rules.specs.declared.state.Track.{Track}
-use Rattle.rules.specs.State.{MOST-RECORDS}
-use Rattle.rules.specs.Role.{opensSubentry}
+use Rattle.columns.specs.declared.columns.RecordNo.{RecordNo}
+use Rattle.rules_state.specs.declared.state.Track.{Track}
+use Rattle.rules_state.specs.State.{MOST-RECORDS}
+use Rattle.rules_state.specs.Role.{opensSubentry}
 use Rattle.questions.specs.declared.row.Row.{Row}
 use Rattle.questions.specs.Row.{NONE, emptyRow, withFirst, withBib, withCommon, withData, noted, subentryIn}
 use Rattle.questions.specs.Row.{notedAs, Met}
-use Rattle.questions.specs.Place.{COMMON-SECTION, DATA-SECTION}
+use Rattle.questions_places.specs.Place.{COMMON-SECTION, DATA-SECTION}
 use Rattle.questions.specs.Ask.{sectionIn}
 
 pub met-empty : (number : ℕ) → Met (emptyRow number)

@@ -11,27 +11,27 @@ use mathlib.Core.Bool.{Bool, cond, not}
 use mathlib.Core.List.{List, [], _∷_, _++_}
 use lib.Dec.{eqb, leb}
 use lib.ListN.{length, take, drop}
-use Rattle.record.specs.Columns.{placeOf}
-use Rattle.record.specs.Text.{within}
+use Rattle.columns.specs.Columns.{placeOf}
+use Rattle.columns.specs.Text.{within}
 use Rattle.record.specs.Word.{pointerOf}
 use Rattle.record.specs.Identifier.{SUBENT}
-use Rattle.record.specs.declared.columns.RecordNo.{RecordNo}
-use Rattle.record.specs.declared.columns.LineNo.{LineNo}
+use Rattle.columns.specs.declared.columns.RecordNo.{RecordNo}
+use Rattle.columns.specs.declared.columns.LineNo.{LineNo}
 use Rattle.number.specs.Reading.{readField}
 use Rattle.number.specs.declared.value.Reading.{Reading}
 use Rattle.number.specs.declared.value.Reading.the-variants.{Blank}
 use Rattle.entry.specs.declared.verdict.Verdict.{Verdict}
 use Rattle.entry.specs.Verdict.{judgeOf}
 use Rattle.questions.specs.declared.row.Row.{Row}
-use Rattle.questions.specs.declared.place.Shape.{Shape}
-use Rattle.questions.specs.declared.passage.Passage.{Passage}
+use Rattle.questions_places.specs.declared.place.Shape.{Shape}
+use Rattle.questions_places.specs.declared.passage.Passage.{Passage}
 use Rattle.questions.specs.declared.ask.Answer.{Answer}
 use Rattle.questions.specs.declared.ask.ValueAnswer.{ValueAnswer}
 use Rattle.questions.specs.declared.ask.PartAnswer.{PartAnswer}
 use Rattle.questions.specs.Row.{NONE, rowOf}
-use Rattle.questions.specs.Place.{identifierAt, COMMON-SECTION, DATA-SECTION, shapeOf, headingPlace, unitPlace}
-use Rattle.questions.specs.Place.{fieldOf, firstByte, byteOf}
-use Rattle.questions.specs.Passage.{passageOf}
+use Rattle.questions_places.specs.Place.{identifierAt, COMMON-SECTION, DATA-SECTION, shapeOf, headingPlace, unitPlace}
+use Rattle.questions_places.specs.Place.{fieldOf, firstByte, byteOf}
+use Rattle.questions_places.specs.Passage.{passageOf}
 
 -- An answer comes from the verdict on the entry and the row of the subentry (`..By`), and both from the entry alone.
 

@@ -1,5 +1,3 @@
 pub mod Row
 pub mod Numbers
-pub mod Place
-pub mod Passage
 pub mod Ask

@@ -7,10 +7,10 @@ use lib.ListN.{length, getD}
 use Rattle.laws.specs.Turns.{Turn, run}
 use Rattle.laws.specs.Blocks.{blockAt}
 use Rattle.laws.specs.Seeking.{Noted, noteTurn}
-use Rattle.record.specs.Fields.{fieldsOf}
+use Rattle.columns.specs.Fields.{fieldsOf}
 use Rattle.record.specs.Identifier.{identifierOf}
 use Rattle.entry.specs.declared.step.Judge.{Judge}
-use Rattle.rules.specs.Role.{roleIn}
+use Rattle.rules_state.specs.Role.{roleIn}
 use Rattle.entry.specs.Verdict.{refused, lengthGood}
 use Rattle.entry.specs.Numbers.{startJudge, stepTurn, finishOf}
 use Rattle.questions.specs.declared.row.Row.{Row}

@@ -8,15 +8,15 @@ use Rattle.laws.specs.Turns.{Turn, go, out}
 use Rattle.laws.specs.Walk.{walk}
 use Rattle.laws.specs.Blocks.{blocks}
 use Rattle.laws.specs.Seeking.{Noted, noting}
-use Rattle.record.specs.Columns.{recordOf}
-use Rattle.record.specs.Fields.{fieldsOf}
+use Rattle.columns.specs.Columns.{recordOf}
+use Rattle.columns.specs.Fields.{fieldsOf}
 use Rattle.record.specs.Identifier.{BIB, COMMON, DATA}
 use Rattle.record.specs.System.{subentryOf}
-use Rattle.record.specs.declared.columns.RecordNo.{RecordNo}
-use Rattle.rules.specs.declared.state.Track.{Track}
-use Rattle.rules.specs.State.{Context, startContext, MOST-RECORDS}
-use Rattle.rules.specs.Role.{opensSubentry}
-use Rattle.rules.specs.Every.{n1}
+use Rattle.columns.specs.declared.columns.RecordNo.{RecordNo}
+use Rattle.rules_state.specs.declared.state.Track.{Track}
+use Rattle.rules_state.specs.State.{Context, startContext, MOST-RECORDS}
+use Rattle.rules_state.specs.Role.{opensSubentry}
+use Rattle.rules_system.specs.Every.{n1}
 use Rattle.entry.specs.declared.verdict.Verdict.{Verdict}
 use Rattle.entry.specs.Verdict.{roleOf, refused, turnOf, endOf, lengthGood}
 use Rattle.questions.specs.declared.row.Row.{Row}

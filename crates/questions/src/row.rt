@@ -1,29 +1,30 @@
 // Where a subentry stands in an entry, noted on the way through the judge's own steps.
 ghost use mathlib.Core.Path.{_≡_};
 ghost use Prim.Native.Nat.{ℕ, _≤_};
-ghost use Rattle.record.specs.Columns.{Whole, Counted};
+ghost use Rattle.columns.specs.Columns.{Whole, Counted};
 ghost use Rattle.record.specs.Identifier.{NamesLent};
 ghost use Rattle.questions.specs.Row.{emptyRow, noted, subentryIn, locate as locateOf, Met};
 ghost use Rattle.questions.specs.Numbers.{noteBy};
+use columns::class::classes;
+use columns::columns::RecordNo;
+use columns::columns::record_of;
+use columns::fields::fields;
 use entry::step::Judge;
 use entry::verdict::Verdict;
 use entry::verdict::length_good;
 use entry::verdict::refused;
 use number::form::kinds;
 use number::form::nexts;
-use record::class::classes;
-use record::columns::RecordNo;
-use record::columns::record_of;
-use record::fields::fields;
 use record::identifier::BIB;
 use record::identifier::COMMON;
 use record::identifier::DATA;
+use record::identifier::Names;
 use record::identifier::identifier_of;
 use record::identifier::names;
 use record::system::subentry_of;
-use rules::fault::Fault;
-use rules::role::opens_subentry;
-use rules::state::Track;
+use rules_state::fault::Fault;
+use rules_state::role::opens_subentry;
+use rules_state::state::Track;
 
 // A subentry's number, its first record, and the records BIB, COMMON and DATA, 0 where there is none.
 pub struct Row {
@@ -87,7 +88,7 @@ fn subentry_in(t: Track, role: usize, fs: [[u8; 11]; 6]) -> u32
 }
 
 // The row, after any record.
-fn note(row: Row, names: &[u8; 154], j: Judge, rec: &[u8]) -> Row
+fn note(row: Row, names: &Names, j: Judge, rec: &[u8]) -> Row
     requires { ⌜ NamesLent (now names) ⌝ }
     requires { ⌜ Whole (now rec) ⌝ }
     requires { ⌜ Counted (j .track .records) ⌝ }

@@ -8,7 +8,7 @@ use native.Mathlib.Omega.{arith}
 use native.Mathlib.Nat.{add-zero}
 use lib.ListN.{getD, drop}
 use lib.Seq.{getD-take, getD-drop}
-use Rattle.record.specs.Columns.{columnsAt}
+use Rattle.columns.specs.Columns.{columnsAt}
 use Rattle.record.specs.Word.{equalTo, fourAt, eightAt}
 use Rattle.record.proofs.EqualColumns.{equal-at}
 

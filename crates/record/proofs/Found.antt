@@ -7,8 +7,8 @@ use Prim.Native.Nat.{ℕ, _≤_}
 use native.Mathlib.Omega.{arith}
 use Rattle.laws.specs.Search.{first, howMany}
 use Rattle.laws.proofs.Search.{first-to, many-to}
-use Rattle.record.specs.Class.{notPermitted, permittedTo}
-use Rattle.record.specs.Fields.{inField, firstField}
+use Rattle.columns.specs.Class.{notPermitted, permittedTo}
+use Rattle.columns.specs.Fields.{inField, firstField}
 use Rattle.record.specs.Identifier.{OTHER, isName, identifierOf}
 use Rattle.record.specs.Numbers.{valueFault, isNumberAt, numbersIn, valuesOf}
 

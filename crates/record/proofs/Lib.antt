@@ -1,8 +1,5 @@
-pub mod ClassTable
-pub mod ReadColumns
 pub mod NameTable
 pub mod Powers
-pub mod TablePlaces
 pub mod Found
 pub mod NumberFields
 pub mod Readings

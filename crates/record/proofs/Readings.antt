@@ -12,7 +12,7 @@ use Rattle.laws.proofs.Search.{first-same, first-to, many-same}
 use Rattle.number.specs.declared.form.Form.{Form}
 use Rattle.number.specs.declared.form.Form.the-variants.{Blank, Number, Malformed}
 use Rattle.number.specs.Reading.{readField}
-use Rattle.record.specs.Fields.{inField, firstField}
+use Rattle.columns.specs.Fields.{inField, firstField}
 use Rattle.record.specs.Numbers.{formAt, saysBlank, noValue, valueFault, isNumberAt, valuesOf}
 
 -- a field that is not at fault is blank or a number

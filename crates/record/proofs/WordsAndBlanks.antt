@@ -12,7 +12,7 @@ use borrow.Author.Tests.{eqb-true, eqb-false, ne-eqb, not-false}
 use Rattle.laws.specs.Search.{first}
 use Rattle.laws.proofs.Booleans.{and-left}
 use Rattle.laws.proofs.Search.{first-pass}
-use Rattle.record.specs.Text.{isBlank}
+use Rattle.columns.specs.Text.{isBlank}
 use Rattle.record.specs.Word.{blankAt, filledAt, blankTo, equalTo, isWord, wordEnd, filledFrom, pointerOf}
 
 filled-first : (f : List ℕ) → isWord 10 f ≡ true → blankAt f 0 ≡ false

@@ -6,7 +6,7 @@
 -- Here is how each is laid out; which one is expected where, the entry layer says. Both are compared with `equalTo`.
 use Prim.Native.Nat.{ℕ, zero, suc, _+_, _/_, _%_, _^_}
 use mathlib.Core.List.{List, [], _∷_, _++_}
-use Rattle.record.specs.Columns.{columnsAt}
+use Rattle.columns.specs.Columns.{columnsAt}
 
 -- ---- what is written
 

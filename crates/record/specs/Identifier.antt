@@ -9,7 +9,7 @@ use mathlib.Core.List.{List, [], _∷_, _++_}
 use lib.ListN.{length, getD, replicate}
 use Rattle.laws.specs.Search.{first}
 use Rattle.laws.specs.Members.{joinOf}
-use Rattle.record.specs.Text.{text}
+use Rattle.columns.specs.Text.{text}
 use Rattle.record.specs.Word.{equalTo}
 
 -- ---- the names in one table, each known by its place

@@ -1,7 +1,3 @@
-pub mod Text
-pub mod Class
-pub mod Columns
-pub mod Fields
 pub mod Word
 pub mod Identifier
 pub mod System

@@ -13,7 +13,7 @@ use Rattle.number.specs.Form.{formOf}
 use Rattle.number.specs.Reading.{readField}
 use Rattle.number.specs.declared.form.Form.{Form}
 use Rattle.number.specs.declared.form.Form.the-variants.{Blank, Number, Malformed}
-use Rattle.record.specs.Fields.{inField, firstField}
+use Rattle.columns.specs.Fields.{inField, firstField}
 use Rattle.record.specs.declared.numbers.Values.{Values}
 
 -- blank, a number, or malformed

@@ -5,7 +5,7 @@ use mathlib.Core.List.{List}
 use lib.Dec.{eqb}
 use lib.ListN.{getD}
 use Rattle.laws.specs.Search.{first}
-use Rattle.record.specs.Text.{within, isDigit, isCapital}
+use Rattle.columns.specs.Text.{within, isDigit, isCapital}
 use Rattle.record.specs.Word.{filledFrom, blankTo}
 use Rattle.record.specs.declared.system.Count.{Count}
 use Rattle.record.specs.declared.system.Count.the-variants.{Number, Bad}

@@ -5,7 +5,7 @@ use mathlib.Core.List.{List}
 use lib.Dec.{eqb, ltb}
 use lib.ListN.{getD}
 use Rattle.laws.specs.Search.{first}
-use Rattle.record.specs.Text.{isBlank, isFrom}
+use Rattle.columns.specs.Text.{isBlank, isFrom}
 
 -- ---- columns that are blank or filled, and columns compared
 

@@ -1,7 +1,7 @@
 // What is written in columns 67 to 79, and what is expected there.
 ghost use mathlib.Core.Path.{_≡_};
 ghost use Prim.Native.Nat.{ℕ};
-ghost use Rattle.record.specs.Columns.{Whole};
+ghost use Rattle.columns.specs.Columns.{Whole};
 ghost use Rattle.record.specs.Word.{equalTo};
 ghost use Rattle.record.specs.Expected.{accessionOf, identificationOf, sequenceOf, inDigits};
 ghost use Rattle.record.specs.Expected.{identificationFor, entryAccession, subentIdentification};

@@ -33,7 +33,10 @@ pub const ENDENTRY: usize = 13;
 
 pub const OTHER: usize = 14;
 
-const NAMES: [u8; 154] = *b"\
+// Fourteen names of eleven columns.
+pub type Names = [u8; 154];
+
+const NAMES: Names = *b"\
     ENTRY      \
     SUBENT     \
     NOSUBENT   \
@@ -50,14 +53,14 @@ const NAMES: [u8; 154] = *b"\
     ENDENTRY   ";
 
 // The names, eleven columns each. They are written out at each use, so a caller takes them once and lends them.
-pub fn names() -> [u8; 154]
+pub fn names() -> Names
     ensures { λ r. ⌜ r ≡ nameTable ⌝ }
 {
     NAMES
 }
 
 // Whether a field is the name at `k`.
-fn is_name(t: &[u8; 154], f: [u8; 11], k: usize) -> bool
+fn is_name(t: &Names, f: [u8; 11], k: usize) -> bool
     requires { ⌜ NamesLent (now t) ⌝ }
     requires { ⌜ k < 14 ⌝ }
     ensures { λ r. ⌜ r ≡ isName f k ⌝ }
@@ -73,7 +76,7 @@ fn is_name(t: &[u8; 154], f: [u8; 11], k: usize) -> bool
 }
 
 // The system identifier that a field is, or OTHER.
-pub fn identifier_of(t: &[u8; 154], f: [u8; 11]) -> usize
+pub fn identifier_of(t: &Names, f: [u8; 11]) -> usize
     requires { ⌜ NamesLent (now t) ⌝ }
     ensures { λ r. ⌜ r ≡ identifierOf f ⌝ }
 {
@@ -88,7 +91,7 @@ pub fn identifier_of(t: &[u8; 154], f: [u8; 11]) -> usize
 }
 
 // Whether the name at `k` begins with END.
-pub fn is_end(t: &[u8; 154], k: usize) -> bool
+pub fn is_end(t: &Names, k: usize) -> bool
     requires { ⌜ NamesLent (now t) ⌝ }
     ensures { λ r. ⌜ r ≡ isEnd k ⌝ }
 {

@@ -2,7 +2,7 @@
 ghost use mathlib.Core.Path.{_≡_};
 ghost use Prim.Native.Nat.{ℕ, _+_, _*_, _^_, _≤_};
 ghost use mathlib.Core.Bool.{_||_};
-ghost use Rattle.record.specs.Text.{within, isCapital, isDigit};
+ghost use Rattle.columns.specs.Text.{within, isCapital, isDigit};
 ghost use Rattle.record.specs.System.{digitOf, digitsIn, numberIn, countOf, isCount, numberOf};
 ghost use Rattle.record.specs.System.{isDate, isAccession, isEntryN1, isSubentN1, subentryOf};
 use crate::word::blank_to;

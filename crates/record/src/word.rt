@@ -2,8 +2,8 @@
 ghost use mathlib.Core.Path.{_≡_};
 ghost use Prim.Native.Nat.{ℕ, _+_, _*_, _≤_};
 ghost use lib.ListN.{length};
-ghost use Rattle.record.specs.Text.{within};
-ghost use Rattle.record.specs.Fields.{firstField};
+ghost use Rattle.columns.specs.Text.{within};
+ghost use Rattle.columns.specs.Fields.{firstField};
 ghost use Rattle.record.specs.Word.{blankTo, equalTo, wordEnd, filledFrom, isWord, isPointer};
 ghost use Rattle.record.specs.Word.{fourAt, eightAt};
 ghost use Rattle.record.specs.Word.{badPointer, isUnit, pointerFault, headingFault, unitFault};

@@ -2,19 +2,20 @@
 // six fields are to be taken as used.
 ghost use Prim.Native.Nat.{_≤_};
 ghost use Rattle.number.specs.Form.{Tables};
-ghost use Rattle.record.specs.Class.{ClassesLent};
-ghost use Rattle.record.specs.Columns.{Whole};
+ghost use Rattle.columns.specs.Class.{ClassesLent};
+ghost use Rattle.columns.specs.Columns.{Whole};
 ghost use Rattle.record.specs.Identifier.{NamesLent};
+use columns::class::class_of;
+use columns::class::classes;
+use columns::class::permitted_to;
+use columns::columns::LineNo;
+use columns::columns::RecordNo;
+use columns::columns::has_line_feed;
+use columns::columns::place_of;
+use columns::columns::records_for;
+use columns::fields::fields;
 use number::form::kinds;
 use number::form::nexts;
-use record::class::class_of;
-use record::class::classes;
-use record::class::permitted_to;
-use record::columns::LineNo;
-use record::columns::RecordNo;
-use record::columns::has_line_feed;
-use record::columns::place_of;
-use record::columns::records_for;
 use record::expected::entry_accession;
 use record::expected::five_digits;
 use record::expected::identification;
@@ -23,7 +24,7 @@ use record::expected::same_five;
 use record::expected::same_identification;
 use record::expected::sequence;
 use record::expected::subent_identification;
-use record::fields::fields;
+use record::identifier::Names;
 use record::identifier::identifier_of;
 use record::identifier::is_end;
 use record::identifier::names;
@@ -146,7 +147,7 @@ fn say_identification(rec: &[u8], n1: [u8; 11], number: u32)
     say_whether(b" in-sequence", same_five(sequence(rec), due));
 }
 
-fn say_record(t: &[u8; 256], names: &[u8; 154], rec: &[u8], number: u32)
+fn say_record(t: &[u8; 256], names: &Names, rec: &[u8], number: u32)
     requires { ⌜ ClassesLent (now t) ⌝ }
     requires { ⌜ NamesLent (now names) ⌝ }
     requires { ⌜ Whole (now rec) ⌝ }

@@ -7,19 +7,19 @@ use Prim.Native.Nat.{ℕ, suc, _*_, _≤_}
 use native.Mathlib.Omega.{arith}
 use borrow.Author.Tests.{leb-true}
 use lib.Dec.{ltb, leb}
-use Rattle.record.specs.Text.{within}
-use Rattle.record.specs.Columns.{recordsFor}
+use Rattle.columns.specs.Text.{within}
+use Rattle.columns.specs.Columns.{recordsFor}
 use Rattle.record.specs.Identifier.{COMMON, DATA}
 use Rattle.record.specs.Word.{equalTo}
 use Rattle.record.specs.System.{subentryOf}
-use Rattle.rules.specs.declared.fault.Fault.the-variants.{Fine}
-use Rattle.rules.specs.declared.state.Track.{Track}
-use Rattle.rules.specs.State.{Seen, MOST-COLUMNS, MOST-LINES}
-use Rattle.rules.specs.Role.{NOT-DUE, opensSubentry}
-use Rattle.rules.specs.Fault.{on, when, leftmost}
-use Rattle.rules.specs.Every.{rule4, n1}
-use Rattle.rules.specs.System.{countN1, countN2, limitN1, limitN2, announcedFault, rule8, numberDue, accessionN1}
-use Rattle.rules.specs.System.{rule9}
+use Rattle.rules_state.specs.declared.fault.Fault.the-variants.{Fine}
+use Rattle.rules_state.specs.declared.state.Track.{Track}
+use Rattle.rules_state.specs.State.{Seen, MOST-COLUMNS, MOST-LINES}
+use Rattle.rules_state.specs.Role.{NOT-DUE, opensSubentry}
+use Rattle.rules_state.specs.Fault.{on, when, leftmost}
+use Rattle.rules_system.specs.Every.{rule4, n1}
+use Rattle.rules_system.specs.System.{countN1, countN2, limitN1, limitN2, announcedFault, rule8, numberDue, accessionN1}
+use Rattle.rules_system.specs.System.{rule9}
 use Rattle.rules.specs.Order.{faultOf}
 use Rattle.rules.proofs.WithoutFault.{none-found}
 

@@ -10,28 +10,28 @@ use native.Mathlib.Omega.{arith}
 use borrow.Author.Tests.{eqb-true, eqb-false}
 use lib.Dec.{eqb}
 use lib.ListN.{length, getD}
-use Rattle.record.specs.Class.{notPermitted}
-use Rattle.record.specs.Columns.{hasLineFeed}
+use Rattle.columns.specs.Class.{notPermitted}
+use Rattle.columns.specs.Columns.{hasLineFeed}
 use Rattle.record.specs.Expected.{identificationOf, sequenceOf, inDigits}
-use Rattle.record.specs.Fields.{inField}
+use Rattle.columns.specs.Fields.{inField}
 use Rattle.record.specs.Identifier.{isEnd}
 use Rattle.record.specs.Numbers.{valueFault}
 use Rattle.record.specs.System.{subentryOf}
 use Rattle.record.specs.Word.{equalTo, badPointer, pointerFault, headingFault, unitFault}
-use Rattle.rules.specs.declared.fault.Fault.the-variants.{Fine, At}
-use Rattle.rules.specs.declared.state.Track.{Track}
-use Rattle.rules.specs.State.{Seen, used}
-use Rattle.rules.specs.Role.{TEXT, DATA-HEADING, NOT-DUE, isSystem, opensSubentry, opensSection, isHeading}
-use Rattle.rules.specs.Role.{isUnit, isValue}
-use Rattle.rules.specs.Fault.{Finding, firstFault, leftmost, columnsFrom, columnsWhere, fieldColumn}
-use Rattle.rules.specs.Fault.{pointerColumn, on, when}
-use Rattle.rules.specs.Every.{n1, n2, rule2, rule3, rule4, expectedIdentification, rule5, expectedSequence, rule6}
-use Rattle.rules.specs.System.{formN1, formN2, inForm, rule7, countN1, countN2, limitN1, limitN2, meets}
-use Rattle.rules.specs.System.{countTrue, rule8, accessionN1, numberDue, rule9, announcedFault}
-use Rattle.rules.specs.Text.{keywordFault, rule10, pointerRepeated, rule11Text}
-use Rattle.rules.specs.Headings.{rule11Heading, rule12Heading, rule12Unit, headingRepeated, rule13, pointersFor}
-use Rattle.rules.specs.Headings.{lostAt, rule14}
-use Rattle.rules.specs.Values.{optional, lineBlank, rule15}
+use Rattle.rules_state.specs.declared.fault.Fault.the-variants.{Fine, At}
+use Rattle.rules_state.specs.declared.state.Track.{Track}
+use Rattle.rules_state.specs.State.{Seen, used}
+use Rattle.rules_state.specs.Role.{TEXT, DATA-HEADING, NOT-DUE, isSystem, opensSubentry, opensSection, isHeading}
+use Rattle.rules_state.specs.Role.{isUnit, isValue}
+use Rattle.rules_state.specs.Fault.{Finding, firstFault, leftmost, columnsFrom, columnsWhere, fieldColumn}
+use Rattle.rules_state.specs.Fault.{pointerColumn, on, when}
+use Rattle.rules_system.specs.Every.{n1, n2, rule2, rule3, rule4, expectedIdentification, rule5, expectedSequence, rule6}
+use Rattle.rules_system.specs.System.{formN1, formN2, inForm, rule7, countN1, countN2, limitN1, limitN2, meets}
+use Rattle.rules_system.specs.System.{countTrue, rule8, accessionN1, numberDue, rule9, announcedFault}
+use Rattle.rules_section.specs.Text.{keywordFault, rule10, pointerRepeated, rule11Text}
+use Rattle.rules_section.specs.Headings.{rule11Heading, rule12Heading, rule12Unit, headingRepeated, rule13, pointersFor}
+use Rattle.rules_section.specs.Headings.{lostAt, rule14}
+use Rattle.rules_section.specs.Values.{optional, lineBlank, rule15}
 use Rattle.rules.specs.Order.{findings, faultOf, Before, noFinding, Least}
 
 -- ---- columns from left to right

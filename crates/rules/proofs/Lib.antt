@@ -1,9 +1,3 @@
-pub mod Leftmost
-pub mod FewColumns
-pub mod EarlierParts
-pub mod EitherWay
-pub mod RolePlaces
-pub mod ReadValues
 pub mod Least
 pub mod WithoutFault
 pub mod DueRecords

@@ -14,20 +14,20 @@ use Rattle.laws.specs.Search.{first}
 use Rattle.laws.specs.Walk.{All}
 use Rattle.laws.proofs.Search.{first-pass, first-to, either}
 use Rattle.number.specs.Reading.{readField}
-use Rattle.record.specs.Columns.{hasLineFeed}
-use Rattle.record.specs.Class.{isPermitted, notPermitted}
-use Rattle.record.specs.Fields.{inField, fieldsOf}
+use Rattle.columns.specs.Columns.{hasLineFeed}
+use Rattle.columns.specs.Class.{isPermitted, notPermitted}
+use Rattle.columns.specs.Fields.{inField, fieldsOf}
 use Rattle.record.specs.Numbers.{formAt, noValue, valueFault}
-use Rattle.rules.specs.declared.fault.Fault.the-variants.{Fine, At}
-use Rattle.rules.specs.declared.state.Track.{Track}
-use Rattle.rules.specs.State.{Seen, used}
-use Rattle.rules.specs.Role.{COMMON-VALUE, DATA-VALUE, isValue}
-use Rattle.rules.specs.Fault.{on, when, columnsFrom, columnsWhere, fieldColumn, leftmost, Finding}
-use Rattle.rules.specs.Fault.{firstFault}
-use Rattle.rules.specs.Every.{rule2, rule3, rule5, rule6, expectedIdentification}
-use Rattle.rules.specs.Values.{optional, lineBlank, rule15}
+use Rattle.rules_state.specs.declared.fault.Fault.the-variants.{Fine, At}
+use Rattle.rules_state.specs.declared.state.Track.{Track}
+use Rattle.rules_state.specs.State.{Seen, used}
+use Rattle.rules_state.specs.Role.{COMMON-VALUE, DATA-VALUE, isValue}
+use Rattle.rules_state.specs.Fault.{on, when, columnsFrom, columnsWhere, fieldColumn, leftmost, Finding}
+use Rattle.rules_state.specs.Fault.{firstFault}
+use Rattle.rules_system.specs.Every.{rule2, rule3, rule5, rule6, expectedIdentification}
+use Rattle.rules_section.specs.Values.{optional, lineBlank, rule15}
 use Rattle.rules.specs.Order.{findings, faultOf}
-use Rattle.rules.proofs.Leftmost.{leftmost-where}
+use Rattle.rules_state.proofs.Leftmost.{leftmost-where}
 use Rattle.record.proofs.Readings.{fault-reads, fault-same, first-fault-same}
 
 -- ---- no column at fault

@@ -10,19 +10,19 @@ use mathlib.Core.List.{List, [], _∷_}
 use mathlib.Core.Logic.{_⊎_}
 use lib.Dec.{eqb}
 use lib.ListN.{length, getD}
-use Rattle.record.specs.Columns.{Whole}
+use Rattle.columns.specs.Columns.{Whole}
 use Rattle.record.specs.declared.numbers.Values.{Values}
-use Rattle.rules.specs.declared.fault.Fault.{Fault}
-use Rattle.rules.specs.declared.state.Track.{Track}
-use Rattle.rules.specs.declared.state.Ranges.{Ranges}
-use Rattle.rules.specs.State.{Seen, Stands}
-use Rattle.rules.specs.Role.{TEXT, DATA-HEADING, isSystem, opensSubentry, isHeading, isUnit, isValue}
-use Rattle.rules.specs.Fault.{on, leftmost, Finding, finding, firstFault}
-use Rattle.rules.specs.Every.{rule2, rule3, rule4, rule5, rule6}
-use Rattle.rules.specs.System.{rule7, rule8, rule9}
-use Rattle.rules.specs.Text.{rule10, rule11Text}
-use Rattle.rules.specs.Headings.{rule11Heading, rule12Heading, rule12Unit, rule13, rule14}
-use Rattle.rules.specs.Values.{rule15, valuesFor}
+use Rattle.rules_state.specs.declared.fault.Fault.{Fault}
+use Rattle.rules_state.specs.declared.state.Track.{Track}
+use Rattle.rules_state.specs.declared.state.Ranges.{Ranges}
+use Rattle.rules_state.specs.State.{Seen, Stands}
+use Rattle.rules_state.specs.Role.{TEXT, DATA-HEADING, isSystem, opensSubentry, isHeading, isUnit, isValue}
+use Rattle.rules_state.specs.Fault.{on, leftmost, Finding, finding, firstFault}
+use Rattle.rules_system.specs.Every.{rule2, rule3, rule4, rule5, rule6}
+use Rattle.rules_system.specs.System.{rule7, rule8, rule9}
+use Rattle.rules_section.specs.Text.{rule10, rule11Text}
+use Rattle.rules_section.specs.Headings.{rule11Heading, rule12Heading, rule12Unit, rule13, rule14}
+use Rattle.rules_section.specs.Values.{rule15, valuesFor}
 
 -- what the rules find on a record, from what is counted and seen before it, its role and its six fields
 abbrev pub findings : Track → Seen → ℕ → List (List ℕ) → List ℕ → List Finding

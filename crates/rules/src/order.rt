@@ -2,141 +2,161 @@
 ghost use mathlib.Core.Path.{_≡_};
 ghost use Prim.Native.Nat.{ℕ, _+_, _-_, _*_, _≤_, _<_};
 ghost use lib.ListN.{length, getD, drop};
-ghost use Rattle.record.specs.Columns.{Whole};
-ghost use Rattle.record.specs.Class.{ClassesLent};
+ghost use Rattle.columns.specs.Columns.{Whole};
+ghost use Rattle.columns.specs.Class.{ClassesLent};
 ghost use Rattle.record.specs.Identifier.{NamesLent};
 ghost use Rattle.number.specs.Form.{Tables};
-ghost use Rattle.rules.specs.State.{Stands, seenOf};
-ghost use Rattle.rules.specs.Fault.{firstFault};
+ghost use Rattle.rules_state.specs.State.{Stands, seenOf};
+ghost use Rattle.rules_state.specs.Fault.{firstFault};
 ghost use Rattle.rules.specs.Order.{findings, faultOf, Judged};
-use crate::every::rule2;
-use crate::every::rule3;
-use crate::every::rule4;
-use crate::fault::Fault;
-use crate::state::Ranges;
-use crate::state::Track;
-use crate::system::rule7;
+use record::identifier::Names;
 use record::numbers::Values;
+use rules_section::headings::rule11;
+use rules_section::headings::rule12;
+use rules_section::headings::rule13;
+use rules_section::headings::rule14;
+use rules_section::text::rule10;
+use rules_section::values::rule15;
+use rules_state::fault::Fault;
+use rules_state::state::Ranges;
+use rules_state::state::Track;
+use rules_system::every::rule2;
+use rules_system::every::rule3;
+use rules_system::every::rule4;
+use rules_system::every::rule5;
+use rules_system::every::rule6;
+use rules_system::system::rule7;
+use rules_system::system::rule8;
+use rules_system::system::rule9;
 
-impl Track {
-    // From rule 10 on.
-    fn section_fault<'a>(
-        self,
-        kinds: &[u8; 256],
-        nexts: &[u8; 88],
-        ranges: Ranges,
-        before: &'a [u8],
-        rec: &'a [u8],
-        role: usize,
-        fs: [[u8; 11]; 6],
-        values: Values,
-    ) -> Fault
-        requires { ⌜ Tables (now kinds) (now nexts) ⌝ }
-        requires { ⌜ Judged self ranges (now before) (now rec) role fs values ⌝ }
-        ensures { λ r. ⌜ r
-            ≡ firstFault (drop 8 (findings self (seenOf (now (before .entry)) ranges) role fs (now (rec .entry)))) ⌝ }
-    {
-        let a = self.rule10(ranges, before, role, fs);
-        if a != 0 {
-            return Fault::At(10, a);
-        }
-        let b = self.rule11(ranges, before, role, fs);
-        if b != 0 {
-            return Fault::At(11, b);
-        }
-        let c = self.rule12(role, fs);
-        if c != 0 {
-            return Fault::At(12, c);
-        }
-        let d = self.rule13(ranges, before, role, fs, rec);
-        if d != 0 {
-            return Fault::At(13, d);
-        }
-        let e = self.rule14(ranges, before, role, fs);
-        if e != 0 {
-            return Fault::At(14, e);
-        }
-        let f = self.rule15(kinds, nexts, role, fs, values);
-        if f != 0 {
-            return Fault::At(15, f);
-        }
-        Fault::Fine
+// From rule 10 on.
+fn section_fault<'a>(
+    track: Track,
+    kinds: &[u8; 256],
+    nexts: &[u8; 88],
+    ranges: Ranges,
+    before: &'a [u8],
+    rec: &'a [u8],
+    role: usize,
+    fs: [[u8; 11]; 6],
+    values: Values,
+) -> Fault
+    requires { ⌜ Tables (now kinds) (now nexts) ⌝ }
+    requires { ⌜ Judged track ranges (now before) (now rec) role fs values ⌝ }
+    ensures { λ r. ⌜ r
+        ≡ firstFault (drop 8 (findings track (seenOf (now (before .entry)) ranges) role fs (now (rec .entry)))) ⌝ }
+{
+    let a = rule10(track, ranges, before, role, fs);
+    if a != 0 {
+        return Fault::At(10, a);
     }
+    let b = rule11(track, ranges, before, role, fs);
+    if b != 0 {
+        return Fault::At(11, b);
+    }
+    let c = rule12(track, role, fs);
+    if c != 0 {
+        return Fault::At(12, c);
+    }
+    let d = rule13(track, ranges, before, role, fs, rec);
+    if d != 0 {
+        return Fault::At(13, d);
+    }
+    let e = rule14(track, ranges, before, role, fs);
+    if e != 0 {
+        return Fault::At(14, e);
+    }
+    let f = rule15(track, kinds, nexts, role, fs, values);
+    if f != 0 {
+        return Fault::At(15, f);
+    }
+    Fault::Fine
+}
 
-    // From rule 4 on.
-    fn record_fault<'a>(
-        self,
-        names: &[u8; 154],
-        kinds: &[u8; 256],
-        nexts: &[u8; 88],
-        ranges: Ranges,
-        before: &'a [u8],
-        rec: &'a [u8],
-        role: usize,
-        fs: [[u8; 11]; 6],
-        values: Values,
-    ) -> Fault
-        requires { ⌜ NamesLent (now names) ⌝ }
-        requires { ⌜ Tables (now kinds) (now nexts) ⌝ }
-        requires { ⌜ Judged self ranges (now before) (now rec) role fs values ⌝ }
-        ensures { λ r. ⌜ r
-            ≡ firstFault (drop 2 (findings self (seenOf (now (before .entry)) ranges) role fs (now (rec .entry)))) ⌝ }
-    {
-        let a = rule4(role);
-        if a != 0 {
-            return Fault::At(4, a);
-        }
-        let b = self.rule5(role, fs, rec);
-        if b != 0 {
-            return Fault::At(5, b);
-        }
-        let c = self.rule6(role, rec);
-        if c != 0 {
-            return Fault::At(6, c);
-        }
-        let d = rule7(names, role, fs);
-        if d != 0 {
-            return Fault::At(7, d);
-        }
-        let e = self.rule8(names, role, fs);
-        if e != 0 {
-            return Fault::At(8, e);
-        }
-        let f = self.rule9(role, fs);
-        if f != 0 {
-            return Fault::At(9, f);
-        }
-        self.section_fault(kinds, nexts, ranges, before, rec, role, fs, values)
+// From rule 4 on.
+fn record_fault<'a>(
+    track: Track,
+    names: &Names,
+    kinds: &[u8; 256],
+    nexts: &[u8; 88],
+    ranges: Ranges,
+    before: &'a [u8],
+    rec: &'a [u8],
+    role: usize,
+    fs: [[u8; 11]; 6],
+    values: Values,
+) -> Fault
+    requires { ⌜ NamesLent (now names) ⌝ }
+    requires { ⌜ Tables (now kinds) (now nexts) ⌝ }
+    requires { ⌜ Judged track ranges (now before) (now rec) role fs values ⌝ }
+    ensures { λ r. ⌜ r
+        ≡ firstFault (drop 2 (findings track (seenOf (now (before .entry)) ranges) role fs (now (rec .entry)))) ⌝ }
+{
+    let a = rule4(role);
+    if a != 0 {
+        return Fault::At(4, a);
     }
+    let b = rule5(track, role, fs, rec);
+    if b != 0 {
+        return Fault::At(5, b);
+    }
+    let c = rule6(track, role, rec);
+    if c != 0 {
+        return Fault::At(6, c);
+    }
+    let d = rule7(names, role, fs);
+    if d != 0 {
+        return Fault::At(7, d);
+    }
+    let e = rule8(track, names, role, fs);
+    if e != 0 {
+        return Fault::At(8, e);
+    }
+    let f = rule9(track, role, fs);
+    if f != 0 {
+        return Fault::At(9, f);
+    }
+    section_fault(track, kinds, nexts, ranges, before, rec, role, fs, values)
+}
 
-    // The fault of a record with its role, its fields and what they read to.
-    pub fn fault<'a>(
-        self,
-        classes: &[u8; 256],
-        names: &[u8; 154],
-        kinds: &[u8; 256],
-        nexts: &[u8; 88],
-        ranges: Ranges,
-        before: &'a [u8],
-        rec: &'a [u8],
-        role: usize,
-        fs: [[u8; 11]; 6],
-        values: Values,
-    ) -> Fault
-        requires { ⌜ ClassesLent (now classes) ⌝ }
-        requires { ⌜ NamesLent (now names) ⌝ }
-        requires { ⌜ Tables (now kinds) (now nexts) ⌝ }
-        requires { ⌜ Judged self ranges (now before) (now rec) role fs values ⌝ }
-        ensures { λ r. ⌜ r ≡ faultOf self (seenOf (now (before .entry)) ranges) role fs (now (rec .entry)) ⌝ }
-    {
-        let a = rule2(rec);
-        if a != 0 {
-            return Fault::At(2, a);
-        }
-        let b = rule3(classes, rec);
-        if b != 0 {
-            return Fault::At(3, b);
-        }
-        self.record_fault(names, kinds, nexts, ranges, before, rec, role, fs, values)
+// The fault of a record with its role, its fields and what they read to.
+pub fn fault<'a>(
+    track: Track,
+    classes: &[u8; 256],
+    names: &Names,
+    kinds: &[u8; 256],
+    nexts: &[u8; 88],
+    ranges: Ranges,
+    before: &'a [u8],
+    rec: &'a [u8],
+    role: usize,
+    fs: [[u8; 11]; 6],
+    values: Values,
+) -> Fault
+    requires { ⌜ ClassesLent (now classes) ⌝ }
+    requires { ⌜ NamesLent (now names) ⌝ }
+    requires { ⌜ Tables (now kinds) (now nexts) ⌝ }
+    requires { ⌜ Judged track ranges (now before) (now rec) role fs values ⌝ }
+    ensures { λ r. ⌜ r ≡ faultOf track (seenOf (now (before .entry)) ranges) role fs (now (rec .entry)) ⌝ }
+{
+    let a = rule2(rec);
+    if a != 0 {
+        return Fault::At(2, a);
     }
+    let b = rule3(classes, rec);
+    if b != 0 {
+        return Fault::At(3, b);
+    }
+    record_fault(
+        track,
+        names,
+        kinds,
+        nexts,
+        ranges,
+        before,
+        rec,
+        role,
+        fs,
+        values,
+    )
 }

@@ -1,6 +1,6 @@
 use Prim.Native.Nat.{_-_}
 use Rattle.number.specs.Form.{Tables}
-use Rattle.record.specs.Class.{ClassesLent}
+use Rattle.columns.specs.Class.{ClassesLent}
 use Rattle.record.specs.Identifier.{NamesLent}
 use borrow.Author.Needs.{needs}
 use lib.ListN.{length}
@@ -13,8 +13,8 @@ use Rattle.io.proofs.read_full.Reads as read-full-reads
 use Rattle.io.proofs.write_all.Reads as write-all-reads
 use Rattle.number.proofs.form.kinds.Reads as kinds-reads
 use Rattle.number.proofs.form.nexts.Reads as nexts-reads
-use Rattle.record.proofs.class.classes.Reads as classes-reads
-use Rattle.record.proofs.fields.fields.Reads as fields-reads
+use Rattle.columns.proofs.class.classes.Reads as classes-reads
+use Rattle.columns.proofs.fields.fields.Reads as fields-reads
 use Rattle.record.proofs.identifier.names.Reads as names-reads
 use Rattle.record_cases.proofs.say_classes.Reads as say-classes-reads
 use Rattle.record_cases.proofs.say_places.Reads as say-places-reads

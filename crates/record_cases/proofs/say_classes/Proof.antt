@@ -1,5 +1,5 @@
 use Prim.Native.Nat.{_-_}
-use Rattle.record.specs.Class.{ClassesLent}
+use Rattle.columns.specs.Class.{ClassesLent}
 use borrow.Author.Needs.{needs}
 use Rattle.record_cases.proofs.say_classes.Statement.{statement}
 use Rattle.record_cases.proofs.say_classes.Tie as tie
@@ -7,8 +7,8 @@ use Rattle.record_cases.proofs.say_classes.Reads as reads
 use Rattle.record_cases.proofs.say_classes.Lts as lts
 use Rattle.io.proofs.print_decimal.Reads as print-decimal-reads
 use Rattle.io.proofs.write_all.Reads as write-all-reads
-use Rattle.record.proofs.class.class_of.Reads as class-of-reads
-use Rattle.record.proofs.class.classes.Reads as classes-reads
+use Rattle.columns.proofs.class.class_of.Reads as class-of-reads
+use Rattle.columns.proofs.class.classes.Reads as classes-reads
 
 abbrev Inv-loop : tie.InvT-loop
 Inv-loop t b₀ t3 b = ClassesLent t

@@ -16,7 +16,7 @@ use Rattle.entry.proofs.step.Judge.step.Reads as step-reads
 use Rattle.copy.proofs.records.copy_record.Reads as copy-record-reads
 use Rattle.number.proofs.form.kinds.Reads as kinds-reads
 use Rattle.number.proofs.form.nexts.Reads as nexts-reads
-use Rattle.record.proofs.class.classes.Reads as classes-reads
+use Rattle.columns.proofs.class.classes.Reads as classes-reads
 use Rattle.record.proofs.identifier.names.Reads as names-reads
 
 abbrev Inv-loop : tie.InvT-loop

@@ -3,9 +3,9 @@ use Rattle.copy.proofs.copy.role_of.Statement.{statement}
 use Rattle.copy.proofs.copy.role_of.Tie as tie
 use Rattle.copy.proofs.copy.role_of.Reads as reads
 use Rattle.copy.proofs.copy.role_of.Lts as lts
-use Rattle.record.proofs.fields.field.Reads as field-reads
+use Rattle.columns.proofs.fields.field.Reads as field-reads
 use Rattle.record.proofs.identifier.identifier_of.Reads as identifier-of-reads
-use Rattle.rules.proofs.state.Track.role.Reads as role-reads
+use Rattle.rules_state.proofs.state.Track.role.Reads as role-reads
 
 -- src/copy.rt:112:9
 field-requires : tie.Need-field-requires

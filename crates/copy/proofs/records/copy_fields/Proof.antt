@@ -13,7 +13,7 @@ use Rattle.copy.proofs.records.copy_fields.Reads as reads
 use Rattle.copy.proofs.records.copy_fields.Lts as lts
 use Rattle.copy.proofs.fields.put_field.Reads as put-field-reads
 use Rattle.copy.proofs.records.is_value_field.Reads as is-value-field-reads
-use Rattle.record.proofs.fields.field.Reads as field-reads
+use Rattle.columns.proofs.fields.field.Reads as field-reads
 
 abbrev Inv-loop : tie.InvT-loop
 Inv-loop out₀ at t role rec k₀ out k =

@@ -4,7 +4,7 @@ use Rattle.copy.proofs.records.is_value_field.Statement.{statement}
 use Rattle.copy.proofs.records.is_value_field.Tie as tie
 use Rattle.copy.proofs.records.is_value_field.Reads as reads
 use Rattle.copy.proofs.records.is_value_field.Lts as lts
-use Rattle.rules.proofs.state.Track.used.Reads as used-reads
+use Rattle.rules_state.proofs.state.Track.used.Reads as used-reads
 
 -- src/records.rt:20:20
 used-requires : tie.Need-used-requires

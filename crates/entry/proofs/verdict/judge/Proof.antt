@@ -10,7 +10,7 @@ use Rattle.entry.proofs.Stepping.{run-start, stands-start}
 use Rattle.entry.specs.Numbers.{finishOf, judgeByNumbers, stepTurn}
 use Rattle.entry.specs.Verdict.{judgeOf}
 use Rattle.laws.proofs.Turns.{Run}
-use Rattle.rules.specs.State.{MOST-RECORDS, Stands}
+use Rattle.rules_state.specs.State.{MOST-RECORDS, Stands}
 use borrow.Author.Tests.{not-false, not-true}
 use lib.ListN.{length, length-drop, length-take, take}
 use mathlib.Core.Path.{_∙_, _≡_, refl, sym}
@@ -27,8 +27,8 @@ use Rattle.entry.proofs.verdict.length_good.Reads as length-good-reads
 use Rattle.entry.proofs.verdict.refused.Reads as refused-reads
 use Rattle.number.proofs.form.kinds.Reads as kinds-reads
 use Rattle.number.proofs.form.nexts.Reads as nexts-reads
-use Rattle.record.proofs.class.classes.Reads as classes-reads
-use Rattle.record.proofs.columns.record_of.Reads as record-of-reads
+use Rattle.columns.proofs.class.classes.Reads as classes-reads
+use Rattle.columns.proofs.columns.record_of.Reads as record-of-reads
 use Rattle.record.proofs.identifier.names.Reads as names-reads
 
 abbrev Inv-loop : tie.InvT-loop

@@ -15,10 +15,10 @@ use Rattle.questions.proofs.ask.column_refusal.Reads as column-refusal-
 use Rattle.questions.proofs.ask.no_part.Reads as no-part-reads
 use Rattle.questions.proofs.ask.part_from.Reads as part-from-reads
 use Rattle.questions.proofs.ask.section_in.Reads as section-in-reads
-use Rattle.questions.proofs.place.byte_of.Reads as byte-of-reads
-use Rattle.questions.proofs.place.field_of.Reads as field-of-reads
-use Rattle.questions.proofs.place.heading_place.Reads as heading-place-reads
-use Rattle.questions.proofs.place.shape_of.Reads as shape-of-reads
+use Rattle.questions_places.proofs.place.byte_of.Reads as byte-of-reads
+use Rattle.questions_places.proofs.place.field_of.Reads as field-of-reads
+use Rattle.questions_places.proofs.place.heading_place.Reads as heading-place-reads
+use Rattle.questions_places.proofs.place.shape_of.Reads as shape-of-reads
 
 -- src/ask.rt:268:9
 section-in-requires : tie.Need-section-in-requires

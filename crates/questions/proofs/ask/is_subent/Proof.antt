@@ -3,7 +3,7 @@ use Rattle.questions.proofs.ask.is_subent.Statement.{statement}
 use Rattle.questions.proofs.ask.is_subent.Tie as tie
 use Rattle.questions.proofs.ask.is_subent.Reads as reads
 use Rattle.questions.proofs.ask.is_subent.Lts as lts
-use Rattle.questions.proofs.place.fields_at.Reads as fields-at-reads
+use Rattle.questions_places.proofs.place.fields_at.Reads as fields-at-reads
 use Rattle.record.proofs.identifier.identifier_of.Reads as identifier-of-reads
 use Rattle.record.proofs.identifier.names.Reads as names-reads
 

@@ -9,8 +9,8 @@ use Rattle.questions.proofs.ask.answer_for.Reads as answer-for-reads
 use Rattle.questions.proofs.ask.no_part.Reads as no-part-reads
 use Rattle.questions.proofs.ask.part_from.Reads as part-from-reads
 use Rattle.questions.proofs.ask.passage_refusal.Reads as passage-refusal-reads
-use Rattle.questions.proofs.passage.passage_of.Reads as passage-of-reads
-use Rattle.questions.proofs.place.first_byte.Reads as first-byte-reads
+use Rattle.questions_places.proofs.passage.passage_of.Reads as passage-of-reads
+use Rattle.questions_places.proofs.place.first_byte.Reads as first-byte-reads
 
 -- src/ask.rt:307:9
 passage-of-requires : tie.Need-passage-of-requires

@@ -15,9 +15,9 @@ use Rattle.questions.proofs.ask.answer_for.Reads as answer-for-reads
 use Rattle.questions.proofs.ask.answer_of.Reads as answer-of-reads
 use Rattle.questions.proofs.ask.section_in.Reads as section-in-reads
 use Rattle.questions.proofs.ask.value_refusal.Reads as value-refusal-reads
-use Rattle.questions.proofs.place.field_of.Reads as field-of-reads
-use Rattle.questions.proofs.place.shape_of.Reads as shape-of-reads
-use Rattle.record.proofs.columns.place_of.Reads as place-of-reads
+use Rattle.questions_places.proofs.place.field_of.Reads as field-of-reads
+use Rattle.questions_places.proofs.place.shape_of.Reads as shape-of-reads
+use Rattle.columns.proofs.columns.place_of.Reads as place-of-reads
 
 -- src/ask.rt:243:9
 section-in-requires : tie.Need-section-in-requires

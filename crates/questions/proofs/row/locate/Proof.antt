@@ -8,7 +8,7 @@ use Rattle.questions.proofs.RowChanges.{number-stays}
 use Rattle.questions.proofs.Rows.{met-empty, met-next}
 use Rattle.questions.specs.Numbers.{locateBy, locatedBy, locatingBy}
 use Rattle.questions.specs.Row.{Met, locate}
-use Rattle.rules.specs.State.{MOST-RECORDS, Stands}
+use Rattle.rules_state.specs.State.{MOST-RECORDS, Stands}
 use borrow.Author.Tests.{not-false, not-true}
 use lib.ListN.{length, length-drop, length-take, take}
 use mathlib.Core.Path.{_∙_, _≡_, ap, refl, sym}
@@ -28,8 +28,8 @@ use Rattle.number.proofs.form.kinds.Reads as kinds-reads
 use Rattle.number.proofs.form.nexts.Reads as nexts-reads
 use Rattle.questions.proofs.row.empty_row.Reads as empty-row-reads
 use Rattle.questions.proofs.row.note.Reads as note-reads
-use Rattle.record.proofs.class.classes.Reads as classes-reads
-use Rattle.record.proofs.columns.record_of.Reads as record-of-reads
+use Rattle.columns.proofs.class.classes.Reads as classes-reads
+use Rattle.columns.proofs.columns.record_of.Reads as record-of-reads
 use Rattle.record.proofs.identifier.names.Reads as names-reads
 
 abbrev Inv-loop : tie.InvT-loop

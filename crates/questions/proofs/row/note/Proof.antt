@@ -7,8 +7,8 @@ use Rattle.questions.proofs.row.note.Reads as reads
 use Rattle.questions.proofs.row.note.Lts as lts
 use Rattle.questions.proofs.row.noted.Reads as noted-reads
 use Rattle.questions.proofs.row.subentry_in.Reads as subentry-in-reads
-use Rattle.record.proofs.columns.record_of.Reads as record-of-reads
-use Rattle.record.proofs.fields.fields.Reads as fields-reads
+use Rattle.columns.proofs.columns.record_of.Reads as record-of-reads
+use Rattle.columns.proofs.fields.fields.Reads as fields-reads
 use Rattle.record.proofs.identifier.identifier_of.Reads as identifier-of-reads
 
 -- src/row.rt:91:14

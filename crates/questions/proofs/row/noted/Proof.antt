@@ -5,7 +5,7 @@ use Rattle.questions.proofs.row.noted.Statement.{statement}
 use Rattle.questions.proofs.row.noted.Tie as tie
 use Rattle.questions.proofs.row.noted.Reads as reads
 use Rattle.questions.proofs.row.noted.Lts as lts
-use Rattle.rules.proofs.role.opens_subentry.Reads as opens-subentry-reads
+use Rattle.rules_state.proofs.role.opens_subentry.Reads as opens-subentry-reads
 
 -- src/row.rt:58:8
 opens-subentry-requires : tie.Need-opens-subentry-requires

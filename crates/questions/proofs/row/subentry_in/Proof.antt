@@ -5,7 +5,7 @@ use Rattle.questions.proofs.row.subentry_in.Tie as tie
 use Rattle.questions.proofs.row.subentry_in.Reads as reads
 use Rattle.questions.proofs.row.subentry_in.Lts as lts
 use Rattle.record.proofs.system.subentry_of.Reads as subentry-of-reads
-use Rattle.rules.proofs.role.opens_subentry.Reads as opens-subentry-reads
+use Rattle.rules_state.proofs.role.opens_subentry.Reads as opens-subentry-reads
 
 -- src/row.rt:81:8
 opens-subentry-requires : tie.Need-opens-subentry-requires

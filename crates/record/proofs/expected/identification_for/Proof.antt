@@ -1,4 +1,4 @@
-use Rattle.record.proofs.ReadColumns.{both-read}
+use Rattle.columns.proofs.ReadColumns.{both-read}
 use Rattle.record.specs.Expected.{identificationFor}
 use borrow.Author.Needs.{needs}
 use Rattle.record.proofs.expected.identification_for.Statement.{statement}

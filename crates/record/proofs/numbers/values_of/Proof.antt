@@ -2,7 +2,7 @@ use Prim.Native.Nat.{_-_, _≤_}
 use Rattle.laws.proofs.Search.{Scan, scan-all, scan-done, scan-found, scan-next}
 use Rattle.laws.specs.Search.{howMany}
 use Rattle.number.specs.Form.{Tables}
-use Rattle.record.specs.Fields.{firstField, inField}
+use Rattle.columns.specs.Fields.{firstField, inField}
 use Rattle.record.specs.Numbers.{isNumberAt, valueFault, valuesOf}
 use borrow.Author.Needs.{needs}
 use mathlib.Core.Path.{_∙_, _≡_, refl, sym}

@@ -6,7 +6,7 @@ use Rattle.entry.proofs.step.Judge.finish.Reads as reads
 use Rattle.entry.proofs.step.Judge.finish.Lts as lts
 use Rattle.entry.proofs.verdict.is_done.Reads as is-done-reads
 use Rattle.entry.proofs.verdict.refused.Reads as refused-reads
-use Rattle.record.proofs.columns.record_of.Reads as record-of-reads
+use Rattle.columns.proofs.columns.record_of.Reads as record-of-reads
 
 -- src/verdict.rt:86:12
 is-done-requires : tie.Need-is-done-requires

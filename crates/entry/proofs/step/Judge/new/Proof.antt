@@ -3,7 +3,7 @@ use Rattle.entry.proofs.step.Judge.new.Statement.{statement}
 use Rattle.entry.proofs.step.Judge.new.Tie as tie
 use Rattle.entry.proofs.step.Judge.new.Reads as reads
 use Rattle.entry.proofs.step.Judge.new.Lts as lts
-use Rattle.rules.proofs.state.Track.new.Reads as new-reads
+use Rattle.rules_state.proofs.state.Track.new.Reads as new-reads
 
 -- src/step.rt:53:13
 new-requires : tie.Need-new-requires

@@ -6,9 +6,9 @@ use Rattle.entry.proofs.step.Judge.step.Tie as tie
 use Rattle.entry.proofs.step.Judge.step.Reads as reads
 use Rattle.entry.proofs.step.Judge.step.Lts as lts
 use Rattle.entry.proofs.step.Judge.step_as.Reads as step-as-reads
-use Rattle.record.proofs.fields.fields.Reads as fields-reads
+use Rattle.columns.proofs.fields.fields.Reads as fields-reads
 use Rattle.record.proofs.identifier.identifier_of.Reads as identifier-of-reads
-use Rattle.rules.proofs.state.Track.role.Reads as role-reads
+use Rattle.rules_state.proofs.state.Track.role.Reads as role-reads
 
 -- src/step.rt:150:18
 fields-requires : tie.Need-fields-requires

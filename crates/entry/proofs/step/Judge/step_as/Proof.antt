@@ -7,8 +7,8 @@ use Rattle.entry.proofs.step.Judge.step_as.Tie as tie
 use Rattle.entry.proofs.step.Judge.step_as.Reads as reads
 use Rattle.entry.proofs.step.Judge.step_as.Lts as lts
 use Rattle.entry.proofs.step.Judge.after.Reads as after-reads
-use Rattle.rules.proofs.state.Track.fault.Reads as fault-reads
-use Rattle.rules.proofs.state.Track.values.Reads as values-reads
+use Rattle.rules.proofs.order.fault.Reads as fault-reads
+use Rattle.rules_section.proofs.values.values.Reads as values-reads
 
 -- src/step.rt:106:13
 values-requires : tie.Need-values-requires

@@ -1,0 +1,3 @@
+pub mod ClassTable
+pub mod ReadColumns
+pub mod TablePlaces

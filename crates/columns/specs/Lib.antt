@@ -1,0 +1,4 @@
+pub mod Text
+pub mod Class
+pub mod Columns
+pub mod Fields

@@ -1,0 +1,3 @@
+pub mod class;
+pub mod columns;
+pub mod fields;

@@ -1,0 +1,46 @@
+-- What a later rule may look back at, by the numbers of its records: what the code keeps.
+use Prim.Native.Nat.{ℕ, _+_}
+use mathlib.Core.Bool.{cond}
+use mathlib.Core.List.{List, []}
+use lib.Dec.{eqb}
+use lib.ListN.{getD}
+use Rattle.record.specs.Identifier.{ENDCOMMON}
+use Rattle.columns.specs.declared.columns.Index.{Index}
+use Rattle.rules_state.specs.declared.state.Track.{Track}
+use Rattle.rules_state.specs.declared.state.Range.{Range}
+use Rattle.rules_state.specs.declared.state.Ranges.{Ranges}
+use Rattle.rules_state.specs.Role.{opensSubentry}
+use Rattle.entry_next.specs.declared.parts.Change.{Change}
+use Rattle.entry_next.specs.declared.parts.Change.the-variants.{Kept, Emptied, Begun, Joined}
+use Rattle.entry_next.specs.Parts.{bibChange, underChange, tableChange, ends001}
+
+-- the index behind i
+abbrev pub behind : Index → Index
+behind i = record { 0 = i .0 + 1 }
+
+-- no record yet, the next one may join
+abbrev pub none : Index → Range
+none n = record { from = n; past = n }
+
+-- the records of a part, after the record with the index i
+unfoldable pub rangeAfter : Change → Range → Index → Range
+rangeAfter Kept g i = g
+rangeAfter Emptied g i = none (behind i)
+rangeAfter Begun g i = record { from = i; past = behind i }
+rangeAfter Joined g i = record { from = g .from; past = behind i }
+
+-- this subentry's COMMON is the table that ENDCOMMON ends
+unfoldable pub commonAfter : Ranges → ℕ → Index → Range
+commonAfter g role i =
+    cond (opensSubentry role) (rangeAfter Emptied (g .common) i) (cond (eqb role ENDCOMMON) (g .table) (g .common))
+
+unfoldable pub rangesAfter : Ranges → Track → ℕ → List (List ℕ) → Ranges
+rangesAfter g t role fs =
+    record {
+      bib = rangeAfter (bibChange role) (g .bib) (t .records);
+      under = rangeAfter (underChange role (getD fs 0 [])) (g .under) (t .records);
+      bib001 = cond (ends001 t role) (g .bib) (g .bib001);
+      common001 = cond (ends001 t role) (g .common) (g .common001);
+      common = commonAfter g role (t .records);
+      table = rangeAfter (tableChange role) (g .table) (t .records);
+    }

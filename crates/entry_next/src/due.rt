@@ -1,0 +1,100 @@
+// What is due after a record, by its role.
+ghost use mathlib.Core.Path.{_≡_};
+ghost use mathlib.Core.Bool.{_||_};
+ghost use Prim.Native.Nat.{_-_};
+ghost use lib.Dec.{eqb};
+ghost use Rattle.entry_next.specs.Due.{leadsToBib, leadsToCommon, leadsToData, phaseAfter};
+use record::identifier::BIB;
+use record::identifier::COMMON;
+use record::identifier::DATA;
+use record::identifier::ENDBIB;
+use record::identifier::ENDCOMMON;
+use record::identifier::ENDDATA;
+use record::identifier::ENDSUBENT;
+use record::identifier::ENTRY;
+use record::identifier::NOBIB;
+use record::identifier::NOCOMMON;
+use record::identifier::NODATA;
+use record::identifier::NOSUBENT;
+use record::identifier::SUBENT;
+use rules_state::role::COMMON_HEADING;
+use rules_state::role::COMMON_UNIT;
+use rules_state::role::COMMON_VALUE;
+use rules_state::role::DATA_HEADING;
+use rules_state::role::DATA_UNIT;
+use rules_state::role::DATA_VALUE;
+use rules_state::role::TEXT;
+use rules_state::state::Phase;
+
+pub(crate) fn is_either(role: usize, a: usize, b: usize) -> bool
+    ensures { λ r. ⌜ r ≡ (eqb role a || eqb role b) ⌝ }
+{
+    if role == a {
+        return true;
+    }
+    role == b
+}
+
+fn leads_to_bib(role: usize) -> bool
+    ensures { λ r. ⌜ r ≡ leadsToBib role ⌝ }
+{
+    is_either(role, BIB, TEXT)
+}
+
+fn leads_to_common(role: usize) -> bool
+    ensures { λ r. ⌜ r ≡ leadsToCommon role ⌝ }
+{
+    if role == COMMON {
+        return true;
+    }
+    if role == COMMON_HEADING {
+        return true;
+    }
+    is_either(role, COMMON_UNIT, COMMON_VALUE)
+}
+
+fn leads_to_data(role: usize) -> bool
+    ensures { λ r. ⌜ r ≡ leadsToData role ⌝ }
+{
+    if role == DATA {
+        return true;
+    }
+    if role == DATA_HEADING {
+        return true;
+    }
+    is_either(role, DATA_UNIT, DATA_VALUE)
+}
+
+// What is due after a record with the role.
+pub fn phase_after(role: usize) -> Phase
+    ensures { λ r. ⌜ r ≡ phaseAfter role ⌝ }
+{
+    if role == ENTRY {
+        return Phase::Opened;
+    }
+    if role == SUBENT {
+        return Phase::InSubentry;
+    }
+    if leads_to_bib(role) {
+        return Phase::InBib;
+    }
+    if is_either(role, NOBIB, ENDBIB) {
+        return Phase::AfterBib;
+    }
+    if leads_to_common(role) {
+        return Phase::InCommon;
+    }
+    if is_either(role, NOCOMMON, ENDCOMMON) {
+        return Phase::AfterCommon;
+    }
+    if leads_to_data(role) {
+        return Phase::InData;
+    }
+    if is_either(role, NODATA, ENDDATA) {
+        return Phase::AfterData;
+    }
+    if is_either(role, NOSUBENT, ENDSUBENT) {
+        return Phase::Between;
+    }
+    Phase::Done
+}

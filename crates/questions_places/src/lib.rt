@@ -1,0 +1,2 @@
+pub mod passage;
+pub mod place;

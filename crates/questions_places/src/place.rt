@@ -1,0 +1,145 @@
+// Where things stand: records by their numbers, the shape of a section, the places of headings, units and values.
+ghost use mathlib.Core.Path.{_≡_};
+ghost use Prim.Native.Nat.{ℕ, _≤_};
+ghost use lib.ListN.{getD};
+ghost use mathlib.Core.List.{[]};
+ghost use Rattle.record.specs.System.{countOf, numberOf};
+ghost use Rattle.entry_next.specs.Counted.{upTo};
+ghost use Rattle.questions_places.specs.Place.{hasRecord, fieldsAt, shapeOf, headingPlace, unitPlace, fieldOf};
+ghost use Rattle.questions_places.specs.Place.{firstByte, byteOf, InSection};
+use columns::columns::Place;
+use columns::columns::RecordNo;
+use columns::columns::records_for;
+use columns::fields::fields;
+use record::system::count_of;
+use record::system::number_of;
+use rules_system::system::MOST_COLUMNS;
+use rules_system::system::MOST_LINES;
+
+// How many columns a table has, and how many lines.
+pub struct Shape {
+    pub columns: u32,
+    pub lines: u32,
+}
+
+// The sections of a table.
+pub const COMMON_SECTION: u32 = 1;
+
+pub const DATA_SECTION: u32 = 2;
+
+// Whether an entry has a record with this number.
+fn has_record(entry: &[u8], at: RecordNo) -> bool
+    ensures { λ r. ⌜ r ≡ hasRecord (now (entry .entry)) at ⌝ }
+{
+    if at.0 == 0 {
+        return false;
+    }
+    let number = at.0 as usize;
+    number * 81 <= entry.len()
+}
+
+// The six fields of the record with this number, blank where there is none.
+pub fn fields_at(entry: &[u8], at: RecordNo) -> [[u8; 11]; 6]
+    ensures { λ r. ⌜ r ≡ fieldsAt (now (entry .entry)) at ⌝ }
+{
+    if !has_record(entry, at) {
+        let blank = [b' '; 11];
+        return [blank, blank, blank, blank, blank, blank];
+    }
+    let before = at.0 as usize - 1;
+    let from = before * 81;
+    let past = from + 81;
+    fields(&entry[from..past])
+}
+
+// A count, 0 where it is more than `most`.
+pub fn count_to(most: u64, f: [u8; 11]) -> u32
+    requires { ⌜ most ≤ 20000 ⌝ }
+    ensures { λ r. ⌜ r ≡ upTo most (numberOf (countOf f)) ⌝ }
+    ensures { λ r. ⌜ r ≤ most ⌝ }
+{
+    let n = number_of(count_of(f));
+    if n <= most {
+        return n as u32;
+    }
+    0
+}
+
+// The shape that the record of a section announces.
+pub fn shape_of(entry: &[u8], section: u32, at: RecordNo) -> Shape
+    ensures { λ r. ⌜ r ≡ shapeOf (now (entry .entry)) section at ⌝ }
+    ensures { λ r. ⌜ r .columns ≤ 18 ⌝ }
+    ensures { λ r. ⌜ r .lines ≤ 20000 ⌝ }
+{
+    let fs = fields_at(entry, at);
+    let n1 = fs[1];
+    let columns = count_to(MOST_COLUMNS, n1);
+    if section == COMMON_SECTION {
+        return Shape { columns, lines: 1 };
+    }
+    let n2 = fs[2];
+    let lines = count_to(MOST_LINES, n2);
+    Shape { columns, lines }
+}
+
+// The heading of a column.
+pub fn heading_place(section: RecordNo, column: u32) -> Place
+    requires { ⌜ InSection section column ⌝ }
+    ensures { λ r. ⌜ r ≡ headingPlace section column ⌝ }
+    ensures { λ r. ⌜ r .field ≤ 5 ⌝ }
+{
+    let left = column - 1;
+    let number = section.0 + (left / 6 + 1);
+    let field = left % 6;
+    let at = RecordNo(number);
+    Place { at, field }
+}
+
+// The unit of a column.
+pub fn unit_place(section: RecordNo, columns: u32, column: u32) -> Place
+    requires { ⌜ InSection section column ⌝ }
+    requires { ⌜ columns ≤ 18 ⌝ }
+    ensures { λ r. ⌜ r ≡ unitPlace section columns column ⌝ }
+    ensures { λ r. ⌜ r .field ≤ 5 ⌝ }
+{
+    let k = records_for(columns);
+    let left = column - 1;
+    let number = section.0 + (k + (left / 6 + 1));
+    let field = left % 6;
+    let at = RecordNo(number);
+    Place { at, field }
+}
+
+// The field at a place.
+pub fn field_of(entry: &[u8], place: Place) -> [u8; 11]
+    requires { ⌜ place .field ≤ 5 ⌝ }
+    ensures { λ r. ⌜ r ≡ fieldOf (now (entry .entry)) place ⌝ }
+{
+    let at = place.at;
+    let fs = fields_at(entry, at);
+    let k = place.field as usize;
+    fs[k]
+}
+
+// The first byte of a record.
+pub fn first_byte(at: RecordNo) -> usize
+    ensures { λ r. ⌜ r ≡ firstByte at ⌝ }
+    ensures { λ r. ⌜ r ≤ 347892350976 ⌝ }
+{
+    if at.0 == 0 {
+        return 0;
+    }
+    let before = at.0 as usize - 1;
+    before * 81
+}
+
+// The first byte of a place.
+pub fn byte_of(place: Place) -> usize
+    requires { ⌜ place .field ≤ 5 ⌝ }
+    ensures { λ r. ⌜ r ≡ byteOf place ⌝ }
+{
+    let at = place.at;
+    let first = first_byte(at);
+    let before = place.field as usize * 11;
+    first + before
+}

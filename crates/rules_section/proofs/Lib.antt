@@ -1,0 +1,2 @@
+pub mod EarlierParts
+pub mod ReadValues

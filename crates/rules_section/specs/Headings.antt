@@ -1,0 +1,141 @@
+-- The rules for heading and unit records of COMMON and DATA: refusals 11 to 14.
+use Prim.Native.Nat.{ℕ, _+_, _*_, _/_, _%_, _^_, _≤_, _<_}
+use mathlib.Core.Path.{_≡_}
+use mathlib.Core.Bool.{Bool, true, false, cond, not, _&&_}
+use mathlib.Core.List.{List, [], _++_}
+use lib.Dec.{eqb, ltb}
+use lib.ListN.{length, getD}
+use Rattle.laws.specs.Search.{first}
+use Rattle.laws.specs.Turns.{Turn, go, out, run}
+use Rattle.laws.specs.Members.{listOf, anyOf}
+use Rattle.columns.specs.Columns.{columnsAt}
+use Rattle.columns.specs.Fields.{inField}
+use Rattle.columns.specs.Text.{isBlank}
+use Rattle.record.specs.Word.{equalTo, pointerOf, pointerFault, headingFault, unitFault}
+use Rattle.rules_state.specs.declared.state.Track.{Track}
+use Rattle.rules_section.specs.declared.headings.Found.{Found}
+use Rattle.rules_section.specs.declared.headings.Found.the-variants.{At, Nothing}
+use Rattle.rules_state.specs.State.{Seen, used}
+use Rattle.rules_state.specs.Fault.{columnsWhere, fieldColumn, pointerColumn}
+use Rattle.rules_section.specs.Text.{pointersOf}
+
+-- "A heading is a word in ten columns, with a pointer or blank in the eleventh. A unit is a word in ten columns,
+-- eleventh blank." "unused fields are blank"
+
+-- 11, "bad pointer character (unused fields aside)", column "the pointer's"
+unfoldable pub rule11Heading : Track → List (List ℕ) → List ℕ
+rule11Heading t fs = columnsWhere (inField (pointerFault (used t)) fs) pointerColumn 6
+
+-- 12, "heading or unit no word, unit's eleventh column filled, unused field filled", column "field's first"
+unfoldable pub rule12Heading : Track → List (List ℕ) → List ℕ
+rule12Heading t fs = columnsWhere (inField (headingFault (used t)) fs) fieldColumn 6
+
+unfoldable pub rule12Unit : Track → List (List ℕ) → List ℕ
+rule12Unit t fs = columnsWhere (inField (unitFault (used t)) fs) fieldColumn 6
+
+-- ---- headings met before
+
+-- the heading m, counted from 0, of a part of heading records, six to a record. An unused field is blank, and equals no
+-- heading that 12 lets pass.
+abbrev pub headingAt : List ℕ → ℕ → List ℕ
+headingAt part m = columnsAt (m / 6 * 81 + m % 6 * 11) 11 part
+
+abbrev pub headingsIn : List ℕ → ℕ
+headingsIn part = length part / 81 * 6
+
+-- "A heading is compared with all earlier ones, section by section, and the search ends at the first equal heading":
+-- the COMMON of 001, this subentry's COMMON, the section in hand so far, and the headings to the left in its record
+pub record Earlier : Type 0 where
+  pub common001 : List ℕ
+  pub common : List ℕ
+  pub table : List ℕ
+  pub here : List ℕ
+  pub left : ℕ
+
+abbrev pub partOf : Earlier → ℕ → List ℕ
+partOf e s =
+    cond (eqb s 0) (e .common001)
+    (cond (eqb s 1) (e .common)
+    (cond (eqb s 2) (e .table) (e .here)))
+
+abbrev pub headingsOf : List ℕ → ℕ → ℕ → ℕ
+headingsOf part left s = cond (eqb s 3) left (headingsIn part)
+
+-- the record in hand has the headings to the left
+pub record Left (part : List ℕ) (left s : ℕ) : Type 0 where
+  pub few : s ≡ 3 → left ≤ headingsIn part
+
+-- the first heading of a part that is equal to f, or their number
+abbrev pub equalAt : List ℕ → List ℕ → ℕ → Bool
+equalAt f part m = equalTo 11 f (headingAt part m)
+
+abbrev pub equalIn : List ℕ → List ℕ → ℕ → ℕ
+equalIn f part n = first (equalAt f part) 0 n
+
+-- more headings than any bytes hold: no place among them passes 64 bits
+abbrev pub FAR : ℕ
+FAR = 2 ^ 61
+
+pub record Near (before s m : ℕ) : Type 0 where
+  pub section : s < 4
+  pub headings : before < FAR
+  pub place : m < FAR
+
+-- a section and a column of it, both numbered from 1; the record in hand belongs to the third section
+abbrev pub placeOf : ℕ → ℕ → ℕ → Found
+placeOf before s m = cond (eqb s 3) (At 3 (before + (m + 1))) (At (s + 1) (m + 1))
+
+abbrev pub sectionTurn : List ℕ → Earlier → Unit {0} → ℕ → Turn (Unit {0}) Found
+sectionTurn f e u s =
+    let n : ℕ = headingsOf (partOf e s) (e .left) s in
+    let m : ℕ = equalIn f (partOf e s) n in
+    cond (ltb m n) (out (placeOf (headingsIn (e .table)) s m)) (go u)
+
+abbrev pub nowhere : Unit {0} → Found
+nowhere u = Nothing
+
+-- the first earlier heading that is equal to f
+unfoldable pub equalHeading : List ℕ → Earlier → Found
+equalHeading f e = run (sectionTurn f e) nowhere tt 0 4
+
+abbrev pub isFound : Found → Bool
+isFound (At section column) = true
+isFound Nothing = false
+
+abbrev pub earlier : List ℕ → List ℕ → List ℕ → List ℕ → ℕ → Earlier
+earlier common001 common table r k =
+    record { common001 = common001; common = common; table = table; here = r; left = k }
+
+-- "No heading with its pointer occurs twice within the COMMON of 001, this subentry's COMMON and its DATA together."
+abbrev pub headingRepeated : List ℕ → List ℕ → List ℕ → List ℕ → List (List ℕ) → ℕ → Bool
+headingRepeated common001 common table r fs k =
+    isFound (equalHeading (getD fs k []) (earlier common001 common table r k))
+
+-- 13, "heading repeated", column "field's first"
+unfoldable pub rule13 : Seen → Track → List (List ℕ) → List ℕ → List ℕ
+rule13 s t fs r = columnsWhere (headingRepeated (s .common001) (s .common) (s .table) r fs) fieldColumn (used t)
+
+-- ---- pointers
+
+abbrev pub headingPointerAt : List ℕ → ℕ → ℕ
+headingPointerAt part m = getD part (m / 6 * 81 + m % 6 * 11 + 10) 0
+
+unfoldable pub headingPointers : List ℕ → List ℕ
+headingPointers part = listOf (headingPointerAt part) 0 (headingsIn part)
+
+-- "A pointer on a DATA heading must occur in BIB column 11 of this subentry or 001, or on a heading of either one's
+-- COMMON."
+unfoldable pub pointersFor : List ℕ → List ℕ → List ℕ → List ℕ → List ℕ
+pointersFor bib bib001 common common001 =
+    pointersOf bib ++ (pointersOf bib001 ++ (headingPointers common ++ headingPointers common001))
+
+abbrev pub pointerLost : List ℕ → List ℕ → Bool
+pointerLost pointers f = not (isBlank (pointerOf f)) && not (anyOf (eqb (pointerOf f)) pointers)
+
+abbrev pub lostAt : List ℕ → List (List ℕ) → ℕ → Bool
+lostAt pointers fs k = pointerLost pointers (getD fs k [])
+
+-- 14, "DATA pointer not found", column "field's first"
+unfoldable pub rule14 : Seen → Track → List (List ℕ) → List ℕ
+rule14 s t fs =
+    columnsWhere (lostAt (pointersFor (s .bib) (s .bib001) (s .common) (s .common001)) fs) fieldColumn (used t)

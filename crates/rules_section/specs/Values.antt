@@ -1,0 +1,40 @@
+-- The rule for value records: refusal 15. A field is read by the number layer, and nothing else of it counts.
+use Prim.Native.Nat.{ℕ}
+use mathlib.Core.Bool.{Bool, true, cond, _&&_}
+use mathlib.Core.List.{List, _++_}
+use lib.Dec.{eqb, leb}
+use Rattle.columns.specs.Fields.{inField, firstField}
+use Rattle.record.specs.Numbers.{valueFault, valuesOf}
+use Rattle.record.specs.declared.numbers.Values.{Values}
+use Rattle.rules_state.specs.declared.state.Track.{Track}
+use Rattle.rules_state.specs.State.{used, rowEnds}
+use Rattle.rules_state.specs.Role.{DATA-VALUE, isValue}
+use Rattle.rules_state.specs.Fault.{when, columnsWhere, fieldColumn}
+
+-- "COMMON values are never blank. DATA values may be": a value that may be blank
+abbrev pub optional : ℕ → Bool
+optional role = eqb role DATA-VALUE
+
+-- the first filled field, or 6: where no field is used, each that is filled is at fault
+abbrev pub firstFilled : List (List ℕ) → ℕ
+firstFilled fs = firstField (valueFault true 0) fs
+
+-- every used field is blank
+abbrev pub blankFields : ℕ → List (List ℕ) → Bool
+blankFields used fs = leb used (firstFilled fs)
+
+-- "line with every used field blank (at its last record, column 1)"
+abbrev pub lineBlank : Track → ℕ → List (List ℕ) → Bool
+lineBlank t role fs = optional role && (rowEnds t && (t .table .blank && blankFields (used t) fs))
+
+-- 15, "value malformed, COMMON value blank, unused filled; line with every used field blank (at its last record, column
+-- 1)", column "field's first"
+unfoldable pub rule15 : Track → ℕ → List (List ℕ) → List ℕ
+rule15 t role fs =
+    when (lineBlank t role fs) 1
+    ++ columnsWhere (inField (valueFault (optional role) (used t)) fs) fieldColumn 6
+
+-- what the fields of a value record read to: the first at fault, and the numbers; of another record nothing is read
+unfoldable pub valuesFor : Track → ℕ → List (List ℕ) → Values
+valuesFor t role fs =
+    cond (isValue role) (valuesOf (optional role) (used t) fs) (record { fault = 6; numbers = 0 })

@@ -1,0 +1,3 @@
+pub mod headings;
+pub mod text;
+pub mod values;

@@ -1,0 +1,138 @@
+-- What a record is: its role, from what is due and from the system identifier in its columns 1 to 11. A record that
+-- is not due has the role NOT-DUE, which is refusal 4. Only here does the phase count; a rule goes by the role.
+use Prim.Native.Nat.{ℕ}
+use mathlib.Core.Bool.{Bool, true, false, cond, _||_}
+use lib.Dec.{eqb, ltb}
+use Rattle.record.specs.Identifier.{ENTRY, SUBENT, NOSUBENT, BIB, NOBIB, ENDBIB, COMMON, NOCOMMON, ENDCOMMON, DATA}
+use Rattle.record.specs.Identifier.{NODATA, ENDDATA, ENDSUBENT, ENDENTRY, OTHER, isEnd}
+use Rattle.rules_state.specs.declared.state.Track.{Track}
+use Rattle.rules_state.specs.declared.state.Phase.{Phase}
+use Rattle.rules_state.specs.declared.state.Phase.the-variants.{Start, Opened, InSubentry, InBib, AfterBib, InCommon}
+use Rattle.rules_state.specs.declared.state.Phase.the-variants.{AfterCommon, InData, AfterData, Between, Done}
+use Rattle.rules_state.specs.State.{HEADINGS, UNITS}
+
+-- ---- the roles: a system record has its identifier's number; the records inside sections have these
+
+abbrev pub TEXT : ℕ
+TEXT = 15
+
+abbrev pub COMMON-HEADING : ℕ
+COMMON-HEADING = 16
+
+abbrev pub COMMON-UNIT : ℕ
+COMMON-UNIT = 17
+
+abbrev pub COMMON-VALUE : ℕ
+COMMON-VALUE = 18
+
+abbrev pub DATA-HEADING : ℕ
+DATA-HEADING = 19
+
+abbrev pub DATA-UNIT : ℕ
+DATA-UNIT = 20
+
+abbrev pub DATA-VALUE : ℕ
+DATA-VALUE = 21
+
+abbrev pub NOT-DUE : ℕ
+NOT-DUE = 22
+
+-- ---- kinds of roles
+
+-- one of the fourteen system identifiers
+abbrev pub isSystem : ℕ → Bool
+isSystem role = ltb role OTHER
+
+-- SUBENT or NOSUBENT
+abbrev pub opensSubentry : ℕ → Bool
+opensSubentry role = eqb role SUBENT || eqb role NOSUBENT
+
+-- BIB, COMMON or DATA, whose N1 and N2 are counts
+abbrev pub opensSection : ℕ → Bool
+opensSection role = eqb role BIB || (eqb role COMMON || eqb role DATA)
+
+abbrev pub isHeading : ℕ → Bool
+isHeading role = eqb role COMMON-HEADING || eqb role DATA-HEADING
+
+abbrev pub isUnit : ℕ → Bool
+isUnit role = eqb role COMMON-UNIT || eqb role DATA-UNIT
+
+abbrev pub isValue : ℕ → Bool
+isValue role = eqb role COMMON-VALUE || eqb role DATA-VALUE
+
+-- ---- what is due
+
+-- the identifier a, and nothing else
+abbrev pub only : ℕ → ℕ → ℕ
+only a k = cond (eqb k a) a NOT-DUE
+
+-- the identifier a or b
+abbrev pub either : ℕ → ℕ → ℕ → ℕ
+either a b k = cond (eqb k a) a (only b k)
+
+-- inside BIB: as many text records as BIB announces, "any system identifier inside BIB" being 4; then ENDBIB
+unfoldable pub bibRole : Track → ℕ → ℕ
+bibRole t k = cond (eqb (t .section) (t .bib .records)) (only ENDBIB k) (cond (eqb k OTHER) TEXT NOT-DUE)
+
+-- the lines that COMMON or DATA announces are all read
+abbrev pub allRead : Track → Bool
+allRead t = ltb (t .table .last .0) (t .table .line .0)
+
+-- inside COMMON and DATA: headings, units and lines, "one beginning with END" being 4; then the END record
+unfoldable pub tableRole : ℕ → ℕ → ℕ → ℕ → Track → ℕ → ℕ
+tableRole end heading unit value t k =
+    cond (allRead t) (only end k)
+    (cond (isEnd k) NOT-DUE
+    (cond (eqb (t .table .row) HEADINGS) heading
+    (cond (eqb (t .table .row) UNITS) unit value)))
+
+-- "then (except in 001) DATA section or NODATA, then ENDSUBENT"
+unfoldable pub dataRole : Track → ℕ → ℕ
+dataRole t k = cond (eqb (t .subentry .number) 1) (only ENDSUBENT k) (either DATA NODATA k)
+
+-- after a subentry: another one, or ENDENTRY
+abbrev pub nextRole : ℕ → ℕ
+nextRole k = cond (eqb k SUBENT) SUBENT (either NOSUBENT ENDENTRY k)
+
+-- "ENTRY; one or more subentries; ENDENTRY. A subentry is NOSUBENT alone, or SUBENT, then BIB section or NOBIB, then
+-- COMMON section or NOCOMMON, then (except in 001) DATA section or NODATA, then ENDSUBENT. The first subentry is
+-- SUBENT 001."
+unfoldable pub roleIn : Phase → Track → ℕ → ℕ
+roleIn Start t k = only ENTRY k
+roleIn Opened t k = only SUBENT k
+roleIn InSubentry t k = either BIB NOBIB k
+roleIn InBib t k = bibRole t k
+roleIn AfterBib t k = either COMMON NOCOMMON k
+roleIn InCommon t k = tableRole ENDCOMMON COMMON-HEADING COMMON-UNIT COMMON-VALUE t k
+roleIn AfterCommon t k = dataRole t k
+roleIn InData t k = tableRole ENDDATA DATA-HEADING DATA-UNIT DATA-VALUE t k
+roleIn AfterData t k = only ENDSUBENT k
+roleIn Between t k = nextRole k
+roleIn Done t k = NOT-DUE
+
+-- inside BIB; inside COMMON or DATA
+abbrev pub inBib : Phase → Bool
+inBib Start = false
+inBib Opened = false
+inBib InSubentry = false
+inBib InBib = true
+inBib AfterBib = false
+inBib InCommon = false
+inBib AfterCommon = false
+inBib InData = false
+inBib AfterData = false
+inBib Between = false
+inBib Done = false
+
+abbrev pub inTable : Phase → Bool
+inTable Start = false
+inTable Opened = false
+inTable InSubentry = false
+inTable InBib = false
+inTable AfterBib = false
+inTable InCommon = true
+inTable AfterCommon = false
+inTable InData = true
+inTable AfterData = false
+inTable Between = false
+inTable Done = false

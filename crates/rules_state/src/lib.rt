@@ -1,0 +1,3 @@
+pub mod fault;
+pub mod role;
+pub mod state;

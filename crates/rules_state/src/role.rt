@@ -1,0 +1,219 @@
+// What a record is: its role, from what is due and its system identifier.
+ghost use mathlib.Core.Path.{_≡_};
+ghost use Prim.Native.Nat.{ℕ, _+_, _-_, _*_, _≤_, _<_};
+ghost use Rattle.record.specs.Identifier.{NamesLent};
+ghost use Rattle.rules_state.specs.Role.{isSystem, opensSubentry, opensSection, isHeading, isUnit, isValue, only};
+ghost use Rattle.rules_state.specs.Role.{either, bibRole, tableRole, dataRole, nextRole, roleIn};
+use crate::state::HEADINGS;
+use crate::state::Phase;
+use crate::state::Track;
+use crate::state::UNITS;
+use record::identifier::BIB;
+use record::identifier::COMMON;
+use record::identifier::DATA;
+use record::identifier::ENDBIB;
+use record::identifier::ENDCOMMON;
+use record::identifier::ENDDATA;
+use record::identifier::ENDENTRY;
+use record::identifier::ENDSUBENT;
+use record::identifier::ENTRY;
+use record::identifier::NOBIB;
+use record::identifier::NOCOMMON;
+use record::identifier::NODATA;
+use record::identifier::NOSUBENT;
+use record::identifier::Names;
+use record::identifier::OTHER;
+use record::identifier::SUBENT;
+use record::identifier::is_end;
+
+// The roles of the records inside sections; a system record has its identifier's number.
+pub const TEXT: usize = 15;
+
+pub const COMMON_HEADING: usize = 16;
+
+pub const COMMON_UNIT: usize = 17;
+
+pub const COMMON_VALUE: usize = 18;
+
+pub const DATA_HEADING: usize = 19;
+
+pub const DATA_UNIT: usize = 20;
+
+pub const DATA_VALUE: usize = 21;
+
+pub const NOT_DUE: usize = 22;
+
+// One of the fourteen system identifiers.
+pub fn is_system(role: usize) -> bool
+    ensures { λ r. ⌜ r ≡ isSystem role ⌝ }
+{
+    role < OTHER
+}
+
+// SUBENT or NOSUBENT.
+pub fn opens_subentry(role: usize) -> bool
+    ensures { λ r. ⌜ r ≡ opensSubentry role ⌝ }
+{
+    if role == SUBENT {
+        return true;
+    }
+    role == NOSUBENT
+}
+
+// BIB, COMMON or DATA.
+pub fn opens_section(role: usize) -> bool
+    ensures { λ r. ⌜ r ≡ opensSection role ⌝ }
+{
+    if role == BIB {
+        return true;
+    }
+    if role == COMMON {
+        return true;
+    }
+    role == DATA
+}
+
+pub fn is_heading(role: usize) -> bool
+    ensures { λ r. ⌜ r ≡ isHeading role ⌝ }
+{
+    if role == COMMON_HEADING {
+        return true;
+    }
+    role == DATA_HEADING
+}
+
+pub fn is_unit(role: usize) -> bool
+    ensures { λ r. ⌜ r ≡ isUnit role ⌝ }
+{
+    if role == COMMON_UNIT {
+        return true;
+    }
+    role == DATA_UNIT
+}
+
+pub fn is_value(role: usize) -> bool
+    ensures { λ r. ⌜ r ≡ isValue role ⌝ }
+{
+    if role == COMMON_VALUE {
+        return true;
+    }
+    role == DATA_VALUE
+}
+
+fn only(a: usize, k: usize) -> usize
+    ensures { λ r. ⌜ r ≡ only a k ⌝ }
+{
+    if k == a {
+        return a;
+    }
+    NOT_DUE
+}
+
+fn either(a: usize, b: usize, k: usize) -> usize
+    ensures { λ r. ⌜ r ≡ either a b k ⌝ }
+{
+    if k == a {
+        return a;
+    }
+    only(b, k)
+}
+
+impl Track {
+    fn bib_role(self, k: usize) -> usize
+        ensures { λ r. ⌜ r ≡ bibRole self k ⌝ }
+    {
+        let due = self.bib;
+        if self.section as u64 == due.records {
+            return only(ENDBIB, k);
+        }
+        if k == OTHER {
+            return TEXT;
+        }
+        NOT_DUE
+    }
+
+    fn table_role(
+        self,
+        names: &Names,
+        end: usize,
+        heading: usize,
+        unit: usize,
+        value: usize,
+        k: usize,
+    ) -> usize
+        requires { ⌜ NamesLent (now names) ⌝ }
+        ensures { λ r. ⌜ r ≡ tableRole end heading unit value self k ⌝ }
+    {
+        let t = self.table;
+        let last = t.last;
+        let line = t.line;
+        if last.0 < line.0 {
+            return only(end, k);
+        }
+        if is_end(names, k) {
+            return NOT_DUE;
+        }
+        if t.row == HEADINGS {
+            return heading;
+        }
+        if t.row == UNITS {
+            return unit;
+        }
+        value
+    }
+
+    fn data_role(self, k: usize) -> usize
+        ensures { λ r. ⌜ r ≡ dataRole self k ⌝ }
+    {
+        let s = self.subentry;
+        if s.number == 1 {
+            return only(ENDSUBENT, k);
+        }
+        either(DATA, NODATA, k)
+    }
+}
+
+fn next_role(k: usize) -> usize
+    ensures { λ r. ⌜ r ≡ nextRole k ⌝ }
+{
+    if k == SUBENT {
+        return SUBENT;
+    }
+    either(NOSUBENT, ENDENTRY, k)
+}
+
+impl Track {
+    // The role of a record whose system identifier is `k`.
+    pub fn role(self, names: &Names, phase: Phase, k: usize) -> usize
+        requires { ⌜ NamesLent (now names) ⌝ }
+        ensures { λ r. ⌜ r ≡ roleIn phase self k ⌝ }
+    {
+        match phase {
+            Phase::Start => only(ENTRY, k),
+            Phase::Opened => only(SUBENT, k),
+            Phase::InSubentry => either(BIB, NOBIB, k),
+            Phase::InBib => self.bib_role(k),
+            Phase::AfterBib => either(COMMON, NOCOMMON, k),
+            Phase::InCommon => self.table_role(
+                names,
+                ENDCOMMON,
+                COMMON_HEADING,
+                COMMON_UNIT,
+                COMMON_VALUE,
+                k,
+            ),
+            Phase::AfterCommon => self.data_role(k),
+            Phase::InData => self.table_role(
+                names,
+                ENDDATA,
+                DATA_HEADING,
+                DATA_UNIT,
+                DATA_VALUE,
+                k,
+            ),
+            Phase::AfterData => only(ENDSUBENT, k),
+            Phase::Between => next_role(k),
+            Phase::Done => NOT_DUE,
+        }
+    }
+}

@@ -1,0 +1,56 @@
+use Rattle.rules_system.specs.System.{formN2}
+use borrow.Author.Tests.{eq-eqb, ne-eqb}
+use borrow.Author.Needs.{needs}
+use Rattle.rules_system.proofs.system.form_n2.Statement.{statement}
+use Rattle.rules_system.proofs.system.form_n2.Tie as tie
+use Rattle.rules_system.proofs.system.form_n2.Reads as reads
+use Rattle.rules_system.proofs.system.form_n2.Lts as lts
+use Rattle.rules_state.proofs.role.opens_section.Reads as opens-section-reads
+use Rattle.rules_state.proofs.role.opens_subentry.Reads as opens-subentry-reads
+
+-- src/system.rt:74:9
+returns : tie.Need-returns
+unfolding formN2
+returns c = rw (eq-eqb _ _ (c .if1 .taken))
+
+-- src/system.rt:76:8
+opens-subentry-requires : tie.Need-opens-subentry-requires
+opens-subentry-requires c κs = search needs
+
+-- src/system.rt:77:9
+returns-2 : tie.Need-returns-2
+unfolding formN2
+returns-2 c = rw (ne-eqb _ _ (c .before .before .if1 .left), ← c .before .opens-subentry .ensures, c .if2 .taken)
+
+-- src/system.rt:79:8
+opens-section-requires : tie.Need-opens-section-requires
+opens-section-requires c κs = search needs
+
+-- src/system.rt:80:9
+returns-3 : tie.Need-returns-3
+unfolding formN2
+returns-3 c =
+    rw (
+      ne-eqb _ _ (c .before .before .before .before .if1 .left),
+      ← c .before .before .before .opens-subentry .ensures,
+      c .before .before .if2 .left,
+      ← c .before .opens-section .ensures,
+      c .if3 .taken,
+    )
+
+-- src/system.rt:70:1
+returns-4 : tie.Need-returns-4
+unfolding formN2
+returns-4 c =
+    rw (
+      ne-eqb _ _ (c .before .before .before .before .if1 .left),
+      ← c .before .before .before .opens-subentry .ensures,
+      c .before .before .if2 .left,
+      ← c .before .opens-section .ensures,
+      c .if3 .left,
+    )
+
+pub form-n2-spec : {M : Type 1} → statement M
+form-n2-spec =
+    tie.close
+    (tie.spec returns opens-subentry-requires returns-2 opens-section-requires returns-3 returns-4)

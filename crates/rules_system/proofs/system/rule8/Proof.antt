@@ -1,0 +1,153 @@
+use Rattle.rules_system.specs.System.{rule8}
+use borrow.Author.Tests.{not-false, not-true}
+use borrow.Author.Needs.{needs}
+use Rattle.rules_system.proofs.system.rule8.Statement.{statement}
+use Rattle.rules_system.proofs.system.rule8.Tie as tie
+use Rattle.rules_system.proofs.system.rule8.Reads as reads
+use Rattle.rules_system.proofs.system.rule8.Lts as lts
+use Rattle.record.proofs.identifier.is_end.Reads as is-end-reads
+use Rattle.record.proofs.system.count_of.Reads as count-of-reads
+use Rattle.record.proofs.system.number_of.Reads as number-of-reads
+use Rattle.rules_state.proofs.role.is_system.Reads as is-system-reads
+use Rattle.rules_state.proofs.role.opens_section.Reads as opens-section-reads
+use Rattle.rules_system.proofs.system.count_true.Reads as count-true-reads
+use Rattle.rules_system.proofs.system.announced.Reads as announced-reads
+
+-- src/system.rt:218:13
+is-system-requires : tie.Need-is-system-requires
+is-system-requires c κs = search needs
+
+-- src/system.rt:219:13
+returns : tie.Need-returns
+returns c = rw (← c .before .is-system .ensures, not-true (c .before .is-system .result) (c .if1 .taken))
+
+-- src/system.rt:221:17
+array-copy-out-f : tie.Need-array-copy-out-f
+array-copy-out-f c = search needs
+
+-- src/system.rt:222:17
+array-copy-out-g : tie.Need-array-copy-out-g
+array-copy-out-g c = search needs
+
+-- src/system.rt:223:27
+count-of-requires : tie.Need-count-of-requires
+count-of-requires c κs = search needs
+
+-- src/system.rt:223:13
+number-of-requires : tie.Need-number-of-requires
+number-of-requires c κs = search needs
+
+-- src/system.rt:224:12
+opens-section-requires : tie.Need-opens-section-requires
+opens-section-requires c κs = search needs
+
+-- src/system.rt:225:31
+count-of-requires-2 : tie.Need-count-of-requires-2
+count-of-requires-2 c κs = search needs
+
+-- src/system.rt:225:17
+number-of-requires-2 : tie.Need-number-of-requires-2
+number-of-requires-2 c κs = search needs
+
+-- src/system.rt:226:13
+announced-requires : tie.Need-announced-requires
+announced-requires c κs = search needs
+
+-- src/system.rt:226:13
+returns-2 : tie.Need-returns-2
+unfolding rule8
+returns-2 c =
+    rw (
+      ← c .before .before .before .before .before .before .before .before .before .before .is-system .ensures,
+      not-false (c .before .before .before .before .before .before .before .before .before .before .is-system .result)
+          (c .before .before .before .before .before .before .before .before .before .if1 .left),
+      ← c .before .before .before .before .opens-section .ensures,
+      c .before .before .before .if2 .taken,
+      ← c .before .before .before .before .before .before .count-of .ensures,
+      ← c .before .before .before .before .before .number-of .ensures,
+      ← c .before .before .count-of2 .ensures,
+      ← c .before .number-of2 .ensures,
+    ) (c .announced .ensures)
+
+-- src/system.rt:228:13
+is-end-requires : tie.Need-is-end-requires
+is-end-requires c κs = search needs
+
+-- src/system.rt:229:13
+returns-3 : tie.Need-returns-3
+unfolding rule8
+returns-3 c =
+    rw (
+      ← c .before .before .before .before .before .before .before .before .before .is-system .ensures,
+      not-false (c .before .before .before .before .before .before .before .before .before .is-system .result)
+          (c .before .before .before .before .before .before .before .before .if1 .left),
+      ← c .before .before .before .opens-section .ensures,
+      c .before .before .if2 .left,
+      ← c .before .is-end .ensures,
+      not-true (c .before .is-end .result) (c .if3 .taken),
+    )
+
+-- src/system.rt:231:12
+count-true-requires : tie.Need-count-true-requires
+count-true-requires c κs = search needs
+
+-- src/system.rt:232:13
+returns-4 : tie.Need-returns-4
+unfolding rule8
+returns-4 c =
+    rw (
+      ← c .before .before .before .before .before .before .before .before .before .before .before .is-system .ensures,
+      not-false
+          (c .before .before .before .before .before .before .before .before .before .before .before .is-system .result)
+          (c .before .before .before .before .before .before .before .before .before .before .if1 .left),
+      ← c .before .before .before .before .before .opens-section .ensures,
+      c .before .before .before .before .if2 .left,
+      ← c .before .before .before .is-end .ensures,
+      not-false (c .before .before .before .is-end .result)
+          (c .before .before .if3 .left),
+      ← c .before .before .before .before .before .before .before .count-of .ensures,
+      ← c .before .before .before .before .before .before .number-of .ensures,
+      ← c .before .count-true .ensures,
+      c .if4 .taken,
+    )
+
+-- src/system.rt:214:5
+returns-5 : tie.Need-returns-5
+unfolding rule8
+returns-5 c =
+    rw (
+      ← c .before .before .before .before .before .before .before .before .before .before .before .is-system .ensures,
+      not-false
+          (c .before .before .before .before .before .before .before .before .before .before .before .is-system .result)
+          (c .before .before .before .before .before .before .before .before .before .before .if1 .left),
+      ← c .before .before .before .before .before .opens-section .ensures,
+      c .before .before .before .before .if2 .left,
+      ← c .before .before .before .is-end .ensures,
+      not-false (c .before .before .before .is-end .result)
+          (c .before .before .if3 .left),
+      ← c .before .before .before .before .before .before .before .count-of .ensures,
+      ← c .before .before .before .before .before .before .number-of .ensures,
+      ← c .before .count-true .ensures,
+      c .if4 .left,
+    )
+
+pub rule8-spec : {M : Type 1} → statement M
+rule8-spec =
+    tie.close
+    (tie.spec
+    is-system-requires
+    returns
+    array-copy-out-f
+    array-copy-out-g
+    count-of-requires
+    number-of-requires
+    opens-section-requires
+    count-of-requires-2
+    number-of-requires-2
+    announced-requires
+    returns-2
+    is-end-requires
+    returns-3
+    count-true-requires
+    returns-4
+    returns-5)

@@ -1,0 +1,124 @@
+-- The rules for system records: refusals 7, 8 and 9.
+use Prim.Native.Nat.{ℕ, _*_, _≤_}
+use mathlib.Core.Path.{_≡_}
+use mathlib.Core.Bool.{Bool, true, cond, not, _&&_, _||_}
+use mathlib.Core.List.{List, _++_}
+use lib.Dec.{eqb, ltb, leb}
+use Rattle.columns.specs.Text.{within}
+use Rattle.columns.specs.Columns.{columnsAt, recordsFor}
+use Rattle.record.specs.Word.{equalTo}
+use Rattle.record.specs.Identifier.{ENTRY, BIB, ENDBIB, COMMON, ENDSUBENT, ENDENTRY, isEnd}
+use Rattle.record.specs.System.{countOf, isCount, numberOf, isDate, isEntryN1, isSubentN1, subentryOf}
+use Rattle.rules_state.specs.declared.state.Track.{Track}
+use Rattle.rules_system.specs.declared.system.Limit.{Limit}
+use Rattle.rules_system.specs.declared.system.Limit.the-variants.{AtLeast, Between}
+use Rattle.rules_state.specs.State.{MOST-COLUMNS, MOST-LINES, LAST-SUBENTRY}
+use Rattle.rules_state.specs.Role.{opensSubentry, opensSection}
+use Rattle.rules_state.specs.Fault.{on, when}
+use Rattle.rules_system.specs.Every.{n1, n2}
+
+-- ---- the table of N1 and N2, each by its form
+
+abbrev pub FREE : ℕ
+FREE = 0
+
+abbrev pub ENTRY-N1 : ℕ
+ENTRY-N1 = 1
+
+abbrev pub SUBENT-N1 : ℕ
+SUBENT-N1 = 2
+
+abbrev pub DATE : ℕ
+DATE = 3
+
+abbrev pub COUNT : ℕ
+COUNT = 4
+
+unfoldable pub formN1 : ℕ → ℕ
+formN1 role =
+    cond (eqb role ENTRY) ENTRY-N1
+    (cond (opensSubentry role) SUBENT-N1
+    (cond (opensSection role || isEnd role) COUNT FREE))
+
+unfoldable pub formN2 : ℕ → ℕ
+formN2 role =
+    cond (eqb role ENTRY || opensSubentry role) DATE
+    (cond (opensSection role) COUNT FREE)
+
+unfoldable pub inForm : ℕ → List ℕ → Bool
+inForm form f =
+    cond (eqb form ENTRY-N1) (isEntryN1 f)
+    (cond (eqb form SUBENT-N1) (isSubentN1 f)
+    (cond (eqb form DATE) (isDate f)
+    (cond (eqb form COUNT) (isCount (countOf f)) true)))
+
+-- 7, "system field not in its form", column 12 or 23
+unfoldable pub rule7 : ℕ → List (List ℕ) → List ℕ
+rule7 role fs = when (not (inForm (formN1 role) (n1 fs))) 12 ++ when (not (inForm (formN2 role) (n2 fs))) 23
+
+-- ---- counts; of a field that is none, 7 comes first
+
+abbrev pub countN1 : List (List ℕ) → ℕ
+countN1 fs = numberOf (countOf (n1 fs))
+
+abbrev pub countN2 : List (List ℕ) → ℕ
+countN2 fs = numberOf (countOf (n2 fs))
+
+-- "keywords, at least 1"; "columns, 1-18"
+unfoldable pub limitN1 : ℕ → Limit
+limitN1 role = cond (eqb role BIB) (AtLeast 1) (Between 1 MOST-COLUMNS)
+
+-- "records, at least N1"; "COMMON has exactly 3k records"; "lines, 1-20,000"
+unfoldable pub limitN2 : ℕ → ℕ → Limit
+limitN2 role n =
+    cond (eqb role BIB) (AtLeast n)
+    (cond (eqb role COMMON) (Between (3 * recordsFor n) (3 * recordsFor n))
+    (Between 1 MOST-LINES))
+
+-- a count of columns small enough for what it announces to be worked out
+pub record Few (role n : ℕ) : Type 0 where
+  pub columns : role ≡ COMMON → n ≤ MOST-COLUMNS
+
+abbrev pub meets : Limit → ℕ → Bool
+meets (AtLeast least) n = leb least n
+meets (Between least greatest) n = within least greatest n
+
+-- a section announces more or less than it may
+unfoldable pub announcedFault : ℕ → ℕ → ℕ → List ℕ
+announcedFault role a b = when (not (meets (limitN1 role) a)) 12 ++ when (not (meets (limitN2 role a) b)) 23
+
+-- the count of an END record: "records between", on ENDENTRY "subentries, NOSUBENT included"
+unfoldable pub trueCount : Track → ℕ → ℕ
+trueCount t role =
+    cond (eqb role ENDENTRY) (t .totals .subentries)
+    (cond (eqb role ENDSUBENT) (t .subentry .records) (t .section))
+
+-- "keyword total judged on ENDBIB, column 12"
+abbrev pub keywordsTrue : Track → ℕ → Bool
+keywordsTrue t role = not (eqb role ENDBIB) || eqb (t .bib .met) (t .bib .keywords)
+
+-- the count of an END record, and on ENDBIB that of the keywords, is the true one
+abbrev pub countTrue : Track → ℕ → ℕ → Bool
+countTrue t role n = eqb n (trueCount t role) && keywordsTrue t role
+
+-- 8, "count out of range or untrue (keyword total judged on ENDBIB, column 12)", column 12 or 23
+unfoldable pub rule8 : Track → ℕ → List (List ℕ) → List ℕ
+rule8 t role fs =
+    cond (opensSection role) (announcedFault role (countN1 fs) (countN2 fs))
+    (on (isEnd role) (when (not (countTrue t role (countN1 fs))) 12))
+
+-- ---- subentry numbers
+
+-- "The first subentry is SUBENT 001." "Later numbers rise strictly, up to 998."
+abbrev pub numberDue : Track → ℕ → Bool
+numberDue t number =
+    cond (eqb (t .totals .subentries) 0) (eqb number 1)
+    (ltb (t .subentry .number) number && leb number LAST-SUBENTRY)
+
+-- the accession in N1 of SUBENT and NOSUBENT
+abbrev pub accessionN1 : List (List ℕ) → List ℕ
+accessionN1 fs = columnsAt 3 5 (n1 fs)
+
+-- 9, "SUBENT/NOSUBENT: other accession, first not 001, not rising, 000 or 999", column 12
+unfoldable pub rule9 : Track → List (List ℕ) → List ℕ
+rule9 t fs = when (not (equalTo 5 (accessionN1 fs) (t .accession) && numberDue t (subentryOf (n1 fs)))) 12

@@ -1,0 +1,2 @@
+pub mod every;
+pub mod system;
