@@ -2,8 +2,8 @@
 //! linked.
 //!
 //! `X4_ARCHIVES` names their folder and they must then be there; otherwise they are looked for where `rt` leaves them.
-//! `rt` makes archives for x86-64 only: for another processor, or where one is missing, nothing is linked, the reference
-//! answers every call, and the build says so.
+//! `rt` makes archives for x86-64. For another processor than theirs, or where one is missing, nothing is linked, the
+//! reference answers every call, and the build says so.
 
 use std::env;
 use std::path::{Path, PathBuf};
@@ -20,17 +20,30 @@ fn main() {
     let archives = CRATES.map(|name| folder.join(format!("lib{name}.a")));
     archives.iter().for_each(|archive| println!("cargo::rerun-if-changed={}", archive.display()));
     let processor = env::var("CARGO_CFG_TARGET_ARCH").unwrap_or_default();
-    if processor != "x86_64" {
-        println!(
-            "cargo::warning=the proved archives are for x86-64 and this is {processor}: the reference answers all"
-        );
-        return;
+    if let Some(missing) = archives.iter().find(|archive| !archive.is_file()) {
+        assert!(named.is_none(), "X4_ARCHIVES: there is no {}", missing.display());
+        println!("cargo::warning=no proved archives (see host/README.md): the reference answers all");
+    } else if archives.iter().all(|archive| machine(archive) == machine_of(&processor)) {
+        link(&archives);
+    } else {
+        println!("cargo::warning=the proved archives are not for {processor}: the reference answers all");
     }
-    match archives.iter().find(|archive| !archive.is_file()) {
-        None => link(&archives),
-        Some(missing) if named.is_some() => panic!("X4_ARCHIVES: there is no {}", missing.display()),
-        Some(_) => println!("cargo::warning=no proved archives (see host/README.md): the reference answers all"),
+}
+
+/// The number that ELF has for a processor; 0 is none.
+fn machine_of(processor: &str) -> u8 {
+    match processor {
+        "x86_64" => 62,
+        "aarch64" => 183,
+        _ => 0,
     }
+}
+
+/// The processor of an archive's first object.
+fn machine(archive: &Path) -> u8 {
+    let bytes = std::fs::read(archive).expect("an archive can be read");
+    let object = bytes.windows(4).position(|bytes| bytes == b"\x7fELF").unwrap_or(bytes.len());
+    bytes.get(object + 18).copied().unwrap_or(u8::MAX)
 }
 
 /// Links the archives under names that no other library has.

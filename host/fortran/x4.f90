@@ -1,11 +1,19 @@
-! The functions of the proved archives (rt staticlib) for Fortran. The numbers are document 01's; include/x4.h
-! says how several of them stand in one word.
+! The functions of the proved archives (rt staticlib) for Fortran. The numbers are document 01's.
+!
+! A call returns a word, 0 where it is answered, and then stores what it answers in an array that is lent to it:
+! totals(4) are subentries, keywords, DATA lines, numbers; value(8) are kind (0 blank, 1 number), 1 if below zero,
+! coefficient, power of ten, four zeros; part(3) are the first byte counted from 0, the length, the pointer. A refused
+! call stores nothing. The word has the number of the refusal in bits 0-7, the entry's refusal in 8-15, its column in
+! 16-23, its record in 24-47.
 module x4
   use, intrinsic :: iso_c_binding, only: c_char, c_int8_t, c_int32_t, c_int64_t, c_size_t
   implicit none
   private
-  public :: x4_refused, x4_value, x4_part, x4_verdict
+  public :: x4_version, x4_interface, x4_refused, x4_value, x4_part, x4_verdict
   public :: x4_judged, x4_ask_value, x4_ask_heading, x4_ask_unit, x4_ask_passage, x4_copied, x4_read, x4_write
+
+  ! The interface that this module describes; x4_version() is the same of the archives.
+  integer(c_int32_t), parameter :: x4_interface = 2
 
   ! A refusal by its number, 0 where there is none; beside 31 why the entry is refused, else zeros.
   type :: x4_refused
@@ -36,44 +44,54 @@ module x4
   end type x4_verdict
 
   interface
-    function x4_judge(entry, length) bind(c, name='x4_judge') result(word)
+    function x4_version() bind(c, name='x4_version') result(version)
+      import :: c_int32_t
+      integer(c_int32_t) :: version
+    end function x4_version
+
+    function x4_judge(entry, length, totals) bind(c, name='x4_judge') result(word)
       import :: c_char, c_int64_t, c_size_t
       character(kind=c_char), intent(in) :: entry(*)
       integer(c_size_t), value :: length
+      integer(c_int64_t), intent(inout) :: totals(4)
       integer(c_int64_t) :: word
     end function x4_judge
 
-    function c_value(entry, length, subentry, section, line, column) bind(c, name='x4_value') result(word)
+    function c_value(entry, length, subentry, section, line, column, value) bind(c, name='x4_value') result(word)
       import :: c_char, c_int32_t, c_int64_t, c_size_t
       character(kind=c_char), intent(in) :: entry(*)
       integer(c_size_t), value :: length
       integer(c_int32_t), value :: subentry, section, line, column
+      integer(c_int64_t), intent(inout) :: value(8)
       integer(c_int64_t) :: word
     end function c_value
 
-    function c_heading(entry, length, subentry, section, column) bind(c, name='x4_heading') result(word)
+    function c_heading(entry, length, subentry, section, column, part) bind(c, name='x4_heading') result(word)
       import :: c_char, c_int32_t, c_int64_t, c_size_t
       character(kind=c_char), intent(in) :: entry(*)
       integer(c_size_t), value :: length
       integer(c_int32_t), value :: subentry, section, column
+      integer(c_int64_t), intent(inout) :: part(3)
       integer(c_int64_t) :: word
     end function c_heading
 
-    function c_unit(entry, length, subentry, section, column) bind(c, name='x4_unit') result(word)
+    function c_unit(entry, length, subentry, section, column, part) bind(c, name='x4_unit') result(word)
       import :: c_char, c_int32_t, c_int64_t, c_size_t
       character(kind=c_char), intent(in) :: entry(*)
       integer(c_size_t), value :: length
       integer(c_int32_t), value :: subentry, section, column
+      integer(c_int64_t), intent(inout) :: part(3)
       integer(c_int64_t) :: word
     end function c_unit
 
-    function c_passage(entry, length, subentry, keyword, keyword_length, pointer) bind(c, name='x4_passage') &
-        result(word)
+    function c_passage(entry, length, subentry, keyword, keyword_length, pointer, part) &
+        bind(c, name='x4_passage') result(word)
       import :: c_char, c_int8_t, c_int32_t, c_int64_t, c_size_t
       character(kind=c_char), intent(in) :: entry(*), keyword(*)
       integer(c_size_t), value :: length, keyword_length
       integer(c_int32_t), value :: subentry
       integer(c_int8_t), value :: pointer
+      integer(c_int64_t), intent(inout) :: part(3)
       integer(c_int64_t) :: word
     end function c_passage
 
@@ -85,10 +103,11 @@ module x4
       integer(c_int64_t) :: word
     end function c_copy
 
-    function x4_read_number(field, length) bind(c, name='x4_read_number') result(word)
+    function x4_read_number(field, length, value) bind(c, name='x4_read_number') result(word)
       import :: c_char, c_int64_t, c_size_t
       character(kind=c_char), intent(in) :: field(*)
       integer(c_size_t), value :: length
+      integer(c_int64_t), intent(inout) :: value(8)
       integer(c_int64_t) :: word
     end function x4_read_number
 
@@ -109,18 +128,17 @@ contains
   function x4_judged(entry) result(v)
     character(len=*, kind=c_char), intent(in) :: entry
     type(x4_verdict) :: v
-    integer(c_int64_t) :: word
-    word = x4_judge(entry, len(entry, c_size_t))
-    if (btest(word, 63)) then
-      v%refusal = int(ibits(word, 8, 8), c_int32_t)
-      v%place = int(ibits(word, 16, 16), c_int32_t)
-      v%column = int(ibits(word, 32, 8), c_int32_t)
-    else
-      v%subentries = int(ibits(word, 47, 15), c_int32_t)
-      v%keywords = int(ibits(word, 32, 15), c_int32_t)
-      v%lines = int(ibits(word, 17, 15), c_int32_t)
-      v%numbers = int(ibits(word, 0, 17), c_int32_t)
-    end if
+    type(x4_refused) :: r
+    integer(c_int64_t) :: totals(4)
+    totals = 0
+    r = refused_in(x4_judge(entry, len(entry, c_size_t), totals))
+    v%refusal = r%refusal
+    v%place = r%place
+    v%column = r%column
+    v%subentries = int(totals(1), c_int32_t)
+    v%keywords = int(totals(2), c_int32_t)
+    v%lines = int(totals(3), c_int32_t)
+    v%numbers = int(totals(4), c_int32_t)
   end function x4_judged
 
   ! The value in a line and a column of section 1 (COMMON, line 1 only) or 2 (DATA) of a subentry.
@@ -128,7 +146,10 @@ contains
     character(len=*, kind=c_char), intent(in) :: entry
     integer(c_int32_t), intent(in) :: subentry, section, line, column
     type(x4_value) :: v
-    v = value_in(c_value(entry, len(entry, c_size_t), subentry, section, line, column))
+    integer(c_int64_t) :: word, numbers(8)
+    numbers = 0
+    word = c_value(entry, len(entry, c_size_t), subentry, section, line, column, numbers)
+    v = value_in(word, numbers)
   end function x4_ask_value
 
   ! The heading of a column, and its unit.
@@ -136,14 +157,20 @@ contains
     character(len=*, kind=c_char), intent(in) :: entry
     integer(c_int32_t), intent(in) :: subentry, section, column
     type(x4_part) :: p
-    p = part_in(c_heading(entry, len(entry, c_size_t), subentry, section, column))
+    integer(c_int64_t) :: word, numbers(3)
+    numbers = 0
+    word = c_heading(entry, len(entry, c_size_t), subentry, section, column, numbers)
+    p = part_in(word, numbers)
   end function x4_ask_heading
 
   function x4_ask_unit(entry, subentry, section, column) result(p)
     character(len=*, kind=c_char), intent(in) :: entry
     integer(c_int32_t), intent(in) :: subentry, section, column
     type(x4_part) :: p
-    p = part_in(c_unit(entry, len(entry, c_size_t), subentry, section, column))
+    integer(c_int64_t) :: word, numbers(3)
+    numbers = 0
+    word = c_unit(entry, len(entry, c_size_t), subentry, section, column, numbers)
+    p = part_in(word, numbers)
   end function x4_ask_unit
 
   ! The passage with a keyword, ten characters, and a pointer, blank for none.
@@ -152,9 +179,12 @@ contains
     integer(c_int32_t), intent(in) :: subentry
     character(kind=c_char), intent(in) :: pointer
     type(x4_part) :: p
+    integer(c_int64_t) :: word, numbers(3)
+    numbers = 0
     ! as a number: GNU Fortran 12 hands a character's address over where its value is declared
-    p = part_in(c_passage(entry, len(entry, c_size_t), subentry, keyword, len(keyword, c_size_t), &
-                          transfer(pointer, 0_c_int8_t)))
+    word = c_passage(entry, len(entry, c_size_t), subentry, keyword, len(keyword, c_size_t), &
+                     transfer(pointer, 0_c_int8_t), numbers)
+    p = part_in(word, numbers)
   end function x4_ask_passage
 
   ! Stores the canonical copy in the front of a text that is as long as the entry or longer.
@@ -169,7 +199,10 @@ contains
   function x4_read(field) result(v)
     character(len=*, kind=c_char), intent(in) :: field
     type(x4_value) :: v
-    v = value_in(x4_read_number(field, len(field, c_size_t)))
+    integer(c_int64_t) :: word, numbers(8)
+    numbers = 0
+    word = x4_read_number(field, len(field, c_size_t), numbers)
+    v = value_in(word, numbers)
   end function x4_read
 
   ! Writes the canonical field of a value: 0 done, 40 not eleven characters, 41 no field reads to the value.
@@ -181,36 +214,35 @@ contains
                               len(field, c_size_t))
   end function x4_write
 
-  ! ---- words
+  ! ---- words and arrays
 
   pure function refused_in(word) result(r)
     integer(c_int64_t), intent(in) :: word
     type(x4_refused) :: r
-    if (.not. btest(word, 63)) return
     r%number = int(ibits(word, 0, 8), c_int32_t)
     r%refusal = int(ibits(word, 8, 8), c_int32_t)
-    r%place = int(ibits(word, 16, 16), c_int32_t)
-    r%column = int(ibits(word, 32, 8), c_int32_t)
+    r%column = int(ibits(word, 16, 8), c_int32_t)
+    r%place = int(ibits(word, 24, 24), c_int32_t)
   end function refused_in
 
-  pure function value_in(word) result(v)
-    integer(c_int64_t), intent(in) :: word
+  pure function value_in(word, numbers) result(v)
+    integer(c_int64_t), intent(in) :: word, numbers(8)
     type(x4_value) :: v
     v%refused = refused_in(word)
-    v%blank = btest(word, 63)
-    if (v%blank) return
-    v%negative = btest(word, 62)
-    v%coefficient = ibits(word, 0, 34)
-    v%power = int(ibits(word, 34, 28), c_int32_t) - 100000000_c_int32_t
+    if (v%refused%number /= 0) return
+    v%blank = numbers(1) == 0
+    v%negative = numbers(2) == 1
+    v%coefficient = numbers(3)
+    v%power = int(numbers(4), c_int32_t)
   end function value_in
 
-  pure function part_in(word) result(p)
-    integer(c_int64_t), intent(in) :: word
+  pure function part_in(word, numbers) result(p)
+    integer(c_int64_t), intent(in) :: word, numbers(3)
     type(x4_part) :: p
     p%refused = refused_in(word)
-    if (btest(word, 63)) return
-    p%first = int(ibits(word, 0, 21)) + 1
-    p%last = p%first + int(ibits(word, 21, 21)) - 1
-    p%pointer = achar(int(ibits(word, 42, 8)))
+    if (p%refused%number /= 0) return
+    p%first = int(numbers(1)) + 1
+    p%last = p%first + int(numbers(2)) - 1
+    p%pointer = achar(int(numbers(3)))
   end function part_in
 end module x4

@@ -1,8 +1,8 @@
 //! Foreign functions: those of the proved archives as C sees them and with Rust's types, and one of C's library.
 //!
-//! Nothing checks these declarations against the archives, so they are few and stand together. A `&[u8]` is a pointer
-//! and a length; the proofs cover every pointer and length that a slice can have, so the wrappers test nothing. This is
-//! the only module of the package that is unsafe.
+//! Nothing checks these declarations against the archives but the version, so they are few and stand together. A `&[u8]`
+//! is a pointer and a length, a lent array of fixed length a pointer; the proofs cover every one that a slice can have, so
+//! the wrappers test nothing. This is the only module of the package that is unsafe.
 
 #[cfg(proved)]
 use crate::{words, Decimal, NoAnswer, Part, Value, Verdict};
@@ -14,10 +14,26 @@ extern "C" {
 
 #[cfg(proved)]
 extern "C" {
-    fn x4_judge(entry: *const u8, length: usize) -> u64;
-    fn x4_value(entry: *const u8, length: usize, subentry: u32, section: u32, line: u32, column: u32) -> u64;
-    fn x4_heading(entry: *const u8, length: usize, subentry: u32, section: u32, column: u32) -> u64;
-    fn x4_unit(entry: *const u8, length: usize, subentry: u32, section: u32, column: u32) -> u64;
+    fn x4_version() -> u32;
+    fn x4_judge(entry: *const u8, length: usize, totals: *mut [u64; 4]) -> u64;
+    fn x4_value(
+        entry: *const u8,
+        length: usize,
+        subentry: u32,
+        section: u32,
+        line: u32,
+        column: u32,
+        value: *mut [u64; 8],
+    ) -> u64;
+    fn x4_heading(
+        entry: *const u8,
+        length: usize,
+        subentry: u32,
+        section: u32,
+        column: u32,
+        part: *mut [u64; 3],
+    ) -> u64;
+    fn x4_unit(entry: *const u8, length: usize, subentry: u32, section: u32, column: u32, part: *mut [u64; 3]) -> u64;
     fn x4_passage(
         entry: *const u8,
         length: usize,
@@ -25,46 +41,64 @@ extern "C" {
         keyword: *const u8,
         keyword_length: usize,
         pointer: u8,
+        part: *mut [u64; 3],
     ) -> u64;
     fn x4_copy(entry: *const u8, length: usize, out: *mut u8, out_length: usize) -> u64;
-    fn x4_read_number(field: *const u8, length: usize) -> u64;
+    fn x4_read_number(field: *const u8, length: usize, value: *mut [u64; 8]) -> u64;
     fn x4_write_number(negative: u32, coefficient: u64, power: i32, out: *mut u8, length: usize) -> u32;
+}
+
+/// The version of the archives' interface, which is to be [`words::VERSION`].
+#[cfg(proved)]
+pub fn version() -> u32 {
+    // SAFETY: it takes nothing.
+    unsafe { x4_version() }
 }
 
 /// Judges one entry.
 #[cfg(proved)]
 pub fn judge(entry: &[u8]) -> Verdict {
-    // SAFETY: the pointer and the length are those of one slice, which is only read.
-    words::verdict(unsafe { x4_judge(entry.as_ptr(), entry.len()) })
+    let mut totals = [0; 4];
+    // SAFETY: the pointer and the length are those of one slice, which is only read; the array is this call's own.
+    let word = unsafe { x4_judge(entry.as_ptr(), entry.len(), &mut totals) };
+    words::verdict(word, totals)
 }
 
 /// What stands in a column of a line.
 #[cfg(proved)]
 pub fn value(entry: &[u8], subentry: u32, section: u32, line: u32, column: u32) -> Result<Value, NoAnswer> {
-    // SAFETY: the pointer and the length are those of one slice, which is only read.
-    words::reading(unsafe { x4_value(entry.as_ptr(), entry.len(), subentry, section, line, column) })
+    let mut value = [0; 8];
+    // SAFETY: the pointer and the length are those of one slice, which is only read; the array is this call's own.
+    let word = unsafe { x4_value(entry.as_ptr(), entry.len(), subentry, section, line, column, &mut value) };
+    words::answered(word).map(|()| words::value(value))
 }
 
 /// The heading of a column.
 #[cfg(proved)]
 pub fn heading(entry: &[u8], subentry: u32, section: u32, column: u32) -> Result<Part, NoAnswer> {
-    // SAFETY: the pointer and the length are those of one slice, which is only read.
-    words::part(unsafe { x4_heading(entry.as_ptr(), entry.len(), subentry, section, column) })
+    let mut part = [0; 3];
+    // SAFETY: the pointer and the length are those of one slice, which is only read; the array is this call's own.
+    let word = unsafe { x4_heading(entry.as_ptr(), entry.len(), subentry, section, column, &mut part) };
+    words::answered(word).map(|()| words::part(part))
 }
 
 /// The unit of a column.
 #[cfg(proved)]
 pub fn unit(entry: &[u8], subentry: u32, section: u32, column: u32) -> Result<Part, NoAnswer> {
-    // SAFETY: the pointer and the length are those of one slice, which is only read.
-    words::part(unsafe { x4_unit(entry.as_ptr(), entry.len(), subentry, section, column) })
+    let mut part = [0; 3];
+    // SAFETY: the pointer and the length are those of one slice, which is only read; the array is this call's own.
+    let word = unsafe { x4_unit(entry.as_ptr(), entry.len(), subentry, section, column, &mut part) };
+    words::answered(word).map(|()| words::part(part))
 }
 
 /// The passage under a keyword and a pointer.
 #[cfg(proved)]
 pub fn passage(entry: &[u8], subentry: u32, keyword: &[u8], pointer: u8) -> Result<Part, NoAnswer> {
+    let mut part = [0; 3];
     let (first, length) = (keyword.as_ptr(), keyword.len());
-    // SAFETY: both pointers and lengths are those of slices, which are only read.
-    words::part(unsafe { x4_passage(entry.as_ptr(), entry.len(), subentry, first, length, pointer) })
+    // SAFETY: both pointers and lengths are those of slices, which are only read; the array is this call's own.
+    let word = unsafe { x4_passage(entry.as_ptr(), entry.len(), subentry, first, length, pointer, &mut part) };
+    words::answered(word).map(|()| words::part(part))
 }
 
 /// The canonical copy, into the front of a buffer.
@@ -72,14 +106,16 @@ pub fn passage(entry: &[u8], subentry: u32, keyword: &[u8], pointer: u8) -> Resu
 pub fn canonical_copy(entry: &[u8], buffer: &mut [u8]) -> Result<(), NoAnswer> {
     let (first, length) = (buffer.as_mut_ptr(), buffer.len());
     // SAFETY: the entry is only read, and nobody else has the buffer while it is written.
-    words::copied(unsafe { x4_copy(entry.as_ptr(), entry.len(), first, length) })
+    words::answered(unsafe { x4_copy(entry.as_ptr(), entry.len(), first, length) })
 }
 
 /// Reads one number field.
 #[cfg(proved)]
 pub fn read_number(field: &[u8]) -> Result<Value, NoAnswer> {
-    // SAFETY: the pointer and the length are those of one slice, which is only read.
-    words::reading(unsafe { x4_read_number(field.as_ptr(), field.len()) })
+    let mut value = [0; 8];
+    // SAFETY: the pointer and the length are those of one slice, which is only read; the array is this call's own.
+    let word = unsafe { x4_read_number(field.as_ptr(), field.len(), &mut value) };
+    words::answered(word).map(|()| words::value(value))
 }
 
 /// Writes the canonical field of a value.
@@ -88,11 +124,91 @@ pub fn write_number(decimal: Decimal, buffer: &mut [u8]) -> Result<(), NoAnswer>
     let Decimal { negative, coefficient, power } = decimal;
     // SAFETY: the pointer and the length are those of one slice, which nobody else has while it is written.
     let number = unsafe { x4_write_number(negative.into(), coefficient, power, buffer.as_mut_ptr(), buffer.len()) };
-    words::done(number)
+    words::answered(number.into())
 }
 
 /// What C's own reader makes of a text: for comparisons of speed.
 pub fn c_read(text: &CStr) -> f64 {
     // SAFETY: the text ends with a zero byte, and no end is asked for.
     unsafe { strtod(text.as_ptr(), std::ptr::null_mut()) }
+}
+
+#[cfg(all(test, proved))]
+mod tests {
+    use super::*;
+    use crate::{DATA, RECORD};
+
+    const BEFORE: u64 = 0xa5a5_a5a5_a5a5_a5a5;
+
+    #[test]
+    fn header_and_archives_are_of_one_version() {
+        assert_eq!(version(), words::VERSION);
+        let header = include_str!("../include/x4.h");
+        assert!(header.contains(&format!("#define X4_VERSION {}\n", words::VERSION)));
+    }
+
+    /// The words of judging and of the questions, and what stands in the arrays behind them.
+    fn ask(entry: &[u8], subentry: u32, section: u32, line: u32, column: u32, keyword: &[u8]) -> [(u64, Vec<u64>); 5] {
+        let (bytes, length) = (entry.as_ptr(), entry.len());
+        let (first, ten) = (keyword.as_ptr(), keyword.len());
+        let (mut totals, mut value) = ([BEFORE; 4], [BEFORE; 8]);
+        let [mut heading, mut unit, mut passage] = [[BEFORE; 3]; 3];
+        // SAFETY: pointers and lengths are those of slices, which are only read; the arrays are this function's own.
+        let words = unsafe {
+            [
+                x4_judge(bytes, length, &mut totals),
+                x4_value(bytes, length, subentry, section, line, column, &mut value),
+                x4_heading(bytes, length, subentry, section, column, &mut heading),
+                x4_unit(bytes, length, subentry, section, column, &mut unit),
+                x4_passage(bytes, length, subentry, first, ten, b' ', &mut passage),
+            ]
+        };
+        let left = [&totals[..], &value, &heading, &unit, &passage];
+        std::array::from_fn(|call| (words[call], left[call].to_vec()))
+    }
+
+    fn untouched(left: &[u64]) -> bool {
+        left.iter().all(|&number| number == BEFORE)
+    }
+
+    #[test]
+    fn refused_questions_store_nothing() {
+        let sample = include_bytes!("../data/sample.x4");
+        let asked = |section, line, column, keyword: &[u8]| ask(sample, 2, section, line, column, keyword);
+        let number = |(word, left): &(u64, Vec<u64>)| (*word, untouched(left));
+        // 1.45-1 in line 1, column 2 of DATA; subentry 1 has the passage, subentry 2 none with a blank pointer
+        let [judged, value, heading, unit, passage] = asked(DATA, 1, 2, b"REACTION  ");
+        assert_eq!(judged, (0, vec![2, 3, 2, 6]));
+        assert_eq!(value, (0, vec![1, 0, 145, u64::MAX - 2, 0, 0, 0, 0]));
+        assert_eq!(heading, (0, vec![19 * 81 + 11, 10, u64::from(b'1')]));
+        assert_eq!(unit, (0, vec![20 * 81 + 11, 10, u64::from(b'1')]));
+        assert_eq!(number(&passage), (36, true));
+        assert_eq!(ask(sample, 1, DATA, 1, 2, b"TITLE     ")[4], (0, vec![3 * 81, 81, u64::from(b' ')]));
+        // a blank stores eight zeros
+        assert_eq!(asked(DATA, 1, 3, b"")[1], (0, vec![0; 8]));
+        assert_eq!(
+            asked(DATA, 3, 1, b"").map(|answer| number(&answer))[1..],
+            [(34, true), (0, false), (0, false), (36, true)]
+        );
+        assert_eq!(
+            asked(DATA, 1, 4, b"").map(|answer| number(&answer))[1..],
+            [(35, true), (35, true), (35, true), (36, true)]
+        );
+        assert_eq!(asked(7, 1, 1, b"").map(|answer| number(&answer))[1..4], [(33, true); 3]);
+        assert_eq!(ask(sample, 3, DATA, 1, 1, b"").map(|answer| number(&answer))[1..], [(32, true); 4]);
+        // twenty records: they end before ENDENTRY
+        let cut = ask(&sample[..20 * RECORD], 2, DATA, 1, 1, b"REACTION  ");
+        let beside = (16 << 8) + (21 << 24);
+        assert_eq!(cut.each_ref().map(number), [16, 31, 31, 31, 31].map(|number| (number + beside, true)));
+    }
+
+    #[test]
+    fn refused_fields_store_nothing() {
+        for (field, number) in [("     1.45-X", 15), ("1.", 40), ("", 40)] {
+            let mut value = [BEFORE; 8];
+            // SAFETY: the pointer and the length are those of one slice, which is only read.
+            let word = unsafe { x4_read_number(field.as_ptr(), field.len(), &mut value) };
+            assert!(word == number && untouched(&value), "{field:?}");
+        }
+    }
 }

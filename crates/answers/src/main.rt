@@ -3,12 +3,15 @@
 // for a value the line, and the column, ten columns each; `p`, a passage: the subentry in ten columns, the keyword in
 // ten, the pointer in one. Of each question it writes the number, what stands beside it, and the answer: the value, or
 // the first byte, the length, the pointer and the part.
-ghost use Prim.Native.Nat.{_≤_};
-ghost use lib.ListN.{length};
+use bytes::scan::find;
 use columns::columns::LineNo;
+use entry::answer::Answer;
 use number::value::Decimal;
 use number::value::Reading;
-use questions::ask::Answer;
+use program_text::number_in;
+use program_text::say;
+use program_text::say_numbers;
+use program_text::say_power;
 use questions::ask::PartAnswer;
 use questions::ask::heading;
 use questions::ask::heading_part;
@@ -18,37 +21,23 @@ use questions::ask::unit;
 use questions::ask::unit_part;
 use questions::ask::value;
 
-fn say(word: &[u8], n: u64) {
-    io::write_all(1, word);
-    io::print_decimal(1, n);
-}
-
 fn say_answer(a: Answer) {
     let record = a.record;
-    say(b"", a.number as u64);
-    say(b" ", a.refusal as u64);
-    say(b" ", record.0 as u64);
-    say(b" ", a.column as u64);
-}
-
-fn say_power(p: i32) {
-    if p < 0 {
-        let q = p as i64;
-        let size = 0 - q;
-        io::write_all(1, b"-");
-        io::print_decimal(1, size as u64);
-    } else {
-        io::print_decimal(1, p as u64);
-    }
+    let all = [
+        a.number as u64,
+        a.refusal as u64,
+        record.0 as u64,
+        a.column as u64,
+    ];
+    say_numbers(b"", &all);
 }
 
 fn say_decimal(d: Decimal) {
     if d.negative {
-        io::write_all(1, b" number -");
+        say(b" number -", d.coefficient);
     } else {
-        io::write_all(1, b" number ");
+        say(b" number ", d.coefficient);
     }
-    say(b"", d.coefficient);
     io::write_all(1, b" ");
     let power = d.power;
     say_power(power);
@@ -71,51 +60,18 @@ fn say_reading(r: Reading) {
 fn say_part(p: PartAnswer, part: &[u8]) {
     let a = p.answer;
     say_answer(a);
-    say(b" ", p.first as u64);
-    say(b" ", p.length as u64);
-    say(b" ", p.pointer as u64);
+    let all = [p.first as u64, p.length as u64, p.pointer as u64];
+    say_numbers(b" ", &all);
     io::write_all(1, b" [");
     io::write_all(1, part);
     io::write_all(1, b"]\n");
 }
 
-// The number in the ten columns from `at` on; 0 where they are not all there.
-fn number_at(line: &[u8], at: usize) -> u32 {
-    let mut n: u32 = 0;
-    let mut i = 0;
-    while i < 10 {
-        if line.len() <= i {
-            return 0;
-        }
-        if line.len() - i <= at {
-            return 0;
-        }
-        n = with_digit(n, line[at + i]);
-        i += 1;
-    }
-    n
-}
-
-// One digit more; anything else, and a number that is large already, leaves it.
-fn with_digit(n: u32, b: u8) -> u32 {
-    if b < b'0' {
-        return n;
-    }
-    if b'9' < b {
-        return n;
-    }
-    if 400000000 < n {
-        return n;
-    }
-    let digit = (b - b'0') as u32;
-    n * 10 + digit
-}
-
 fn ask_value(entry: &[u8], line: &[u8]) {
-    let n = number_at(line, 1);
-    let section = number_at(line, 11);
-    let row = LineNo(number_at(line, 21));
-    let column = number_at(line, 31);
+    let n = number_in(line, 1, 11);
+    let section = number_in(line, 11, 21);
+    let row = LineNo(number_in(line, 21, 31));
+    let column = number_in(line, 31, 41);
     let v = value(entry, n, section, row, column);
     let a = v.answer;
     let r = v.value;
@@ -125,17 +81,17 @@ fn ask_value(entry: &[u8], line: &[u8]) {
 }
 
 fn ask_heading(entry: &[u8], line: &[u8]) {
-    let n = number_at(line, 1);
-    let section = number_at(line, 11);
-    let column = number_at(line, 21);
+    let n = number_in(line, 1, 11);
+    let section = number_in(line, 11, 21);
+    let column = number_in(line, 21, 31);
     let p = heading(entry, n, section, column);
     say_part(p, heading_part(entry, n, section, column));
 }
 
 fn ask_unit(entry: &[u8], line: &[u8]) {
-    let n = number_at(line, 1);
-    let section = number_at(line, 11);
-    let column = number_at(line, 21);
+    let n = number_in(line, 1, 11);
+    let section = number_in(line, 11, 21);
+    let column = number_in(line, 21, 31);
     let p = unit(entry, n, section, column);
     say_part(p, unit_part(entry, n, section, column));
 }
@@ -144,7 +100,7 @@ fn ask_passage(entry: &[u8], line: &[u8]) {
     if line.len() < 22 {
         return;
     }
-    let n = number_at(line, 1);
+    let n = number_in(line, 1, 11);
     let keyword = [
         line[11],
         line[12],
@@ -216,26 +172,11 @@ fn read_line(entry: &mut [u8], used: usize, line: &[u8]) -> usize {
     used
 }
 
-// Where the line that begins at `from` ends.
-fn line_end(s: &[u8], from: usize) -> usize
-    requires { ⌜ from ≤ length (now s) ⌝ }
-    ensures { λ r. ⌜ (from ≤ r) × (r ≤ length (now (s .entry))) ⌝ }
-{
-    let mut i = from;
-    while i < s.len() {
-        if s[i] == 10 {
-            return i;
-        }
-        i += 1;
-    }
-    i
-}
-
 fn read_lines(text: &[u8], entry: &mut [u8]) {
     let mut used = 0;
     let mut from = 0;
     while from < text.len() {
-        let end = line_end(text, from);
+        let end = find(text, from, text.len(), b'\n');
         used = read_line(entry, used, &text[from..end]);
         from = end + 1;
     }

@@ -13,8 +13,9 @@ use lib.ListN.{length}
 use lib.IntN.{ℤ, pos, negsuc, _+ℤ_}
 use lib.Signed.{mag}
 use Rattle.number.specs.declared.value.Decimal.{Decimal}
+use Rattle.number.specs.declared.value.Trim.{Trim}
 use Rattle.number.specs.Grammar.{blanks, write}
-use Rattle.number.specs.Value.{zeroDecimal, Value, valueOf}
+use Rattle.number.specs.Value.{zeroDecimal, Value, trim, valueOf}
 use Rattle.number.proofs.Laws.{value-found}
 use Rattle.canonical.specs.declared.layout.Layout.{Layout}
 use Rattle.canonical.specs.declared.layout.Size.{Size}
@@ -23,12 +24,12 @@ use Rattle.canonical.specs.declared.write.Written.{Written}
 use Rattle.canonical.specs.declared.write.Written.the-variants.{Done, Refused}
 use Rattle.canonical.specs.Closed.{count, plainly, layoutUp, layoutDown, layoutOf, fieldOf, shortest}
 use Rattle.canonical.specs.Closed.{canonicalText, canonicalField}
-use Rattle.canonical.specs.Storing.{sizeOf, Bare, preparedOf, layoutColumns, Sound, fieldText}
+use Rattle.canonical.specs.Storing.{sizeOf, preparedOf, layoutColumns, Sound, fieldText}
 use Rattle.canonical.specs.Writing.{answered, stored, written, bytes, refusal, refusalOf}
 use Rattle.number.proofs.Tens.{ten-pos}
 use Rattle.canonical.proofs.Sizes.{more-zeros}
 use Rattle.canonical.proofs.Winner.{above-zero}
-use Rattle.canonical.proofs.Numbers.{bare-value}
+use Rattle.number.proofs.Zeros.{made-value}
 use Rattle.canonical.proofs.Layouts.{zero-layout, value-sound, text-layout}
 
 not-both : {A : Type 0} → false ≡ true → A
@@ -71,9 +72,10 @@ zero-prepared n c p e =
     ap (λ (l : Layout). prepared false 0 l) (sym zero-layout)
     ∙ ap preparedOf (sym (zero-value n p) ∙ ap (λ (k : ℕ). valueOf n k p) (sym e))
 
-pub bare-prepared : (n : Bool) (c : ℕ) (p : ℤ) (w z d : ℕ) (l : Layout) → Bare c w z → d ≡ count w
-    → l ≡ layoutOf d (p +ℤ pos z) → prepared n w l ≡ preparedOf (valueOf n c p)
-bare-prepared n c p w z d l b e q = rw (q, e) (ap preparedOf (sym (bare-value n c p w z b)))
+pub trim-prepared : (n : Bool) (c : ℕ) (p : ℤ) (t : Trim) (d : ℕ) (l : Layout) → t ≡ trim c → (c ≡ 0 → ⊥)
+    → d ≡ count (t .number) → l ≡ layoutOf d (p +ℤ pos (t .zeros))
+    → prepared n (t .number) l ≡ preparedOf (valueOf n c p)
+trim-prepared n c p t d l b h e q = rw (q, e) (ap preparedOf (made-value n c p (p +ℤ pos (t .zeros)) t b h refl))
 
 pub prepared-sound : (n : Bool) (c : ℕ) (p : ℤ) (q : Prepared) → q ≡ preparedOf (valueOf n c p) → c < 2 ^ 64
     → mag p < 2 ^ 31 → Sound (q .coefficient) (q .layout)

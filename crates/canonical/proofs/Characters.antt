@@ -16,7 +16,7 @@ use Rattle.number.specs.Value.{Normal}
 use Rattle.canonical.specs.Canonical.{columns, tailColumns, pastBlanks, oneMore, upToLast, span}
 use Rattle.canonical.specs.Closed.{count, digitsN, shift, layoutOf, signOf, tailOf, fieldOf}
 use Rattle.canonical.specs.Closed.{shortest, canonicalText}
-use Rattle.canonical.proofs.Digits.{text-length}
+use Rattle.number.proofs.Bounds.{text-length}
 use Rattle.canonical.proofs.Winner.{shortest-fine, text-columns}
 
 -- ---- from first to last non-blank

@@ -1,39 +1,21 @@
--- Digits and powers of ten.
+-- Digits and their numbers.
 -- Assumes nothing.
 use mathlib.Core.Path.{_≡_, refl, ap, _∙_}
 use mathlib.Core.Bool.{Bool, true, false}
 use mathlib.Core.List.{List, [], _∷_, _++_, append-assoc, append-nil}
 use Prim.Native.Nat.{ℕ, zero, suc, _+_, _*_, _/_, _%_, _^_, _<_, _≤_}
-use native.Mathlib.Nat.{mul-le-mul-right, le-trans, le-of-eq}
-use native.Mathlib.Nat.{mul-assoc, lt-of-lt-of-le, lt-of-le-of-lt, not-le-of-lt, add-suc, add-zero}
-use native.Mathlib.Decide.{decLt}
+use native.Mathlib.Nat.{lt-of-le-of-lt, add-suc, add-zero}
 use native.Mathlib.Omega.{arith}
 use borrow.Author.Tests.{lt-ltb, ltb-true, ltb-false}
 use lib.ListN.{length, length-append}
 use lib.Dec.{ltb}
 use Rattle.number.specs.Grammar.{Digits, text, numFrom, num}
-use Rattle.number.proofs.Tens.{ten-suc, ten-le}
+use Rattle.number.proofs.Tens.{ten-suc, ten-lt}
+use Rattle.number.proofs.Bounds.{text-length}
 use Rattle.number.proofs.Reach.{numFrom-append, digits-append}
 use Rattle.canonical.specs.Closed.{countFrom, count, digitsN, shift}
 
--- ---- powers of ten
-
-pub ten-lt : (a b : ℕ) → 10 ^ a < 10 ^ b → a < b
-ten-lt a b h = by (decLt a b)
-  where
-    by : Dec (a < b) → a < b
-    by (yes l) = l
-    by (no l) = let g : b ≤ a = omega arith in absurd (not-le-of-lt h (ten-le g))
-
 -- ---- lists of digits, one behind the other
-
-pub text-append : (a b : List ℕ) → text (a ++ b) ≡ text a ++ text b
-text-append [] b = refl
-text-append (d ∷ a) b = ap (λ (l : List ℕ). (48 + d) ∷ l) (text-append a b)
-
-pub text-length : (l : List ℕ) → length (text l) ≡ length l
-text-length [] = refl
-text-length (d ∷ l) = ap suc (text-length l)
 
 pub append-inj : (a b c d : List ℕ) → length a ≡ length c → a ++ b ≡ c ++ d → (a ≡ c) × (b ≡ d)
 append-inj [] b [] d n e = (refl, e)
@@ -46,18 +28,6 @@ append-inj (x ∷ a) b (y ∷ c) d n e =
     (rw (h, p) refl, q)
 
 -- ---- the number of a list of digits
-
-numFrom-lt : (a : ℕ) (l : List ℕ) → Digits l → numFrom a l < (a + 1) * 10 ^ length l
-numFrom-lt a [] h = omega arith
-numFrom-lt a (d ∷ l) h =
-    let p = 10 ^ length l in
-    let q : a * 10 + 10 ≡ (a + 1) * 10 = omega arith in
-    let g : a * 10 + d + 1 ≤ a * 10 + 10 = omega (arith, h .0) in
-    lt-of-lt-of-le (numFrom-lt (a * 10 + d) l (h .1))
-    (le-trans (mul-le-mul-right p g) (le-of-eq (rw (ten-suc (length l), q) (mul-assoc (a + 1) 10 p))))
-
-pub num-lt : (l : List ℕ) → Digits l → num l < 10 ^ length l
-num-lt l h = omega (arith, numFrom-lt 0 l h)
 
 same-pair : (a b d e : ℕ) → d < 10 → e < 10 → a * 10 + d ≡ b * 10 + e → (a ≡ b) × (d ≡ e)
 same-pair a b d e hd he q = (omega arith, omega arith)

@@ -17,7 +17,8 @@ use Rattle.number.specs.Grammar.{Tail, plain, power, GoodTail, Field, Good}
 use Rattle.canonical.specs.Canonical.{Ahead, columns, marks, behind, tailColumns}
 use Rattle.canonical.specs.Closed.{signOf, digitsN, count, plainly, raisedBy, fieldOf}
 use Rattle.number.proofs.Tens.{ten-suc, ten-gap}
-use Rattle.canonical.proofs.Digits.{num-lt, num-inj, digitsN-length, digitsN-digits, digitsN-num, Counted}
+use Rattle.number.proofs.Bounds.{num-lt}
+use Rattle.canonical.proofs.Digits.{num-inj, digitsN-length, digitsN-digits, digitsN-num, Counted}
 use Rattle.canonical.proofs.Says.{Says, weight, up-plain, up-power, down-plain, down-power}
 use Rattle.canonical.proofs.Ties.{Same, settle, settle-less}
 use Rattle.canonical.proofs.Ties.{sign-least, sign-same, open-least, open-same, same-digits}

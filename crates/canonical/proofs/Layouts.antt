@@ -17,8 +17,8 @@ use Rattle.canonical.specs.declared.layout.Layout.{Layout}
 use Rattle.canonical.specs.Closed.{count, countFrom, plainly, raisedBy, layoutUp, layoutDown, layoutOf, places}
 use Rattle.canonical.specs.Closed.{shortest, canonicalText}
 use Rattle.canonical.specs.Storing.{layoutColumns, Sound, Ready}
-use Rattle.number.proofs.Tens.{ten-suc, ten-le, ten-pos}
-use Rattle.canonical.proofs.Digits.{ten-lt, counts, count-pos, count-short}
+use Rattle.number.proofs.Tens.{ten-suc, ten-le, ten-pos, ten-lt}
+use Rattle.canonical.proofs.Digits.{counts, count-pos, count-short}
 use Rattle.canonical.proofs.Sizes.{more-zeros, drop-zeros}
 use Rattle.canonical.proofs.Laid.{laid-wide}
 use Rattle.canonical.proofs.Shortest.{exponent, power-of-ten, each-up, each-down}

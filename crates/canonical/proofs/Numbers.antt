@@ -1,25 +1,21 @@
--- Numbers of the code: counts of digits, last zeros, and signed sizes, which the logic keeps as bits.
+-- Numbers of the code: counts of digits and signed sizes, which the logic keeps as bits.
 -- Assumes nothing.
-use mathlib.Core.Path.{_≡_, refl, sym, ap, _∙_, subst}
+use mathlib.Core.Path.{_≡_, refl, ap, _∙_, subst}
 use mathlib.Core.Bool.{Bool, true, false, cond}
-use mathlib.Core.Logic.{inl}
-use Prim.Native.Nat.{ℕ, zero, suc, _+_, _-_, _*_, _/_, _%_, _<_, _≤_, _^_}
-use native.Mathlib.Nat.{mul-assoc, mul-one, mul-le-mul-right, lt-of-le-of-lt, zero-add}
+use Prim.Native.Nat.{ℕ, zero, suc, _+_, _-_, _<_, _≤_, _^_}
+use native.Mathlib.Nat.{lt-of-le-of-lt, zero-add}
 use native.Mathlib.Omega.{arith}
 use borrow.Author.Tests.{ltb-true}
 use lib.Dec.{T, ltb}
-use lib.IntN.{ℤ, pos, negsuc, natAbs, _+ℤ_, _-ℤ_, +ℤ-idr}
+use lib.IntN.{ℤ, pos, negsuc, natAbs, _+ℤ_, _-ℤ_}
 use lib.Signed.{mag, nonNeg, ltZ}
 use mir.Syntax.{w32, w64}
 use mir.Val.{Fits, SFits, toZ, ofZ}
 use mir.ValLaws.{toZ-ofZ, toZ-pos}
-use Rattle.number.specs.Value.{decimal, Value, valueOf}
-use Rattle.number.proofs.Laws.{value-found, value-one}
 use Rattle.canonical.specs.Closed.{count}
-use Rattle.canonical.specs.Storing.{sizeOf, Bare}
-use Rattle.number.proofs.Tens.{ten-pos}
-use Rattle.canonical.proofs.Digits.{ten-lt, counts, count-one}
-use Rattle.canonical.proofs.Sizes.{slide}
+use Rattle.canonical.specs.Storing.{sizeOf}
+use Rattle.number.proofs.Tens.{ten-pos, ten-lt}
+use Rattle.canonical.proofs.Digits.{counts, count-one}
 
 -- ---- how many digits a number has
 
@@ -32,37 +28,6 @@ count-is (suc i) v h l =
     let a : x .less < suc (suc i) = ten-lt (x .less) (suc (suc i)) (lt-of-le-of-lt (x .least) l) in
     let b : suc i < suc (x .less) = ten-lt (suc i) (suc (x .less)) (lt-of-le-of-lt p (x .most)) in
     omega (arith, x .same)
-
--- ---- last zeros
-
-module _ (c w z : ℕ) (e : c ≡ w * 10 ^ z) where
-  pub zeros-go : w % 10 ≡ 0 → c ≡ w / 10 * 10 ^ (z + 1)
-  zeros-go h =
-      let q : w ≡ 10 * (w / 10) = omega arith in
-      let s : z + 1 ≡ suc z = omega arith in
-      rw (s, slide (w / 10) z) (e ∙ ap (λ (x : ℕ). x * 10 ^ z) q ∙ mul-assoc 10 (w / 10) (10 ^ z))
-
-  pub zeros-few : 0 < w → c < 2 ^ 64 → z < 20
-  zeros-few h l =
-      let q = mul-le-mul-right (10 ^ z) (let r : 1 ≤ w = omega arith in r) in
-      ten-lt z 20 (omega arith)
-
--- the value without its last zeros
-pub bare-value : (n : Bool) (c : ℕ) (p : ℤ) (w z : ℕ) → Bare c w z → valueOf n c p ≡ decimal n w (p +ℤ pos z)
-bare-value n c p w z b = value-one (value-found n c p) said
-  where
-    said : Value n c p (decimal n w (p +ℤ pos z))
-    said =
-        record {
-          size = record {
-            m = 0;
-            n = z;
-            powers = sym (+ℤ-idr (p +ℤ pos z));
-            numbers = mul-one c ∙ b .whole;
-          };
-          sign = λ h. refl;
-          normal = inl (b .bare);
-        }
 
 pub suc-less : (i : ℕ) → suc i - 1 ≡ i
 suc-less i = omega arith

@@ -12,7 +12,9 @@ use lib.Seq.{drop-at, take-set-le, set-split, length-take-le, take-append-le, ta
 use Rattle.number.specs.Grammar.{blanks, text}
 use Rattle.canonical.specs.Closed.{digitsN, shift}
 use Rattle.canonical.specs.Storing.{put, putDigits}
-use Rattle.canonical.proofs.Digits.{text-append, text-length, digitsN-length}
+use Rattle.number.proofs.Bounds.{text-length}
+use Rattle.number.proofs.Reach.{text-append}
+use Rattle.canonical.proofs.Digits.{digitsN-length}
 
 pub put-nothing : (l : List ℕ) (at : ℕ) → put l at [] ≡ l
 unfolding put

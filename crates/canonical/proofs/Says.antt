@@ -13,8 +13,8 @@ use lib.ListN.{length}
 use lib.IntN.{ℤ, pos, negsuc, _+ℤ_}
 use Rattle.number.specs.Grammar.{Digits, num, minus, below, Opening, plain, power, Field}
 use Rattle.number.specs.Value.{decimal, zeroDecimal, digitsOf, powerOf, Means}
-use Rattle.number.proofs.Tens.{ten-pos}
-use Rattle.canonical.proofs.Digits.{ten-lt, num-lt}
+use Rattle.number.proofs.Tens.{ten-pos, ten-lt}
+use Rattle.number.proofs.Bounds.{num-lt}
 use Rattle.canonical.proofs.Sizes.{up, down, more-zeros, drop-zeros, pos-from, neg-from}
 
 pub record Says (f : Field) (n : Bool) (c : ℕ) (p : ℤ) : Type 0 where

@@ -16,8 +16,8 @@ use Rattle.canonical.specs.declared.layout.Layout.{Layout}
 use Rattle.canonical.specs.Canonical.{behind}
 use Rattle.canonical.specs.Closed.{count, digitsN, plainly, raisedBy, layoutUp, layoutDown, layoutOf, places}
 use Rattle.canonical.specs.Closed.{signOf, tailOf, fieldOf}
-use Rattle.number.proofs.Tens.{ten-suc, ten-pos, ten-le}
-use Rattle.canonical.proofs.Digits.{ten-lt, digitsN-length, digitsN-digits, digitsN-num}
+use Rattle.number.proofs.Tens.{ten-suc, ten-pos, ten-le, ten-lt}
+use Rattle.canonical.proofs.Digits.{digitsN-length, digitsN-digits, digitsN-num}
 use Rattle.canonical.proofs.Digits.{Counted, counts, count-pos, count-most}
 use Rattle.canonical.proofs.Sizes.{pos-to, neg-to}
 use Rattle.canonical.proofs.Says.{Says}

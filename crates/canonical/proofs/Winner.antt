@@ -14,7 +14,7 @@ use Rattle.number.specs.Value.{zeroDecimal, Normal, Means}
 use Rattle.canonical.specs.Canonical.{Fewer, Ahead, columns, tailColumns, behind, Canonical, NoField}
 use Rattle.canonical.specs.Closed.{count, countFrom, digitsN, shift, layoutUp, fieldOf}
 use Rattle.canonical.specs.Closed.{shortest, canonicalText, canonicalField}
-use Rattle.canonical.proofs.Digits.{text-length}
+use Rattle.number.proofs.Bounds.{text-length}
 use Rattle.canonical.proofs.Says.{says, zero-digits}
 use Rattle.canonical.proofs.Ties.{Same, settle, settle-less, same-digits}
 use Rattle.canonical.proofs.First.{Beats}

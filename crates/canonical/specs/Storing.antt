@@ -1,5 +1,4 @@
 -- What the parts of the writer work out and store.
-use mathlib.Core.Path.{_≡_}
 use mathlib.Core.Bool.{Bool, true, false}
 use mathlib.Core.List.{List, _∷_, _++_}
 use Prim.Native.Nat.{ℕ, zero, suc, _+_, _-_, _*_, _/_, _%_, _^_, _<_, _≤_}
@@ -16,11 +15,6 @@ use Rattle.canonical.specs.Closed.{count, digitsN, shift, layoutOf, fiel
 abbrev pub sizeOf : ℤ → Size
 sizeOf (pos n) = record { down = false; size = n }
 sizeOf (negsuc n) = record { down = true; size = suc n }
-
--- c is n with z zeros behind it, and n ends in no zero
-pub record Bare (c n z : ℕ) : Type 0 where
-  pub whole : c ≡ n * 10 ^ z
-  pub bare : n % 10 ≡ 0 → ⊥
 
 -- all that the closed form of a value takes
 abbrev pub preparedOf : Decimal → Prepared

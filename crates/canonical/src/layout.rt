@@ -4,7 +4,8 @@ ghost use Prim.Native.Nat.{_+_, _-_, _*_, _<_, _≤_, _^_};
 ghost use lib.IntN.{ℤ, pos, _+ℤ_};
 ghost use Rattle.number.specs.Value.{valueOf};
 ghost use Rattle.canonical.specs.Closed.{«count» as countOf, layoutUp, layoutDown, layoutOf};
-ghost use Rattle.canonical.specs.Storing.{sizeOf, Bare, preparedOf};
+ghost use Rattle.canonical.specs.Storing.{sizeOf, preparedOf};
+use number::value::without_zeros;
 
 // How many digits stand before the point and behind it, zeros behind the coefficient's own digits included, and the
 // exponent: whether there is one, whether it is below zero, how many digits it has, its size.
@@ -40,28 +41,6 @@ fn measured(v: u64) -> Measure
     Measure {
         digits: 20,
         least: least,
-    }
-}
-
-// A number without its last zeros, and how many those were.
-pub struct Trimmed {
-    pub number: u64,
-    pub zeros: u64,
-}
-
-fn without_zeros(c: u64) -> Trimmed
-    requires { ⌜ 0 < c ⌝ }
-    ensures { λ r. ⌜ Bare c (r .number) (r .zeros) ⌝ }
-{
-    let mut w = c;
-    let mut z: u64 = 0;
-    while w % 10 == 0 {
-        w = w / 10;
-        z += 1;
-    }
-    Trimmed {
-        number: w,
-        zeros: z,
     }
 }
 
@@ -237,7 +216,7 @@ pub(crate) fn prepare(negative: bool, coefficient: u64, power: i32) -> Prepared
     }
     let t = without_zeros(coefficient);
     let c = t.number;
-    let z = t.zeros;
+    let z = t.zeros as u64;
     let m = measured(c);
     let d = m.digits;
     let p = layout_of(d, power, z);

@@ -17,6 +17,13 @@ fieldAt r k = columnsAt (k * 11) 11 r
 unfoldable pub fieldsOf : List ℕ → List (List ℕ)
 fieldsOf r = fieldAt r 0 ∷ fieldAt r 1 ∷ fieldAt r 2 ∷ fieldAt r 3 ∷ fieldAt r 4 ∷ fieldAt r 5 ∷ []
 
+-- "N1 is columns 12-22, N2 23-33.": of the six fields of a record these two
+abbrev pub n1 : List (List ℕ) → List ℕ
+n1 fields = getD fields 1 []
+
+abbrev pub n2 : List (List ℕ) → List ℕ
+n2 fields = getD fields 2 []
+
 -- a part that holds eleven columns from a place on
 pub record Holds (part : List ℕ) (at : ℕ) : Type 0 where
   pub room : at + 11 ≤ length part

@@ -1,3 +1,4 @@
+// One record as columns: the classes of characters, columns and places, and the six fields.
 pub mod class;
 pub mod columns;
 pub mod fields;

@@ -2,35 +2,27 @@
 // fits, one that is a byte short and one that is longer; then the sample without its last record. Of each it says what
 // the call answers and leaves. Every buffer is full of stars before.
 ghost use Prim.Native.Nat.{_≤_};
-use copy::copy::Copied;
+use check::same;
 use copy::copy::copy;
+use entry::answer::Answer;
 use entry::verdict::judge;
+use program_text::say_line;
+use program_text::say_numbers;
+use program_verdict::say_verdict;
 
-fn say(word: &[u8], n: u64) {
-    io::write_all(1, word);
-    io::print_decimal(1, n);
+fn say_answer(word: &[u8], a: Answer) {
+    let record = a.record;
+    let all = [
+        a.number as u64,
+        a.refusal as u64,
+        record.0 as u64,
+        a.column as u64,
+    ];
+    say_numbers(word, &all);
 }
 
-fn say_answer(word: &[u8], c: Copied) {
-    let record = c.record;
-    say(word, c.number as u64);
-    say(b" ", c.refusal as u64);
-    say(b" ", record.0 as u64);
-    say(b" ", c.column as u64);
-}
-
-fn say_verdict(entry: &[u8]) {
-    let v = judge(entry);
-    let record = v.record;
-    let totals = v.totals;
-    say(b"judged ", v.refusal as u64);
-    say(b" ", record.0 as u64);
-    say(b" ", v.column as u64);
-    say(b" ", totals.subentries as u64);
-    say(b" ", totals.keywords as u64);
-    say(b" ", totals.lines as u64);
-    say(b" ", totals.numbers as u64);
-    io::write_all(1, b"\n");
+fn say_judged(entry: &[u8]) {
+    say_verdict(b"judged ", judge(entry));
 }
 
 fn star(b: u8) -> u64
@@ -47,22 +39,7 @@ fn say_stars(s: &[u8]) {
         n += star(s[i]);
         i += 1;
     }
-    say(b" stars ", n);
-    io::write_all(1, b"\n");
-}
-
-fn same(a: &[u8], b: &[u8]) -> bool {
-    if a.len() != b.len() {
-        return false;
-    }
-    let mut i = 0;
-    while i < a.len() {
-        if a[i] != b[i] {
-            return false;
-        }
-        i += 1;
-    }
-    true
+    say_line(b" stars ", &[n]);
 }
 
 fn say_same(a: &[u8], b: &[u8]) {
@@ -79,7 +56,7 @@ fn say_copy(entry: &[u8], out: &mut [u8], again: &mut [u8]) {
     say_answer(b"fits ", a);
     io::write_all(1, b"\n");
     io::write_all(1, &out[..]);
-    say_verdict(&out[..]);
+    say_judged(&out[..]);
     let b = copy(&out[..], again);
     say_answer(b"again ", b);
     say_same(&out[..], &again[..]);

@@ -3,18 +3,16 @@
 use Prim.Native.Nat.{ℕ, _+_, _*_, _/_, _%_, _<_}
 use mathlib.Core.Path.{_≡_, refl, sym, _∙_, ap}
 use mathlib.Core.Logic.{_↔_}
-use mathlib.Core.Bool.{Bool, true, false, cond, not, _&&_}
+use mathlib.Core.Bool.{Bool, true, false}
 use mathlib.Core.List.{List, []}
 use native.Mathlib.Omega.{arith}
-use borrow.Author.Tests.{eqb-true}
-use lib.Dec.{eqb, leb}
 use lib.ListN.{length, drop, getD, length-drop, List·getD-eq-default}
 use lib.Seq.{length-take-le, getD-take, getD-drop, ext-getD}
 use Rattle.laws.specs.Walk.{walk, Goes}
 use Rattle.laws.specs.Blocks.{blocks, joined, blockAt}
 use Rattle.laws.specs.Copies.{copies, marks, Alikes}
 use Rattle.laws.specs.Replacing.{Each, FieldsAlike}
-use Rattle.laws.proofs.Walk.{walk-goes, all-at}
+use Rattle.laws.proofs.Walk.{all-at}
 use Rattle.laws.proofs.Search.{either}
 use Rattle.laws.proofs.Blocks.{length-blocks, block-at}
 use Rattle.laws.proofs.Replacing.{each-at}
@@ -27,11 +25,13 @@ use Rattle.number.specs.Form.{formOf}
 use Rattle.number.specs.Reading.{readField}
 use Rattle.columns.specs.Fields.{fieldAt}
 use Rattle.record.specs.Numbers.{noValue}
-use Rattle.rules_state.specs.State.{Context, startContext, MOST-RECORDS}
-use Rattle.entry.specs.Verdict.{turnOf, endOf, lengthGood, refused, judgeOf, Accepted}
+use Rattle.rules_state.specs.State.{Context, startContext}
+use Rattle.entry.specs.Verdict.{turnOf, endOf, lengthGood, judgeOf, Accepted}
 use Rattle.copy.specs.Copy.{maskOf, copyRecord, recordsOf, numberField, fieldIn, copyOf}
 use Rattle.copy.specs.Demand.{AlikeField, inNumber, SameNumbers, CopyAccepted, CopyAgain, OneCopy}
-use Rattle.entry.proofs.GoingOn.{out-refused}
+use Rattle.entry.proofs.Numbered.{whole-records}
+use Rattle.entry.proofs.Walking.{accepted-good}
+use Rattle.entry.proofs.AcceptedWalk.{accepted-goes}
 use Rattle.copy.proofs.CanonicalFields.{Fit, alike-byte, alike-reads, bytes-alike}
 use Rattle.copy.proofs.FaithfulRecords.{length-mask-of, fits, faithful}
 
@@ -43,26 +43,11 @@ pub record Passed (s : List ℕ) : Type 0 where
   pub last : Context
   pub goes : Goes turnOf startContext 0 (recordsOf s) last
 
-pub whole-of : (n : ℕ) → lengthGood n ≡ true → n ≡ n / 81 * 81
-unfolding lengthGood
-whole-of n h = by-tests (eqb n 0) (eqb (n % 81) 0) refl (leb n (MOST-RECORDS * 81)) h
-  where
-    by-tests : (a b : Bool) → eqb (n % 81) 0 ≡ b → (c : Bool) → (not a && (b && c)) ≡ true → n ≡ n / 81 * 81
-    by-tests true b e c g = let z : _≡_ {A = ℕ} 0 1 = cc in absurd (omega arith)
-    by-tests false true e c g = let z : n % 81 ≡ 0 = eqb-true (n % 81) 0 e in omega arith
-    by-tests false false e c g = let z : _≡_ {A = ℕ} 0 1 = cc in absurd (omega arith)
-
 pub passed : (s : List ℕ) → Accepted s → Passed s
-unfolding judgeOf
-passed s f = by-test (lengthGood (length s)) refl f
-  where
-    by-test : (t : Bool) → lengthGood (length s) ≡ t
-        → cond t (walk turnOf endOf startContext 0 (recordsOf s)) (refused 1 (record { 0 = 0 }) 0) .refusal ≡ 0
-        → Passed s
-    by-test true e g =
-        let (z, h) = walk-goes turnOf (λ v. v .refusal ≡ 0) out-refused endOf startContext 0 (recordsOf s) g in
-        record { good = e; whole = whole-of (length s) e; last = z; goes = h }
-    by-test false e g = absurd (omega arith)
+passed s f =
+    let good = accepted-good s f in
+    let (z, g) = accepted-goes s f in
+    record { good = good; whole = whole-records (length s) good .0; last = z; goes = g }
 
 -- ---- the copy
 

@@ -5,6 +5,6 @@ pub mod Unchanged
 pub mod Pasted
 pub mod WholeRecords
 pub mod StoredNumbers
-pub mod NumberedCopy
+pub mod CopiedBlocks
 pub mod Made
 pub mod CopyLoop

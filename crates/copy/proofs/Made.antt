@@ -11,14 +11,14 @@ use lib.ListN.{length, drop}
 use lib.Seq.{take-at, drop-at}
 use Rattle.entry.specs.declared.verdict.Verdict.{Verdict}
 use Rattle.entry.specs.Verdict.{judgeOf, Accepted}
+use Rattle.entry.specs.Answer.{answerOf, answerFor}
 use Rattle.copy.specs.Copy.{copyOf}
-use Rattle.copy.specs.Answer.{plainly, entryRefused, copied, stored}
+use Rattle.copy.specs.Call.{copied, copiedInto, stored}
 use Rattle.copy.specs.Demand.{CopyMade}
-use Rattle.copy.specs.Storing.{Room, copiedInto}
+use Rattle.copy.specs.Storing.{Room}
 use Rattle.copy.proofs.Demand.{passed, copy-long}
-use Rattle.copy.proofs.NumberedCopy.{numbers-copy}
 
-answered : (s : List ℕ) (room : ℕ) → Accepted s → length s ≤ room → copied s room ≡ plainly 0
+answered : (s : List ℕ) (room : ℕ) → Accepted s → length s ≤ room → copied s room ≡ answerOf 0
 unfolding copied
 answered s room f long = rw (eq-eqb (judgeOf s .refusal) 0 f, le-ltb room (length s) long)
 
@@ -40,13 +40,13 @@ accepted-by s v e z = ap (λ (x : Verdict). x .refusal) (sym e) ∙ z
 
 -- 31
 pub refused-copied : (s out : List ℕ) (v : Verdict) → v ≡ judgeOf s → (v .refusal ≡ 0 → ⊥)
-    → (entryRefused v ≡ copied s (length out)) × (out ≡ stored s out)
+    → (answerFor v 31 ≡ copied s (length out)) × (out ≡ stored s out)
 unfolding copied stored
 refused-copied s out v e n = let z : eqb (v .refusal) 0 ≡ false = ne-eqb (v .refusal) 0 n in rw (← e, z) (refl, refl)
 
 -- 37
 pub short-copied : (s out : List ℕ) (v : Verdict) → v ≡ judgeOf s → v .refusal ≡ 0 → length out < length s
-    → (plainly 37 ≡ copied s (length out)) × (out ≡ stored s out)
+    → (answerOf 37 ≡ copied s (length out)) × (out ≡ stored s out)
 unfolding copied stored
 short-copied s out v e z short =
     let a : eqb (v .refusal) 0 ≡ true = eq-eqb (v .refusal) 0 z in
@@ -55,10 +55,10 @@ short-copied s out v e z short =
 
 -- 0
 pub made-room : (s out : List ℕ) (v : Verdict) → v ≡ judgeOf s → v .refusal ≡ 0 → length s ≤ length out → Room s out
-made-room s out v e z long = record { good = passed s (accepted-by s v e z) .good; room = long }
+made-room s out v e z long = record { accepted = accepted-by s v e z; room = long }
 
 pub made-copied : (s out : List ℕ) (v : Verdict) → v ≡ judgeOf s → v .refusal ≡ 0 → length s ≤ length out
-    → (plainly 0 ≡ copied s (length out)) × (copiedInto s out ≡ stored s out)
+    → (answerOf 0 ≡ copied s (length out)) × (copiedInto s out ≡ stored s out)
 made-copied s out v e z long =
     let f = accepted-by s v e z in
-    (sym (answered s (length out) f long), numbers-copy s out f ∙ sym (stored-copy s out f long))
+    (sym (answered s (length out) f long), sym (stored-copy s out f long))

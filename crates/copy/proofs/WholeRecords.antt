@@ -3,18 +3,17 @@
 use Prim.Native.Nat.{ℕ, _+_, _*_, _<_, _≤_}
 use mathlib.Core.Path.{_≡_, sym, _∙_, ap}
 use mathlib.Core.Bool.{Bool, true, false}
-use mathlib.Core.List.{List, []}
+use mathlib.Core.List.{List}
 use native.Mathlib.Omega.{arith}
 use lib.ListN.{length, take, drop, getD, length-drop}
 use lib.Seq.{paste, length-take-le, take-take}
 use Rattle.laws.specs.Replacing.{replaced, Each, mask}
 use Rattle.laws.proofs.Replacing.{each-of, length-mask, mask-at, length-copy, field-of-copy, behind-copy}
 use Rattle.canonical.proofs.Laws.{canonical-length}
-use Rattle.columns.specs.Fields.{fieldAt, fieldsOf}
-use Rattle.record.specs.Identifier.{identifierOf}
-use Rattle.columns.proofs.ReadColumns.{field-of}
+use Rattle.columns.specs.Fields.{fieldAt}
+use Rattle.rules_state.specs.declared.state.Track.{Track}
 use Rattle.rules_state.specs.State.{Context}
-use Rattle.rules_state.specs.Role.{roleIn}
+use Rattle.entry.specs.Verdict.{roleOf}
 use Rattle.copy.specs.Copy.{valueField, numberIn, maskOf, copyField, copyRecord}
 use Rattle.copy.proofs.Pasted.{paste-more}
 
@@ -77,11 +76,8 @@ module _ (test : ℕ → Bool) (r : List ℕ) (whole : length r ≡ 81) where
       let long : length new ≡ 81 = whole-length in
       paste-more d new (drop 66 r) at 66 15 (omega arith) (omega arith) (ap (take 15) (sym whole-rest))
 
--- what the code stores for a record with its role is its copy
-pub record-copied : (c : Context) (r : List ℕ) (role : ℕ)
-    → role ≡ roleIn (c .phase) (c .track) (identifierOf (fieldAt r 0))
-    → replaced copyField (mask (valueField (c .track) role) 0 6) r ≡ copyRecord c r
+-- what the code stores for a record, from its role and the track before it, is its copy in the context
+pub record-copied : (c : Context) (r : List ℕ) (t : Track) (role : ℕ) → t ≡ c .track → role ≡ roleOf c r
+    → replaced copyField (mask (valueField t role) 0 6) r ≡ copyRecord c r
 unfolding copyRecord maskOf numberIn
-record-copied c r role e =
-    let f : getD (fieldsOf r) 0 [] ≡ fieldAt r 0 = field-of r 0 (omega arith) in
-    rw (e, f)
+record-copied c r t role e f = rw (e, f)

@@ -17,7 +17,8 @@ use Rattle.number.specs.declared.value.Reading.the-variants.{Blank, Number}
 use Rattle.number.specs.Reading.{readField}
 use Rattle.rules_state.specs.State.{Context, startContext}
 use Rattle.entry.specs.Verdict.{roleOf, turnOf, judgeOf, Accepted}
-use Rattle.copy.specs.Answer.{plainly, copied, stored}
+use Rattle.entry.specs.Answer.{answerOf}
+use Rattle.copy.specs.Call.{copied, stored}
 use Rattle.copy.specs.Copy.{recordsOf, numberField, fieldIn, copyOf}
 
 -- how two answers about a value are compared: in all that they say
@@ -34,7 +35,7 @@ AlikeField false f g = f ≡ g
 abbrev pub CopyMade : Type 0
 CopyMade =
     (s out : List ℕ) → Accepted s → length s ≤ length out
-    → (copied s (length out) ≡ plainly 0)
+    → (copied s (length out) ≡ answerOf 0)
     × (take (length s) (stored s out) ≡ copyOf s)
     × (drop (length s) (stored s out) ≡ drop (length s) out)
 

@@ -1,4 +1,4 @@
 pub mod Copy
-pub mod Answer
+pub mod Call
 pub mod Demand
 pub mod Storing

@@ -1,82 +1,52 @@
--- The copy of an accepted entry, record by record: the same contexts, and each record as it is copied in its context.
+-- The copy of an accepted entry, record by record: the same contexts, and what each record of it says.
 -- Assumes nothing.
-use Prim.Native.Nat.{ℕ, zero, suc, _+_, _*_, _-_, _/_, _<_, _≤_}
+use Prim.Native.Nat.{ℕ, zero, suc, _-_, _/_, _<_, _≤_}
 use mathlib.Core.Path.{_≡_, refl, sym, _∙_, ap}
 use mathlib.Core.Bool.{Bool, true, false, cond}
 use mathlib.Core.List.{List, []}
 use native.Mathlib.Omega.{arith}
-use native.Mathlib.Nat.{zero-mul}
-use native.Mathlib.Numerals.{add-one}
-use lib.ListN.{length, drop, getD, replicate, List·getD-eq-default}
-use Rattle.laws.specs.Blocks.{blocks, blockAt}
-use Rattle.laws.specs.Copies.{Passing, copies}
+use lib.ListN.{length, getD, replicate, List·getD-eq-default}
+use Rattle.laws.specs.Blocks.{blockAt}
+use Rattle.laws.specs.Copies.{Passing}
 use Rattle.laws.proofs.Search.{either}
-use Rattle.laws.proofs.Blocks.{block-at, next-block}
 use Rattle.number.specs.Reading.{readField}
 use Rattle.columns.specs.Fields.{fieldsOf}
 use Rattle.record.specs.Identifier.{identifierOf}
 use Rattle.columns.specs.declared.columns.RecordNo.{RecordNo}
 use Rattle.columns.specs.declared.columns.Place.{Place}
 use Rattle.columns.proofs.ReadColumns.{field-of}
-use Rattle.rules_state.specs.State.{Context, startContext}
+use Rattle.rules_state.specs.State.{Context}
 use Rattle.rules_state.specs.Role.{isValue}
 use Rattle.entry.specs.Verdict.{turnOf, Accepted}
 use Rattle.entry.proofs.GoingOn.{go-fine}
+use Rattle.entry.proofs.AcceptedWalk.{walked, context-start, context-next}
 use Rattle.entry.specs.Contexts.{contextAt, roleAt, behind}
 use Rattle.questions_places.specs.Place.{hasRecord, fieldsAt, identifierAt, fieldOf}
-use Rattle.inside.proofs.Contexts.{Walked, walked, context-start, context-next}
 use Rattle.questions_places.proofs.Records.{record-there}
 use Rattle.inside.proofs.RowWalked.{fields-at}
-use Rattle.copy.specs.Copy.{copyRecord, recordsOf, copyOf}
+use Rattle.copy.specs.Copy.{copyRecord, copyOf}
 use Rattle.copy.proofs.FaithfulRecords.{identifier-kept, not-copied, faithful}
-use Rattle.copy.proofs.Demand.{passed, copy-long, copy-records}
+use Rattle.copy.proofs.Demand.{passed, copy-long}
+use Rattle.copy.proofs.CopiedBlocks.{copied-block}
 use Rattle.copy.proofs.Unchanged.{copy-reads}
 
 behind-kept : Passing turnOf (λ c i r d. behind c (copyRecord c r) ≡ behind c r)
 behind-kept c i r d h = go-fine c i (copyRecord c r) d (faithful .keeps c i r d h) .1 ∙ sym (go-fine c i r d h .1)
 
-module _ (s : List ℕ) (n : ℕ) (w : Walked s n) where
-  copies-from : (j i : ℕ) → i + j ≡ n → (m : ℕ) → m < j
-      → getD (copies turnOf copyRecord (contextAt s i) i (blocks 81 j (drop (i * 81) s))) m []
-      ≡ copyRecord (contextAt s (i + m)) (blockAt 81 s (i + m))
-  unfolding copies blocks
-  copies-from zero i e m l = absurd (omega arith)
-  copies-from (suc j) i e zero l = let z : i + 0 ≡ i = omega arith in rw z
-  copies-from (suc j) i e (suc m) l =
-      let z : suc i + m ≡ i + suc m = omega arith in
-      rw (w .turns i (omega arith), next-block 81 i s, add-one i)
-      (rw z at (copies-from j (suc i) (omega arith) m (omega arith)))
-
 module _ (s : List ℕ) (accepted : Accepted s) where
-  abbrev n : ℕ
-  n = length s / 81
-
-  pub copied-block : (i : ℕ) → i < length s / 81
-      → blockAt 81 (copyOf s) i ≡ copyRecord (contextAt s i) (blockAt 81 s i)
-  copied-block i l =
-      let p = passed s accepted in
-      let long = copy-long s p in
-      let z : 0 + i ≡ i = omega arith in
-      let there : getD (copies turnOf copyRecord startContext 0 (recordsOf s)) i []
-      ≡ copyRecord (contextAt s i) (blockAt 81 s i) =
-      rw (zero-mul 81, context-start s, z) at (copies-from s n (walked s accepted) n 0 (omega arith) i l) in
-      sym (block-at 81 (length (copyOf s) / 81) (copyOf s) i (rw long l))
-      ∙ ap (λ (rs : List (List ℕ)). getD rs i []) (copy-records s p)
-      ∙ there
-
   pub copied-context : (i : ℕ) → i ≤ length s / 81 → contextAt (copyOf s) i ≡ contextAt s i
   copied-context zero l = context-start (copyOf s) ∙ sym (context-start s)
   copied-context (suc i) l =
       let c = contextAt s i in
       context-next (copyOf s) i
       ∙ ap (λ (x : Context). behind x (blockAt 81 (copyOf s) i)) (copied-context i (omega arith))
-      ∙ ap (behind c) (copied-block i (omega arith))
+      ∙ ap (behind c) (copied-block s accepted i (omega arith))
       ∙ behind-kept c i (blockAt 81 s i) (contextAt s (suc i)) (walked s accepted .turns i (omega arith))
       ∙ sym (context-next s i)
 
   -- a record that is no value record
   pub block-kept : (i : ℕ) → i < length s / 81 → isValue (roleAt s i) ≡ false → blockAt 81 (copyOf s) i ≡ blockAt 81 s i
-  block-kept i l e = copied-block i l ∙ not-copied (contextAt s i) (blockAt 81 s i) e
+  block-kept i l e = copied-block s accepted i l ∙ not-copied (contextAt s i) (blockAt 81 s i) e
 
   -- ---- by the number of a record
 
@@ -105,7 +75,7 @@ module _ (s : List ℕ) (accepted : Accepted s) where
       (λ i l.
       let c = contextAt s i in
       let r = blockAt 81 s i in
-      rw (field-of (blockAt 81 (copyOf s) i) 0 (omega arith), field-of r 0 (omega arith), copied-block i l)
+      rw (field-of (blockAt 81 (copyOf s) i) 0 (omega arith), field-of r 0 (omega arith), copied-block s accepted i l)
       (identifier-kept c i r (contextAt s (suc i)) (walked s accepted .turns i l)))
 
   past-fields : (r : List ℕ) (k : ℕ) → 6 ≤ k → getD (fieldsOf r) k [] ≡ []

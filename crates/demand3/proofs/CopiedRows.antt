@@ -16,21 +16,22 @@ use Rattle.record.specs.Identifier.{BIB, COMMON, DATA}
 use Rattle.columns.specs.declared.columns.RecordNo.{RecordNo}
 use Rattle.rules_state.specs.declared.state.Track.{Track}
 use Rattle.rules_state.specs.Role.{opensSubentry, isValue}
-use Rattle.rules.proofs.WithoutFault.{of-values}
+use Rattle.rules.proofs.ByKind.{of-values}
 use Rattle.entry.specs.Verdict.{roleOf, turnOf, Accepted}
 use Rattle.entry.specs.Contexts.{contextAt, roleAt}
 use Rattle.entry.proofs.Contexts.{records-at}
 use Rattle.questions.specs.declared.row.Row.{Row}
 use Rattle.questions.specs.Row.{NONE, withFirst, withBib, withCommon, withData, noted, subentryIn, notedAs}
-use Rattle.questions.specs.Row.{noteOf, rowOf}
+use Rattle.questions.specs.Row.{noteOf, rowAt, rowOf}
 use Rattle.questions_places.specs.Place.{COMMON-SECTION, DATA-SECTION, fieldsAt, shapeOf}
 use Rattle.questions.specs.Ask.{sectionIn}
-use Rattle.inside.proofs.Contexts.{walked}
-use Rattle.inside.proofs.RowWalked.{rowAt, found-row}
+use Rattle.entry.proofs.AcceptedWalk.{walked}
+use Rattle.questions.proofs.RowNoted.{found-row}
 use Rattle.copy.specs.Copy.{copyRecord, copyOf}
 use Rattle.copy.proofs.FaithfulRecords.{role-kept, not-copied}
 use Rattle.copy.proofs.Demand.{passed, copy-long, copy-accepted}
-use Rattle.demand3.proofs.CopiedRecords.{copied-block, copied-context, fields-kept}
+use Rattle.copy.proofs.CopiedBlocks.{copied-block}
+use Rattle.demand3.proofs.CopiedRecords.{copied-context, fields-kept}
 
 -- a value record leaves nothing in a row
 value-noted : (x : Row) (at : RecordNo) (role : ℕ) → isValue role ≡ true → noted x role at ≡ x
@@ -46,10 +47,10 @@ none-noted t fs x role e =
     either-way true = refl
     either-way false = refl
 
-note-kept : Passing turnOf (λ c i r d. (x : Row) → noteOf c i (copyRecord c r) x ≡ noteOf c i r x)
+note-kept : Passing turnOf (λ c i r d. (x : Row) → noteOf c (copyRecord c r) x ≡ noteOf c r x)
 note-kept c i r d h x = by-test (isValue (roleOf c r)) refl
   where
-    by-test : (b : Bool) → isValue (roleOf c r) ≡ b → noteOf c i (copyRecord c r) x ≡ noteOf c i r x
+    by-test : (b : Bool) → isValue (roleOf c r) ≡ b → noteOf c (copyRecord c r) x ≡ noteOf c r x
     by-test true e =
         let k : isValue (roleOf c (copyRecord c r)) ≡ true = rw (role-kept c i r d h) e in
         none-noted (c .track) (fieldsOf (copyRecord c r)) x (roleOf c (copyRecord c r)) k
@@ -104,7 +105,7 @@ module _ (s : List ℕ) (accepted : Accepted s) where
       by-test false false false true = record { first = m .first; bib = m .bib; common = m .common; «data» = h }
       by-test false false false false = m
 
-  kept-note : (x : Row) (i : ℕ) → i < length s / 81 → Kept x → Kept (noteOf (contextAt s i) i (blockAt 81 s i) x)
+  kept-note : (x : Row) (i : ℕ) → i < length s / 81 → Kept x → Kept (noteOf (contextAt s i) (blockAt 81 s i) x)
   unfolding notedAs
   kept-note x i l m = by-role (isValue (roleAt s i)) refl
     where
@@ -112,7 +113,7 @@ module _ (s : List ℕ) (accepted : Accepted s) where
       by-number true y k = k
       by-number false y k = m
 
-      by-role : (b : Bool) → isValue (roleAt s i) ≡ b → Kept (noteOf (contextAt s i) i (blockAt 81 s i) x)
+      by-role : (b : Bool) → isValue (roleAt s i) ≡ b → Kept (noteOf (contextAt s i) (blockAt 81 s i) x)
       by-role true e = rw (none-noted (contextAt s i .track) (fieldsOf (blockAt 81 s i)) x (roleAt s i) e) m
       by-role false e =
           let at = recordOf (contextAt s i .track .records) in

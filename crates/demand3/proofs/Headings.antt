@@ -18,11 +18,12 @@ use Rattle.rules_state.specs.Role.{isValue}
 use Rattle.rules_system.specs.System.{countN1}
 use Rattle.entry.specs.declared.verdict.Verdict.{Verdict}
 use Rattle.entry.specs.Verdict.{Accepted}
+use Rattle.entry.specs.Answer.{Refusal, refusal, firstOf, isRefused}
 use Rattle.questions.specs.declared.row.Row.{Row}
 use Rattle.questions_places.specs.declared.place.Shape.{Shape}
 use Rattle.questions.specs.Row.{NONE, rowOf}
 use Rattle.questions_places.specs.Place.{COMMON-SECTION, DATA-SECTION, shapeOf, headingPlace, unitPlace, fieldOf, byteOf}
-use Rattle.questions.specs.Ask.{Refusal, refusal, firstOf, isRefused, isSubent, sectionIn, noSection, sectionRefusals}
+use Rattle.questions.specs.Ask.{isSubent, sectionIn, noSection, sectionRefusals}
 use Rattle.questions.specs.Ask.{noColumn, columnRefusal, headingBy, headingOf, unitBy, unitOf}
 use Rattle.questions.proofs.Refusals.{column-inside}
 use Rattle.questions.proofs.RowChanges.{common, table}

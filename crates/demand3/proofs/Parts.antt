@@ -13,9 +13,10 @@ use Rattle.columns.specs.declared.columns.RecordNo.{RecordNo}
 use Rattle.entry.specs.declared.verdict.Verdict.{Verdict}
 use Rattle.entry.specs.Verdict.{Accepted}
 use Rattle.entry.specs.Contexts.{roleAt}
+use Rattle.entry.specs.Answer.{answerOf, answerFor}
 use Rattle.questions.specs.declared.ask.PartAnswer.{PartAnswer}
 use Rattle.questions_places.specs.Place.{fieldsAt}
-use Rattle.questions.specs.Ask.{answer, answerFor, noPart, partWith}
+use Rattle.questions.specs.Ask.{noPart, partWith}
 use Rattle.copy.specs.Copy.{copyOf}
 use Rattle.copy.proofs.Demand.{passed, copy-long, byte-of}
 use Rattle.copy.proofs.Unchanged.{part-of-bytes}
@@ -60,7 +61,7 @@ module _ (s : List ℕ) (accepted : Accepted s) where
     where
       part : Bool → ℕ → PartAnswer
       part b mark =
-          cond b (record { answer = answer 0; first = from; length = bytes; pointer = mark }) (noPart (answer 0))
+          cond b (record { answer = answerOf 0; first = from; length = bytes; pointer = mark }) (noPart (answerOf 0))
 
       by-length : (b : Bool) → leb (from + bytes) (length s) ≡ b → number ≡ 0
           → SamePart (copyOf s) s (part b copied) (part b pointer)

@@ -3,13 +3,11 @@
 -- Assumes nothing.
 use mathlib.Core.Path.{_≡_, refl, ap}
 use mathlib.Core.Bool.{Bool, true, false, cond}
-use mathlib.Core.List.{List, [], _∷_}
-use Prim.Native.Nat.{ℕ, suc, _<_}
+use mathlib.Core.List.{List, []}
+use Prim.Native.Nat.{ℕ, _<_}
 use native.Mathlib.Omega.{arith}
-use lib.Dec.{eqb}
 use lib.ListN.{getD}
 use Rattle.laws.specs.Turns.{go, out}
-use Rattle.laws.specs.Walk.{All}
 use Rattle.laws.specs.Copies.{Passing}
 use Rattle.number.specs.Reading.{readField}
 use Rattle.columns.specs.Columns.{recordOf}
@@ -18,9 +16,8 @@ use Rattle.rules_state.specs.declared.fault.Fault.{Fault}
 use Rattle.rules_state.specs.declared.fault.Fault.the-variants.{Fine, At}
 use Rattle.rules_state.specs.State.{Context, used}
 use Rattle.rules_state.specs.Role.{COMMON-VALUE, DATA-VALUE, isValue}
-use Rattle.rules_state.specs.Fault.{leftmost, Finding, firstFault}
 use Rattle.rules_section.specs.Values.{optional, valuesFor}
-use Rattle.rules.specs.Order.{findings, faultOf}
+use Rattle.rules.specs.Order.{faultOf}
 use Rattle.entry.specs.declared.verdict.Verdict.{Verdict}
 use Rattle.entry_next.specs.Counted.{trackAfter, afterInside}
 use Rattle.entry_next.specs.Parts.{partAfter, bibChange, underChange, tableChange}
@@ -28,7 +25,8 @@ use Rattle.entry_next.specs.Parts.{seenAfter}
 use Rattle.entry_next.specs.Next.{contextAfter}
 use Rattle.entry.specs.Verdict.{roleOf, accepted, refused, onFault, turnAs, turnOf, isDone, endOf}
 use Rattle.record.proofs.Readings.{values-same}
-use Rattle.rules.proofs.WithoutFault.{of-values}
+use Rattle.rules.proofs.ByKind.{of-values}
+use Rattle.rules.proofs.Least.{fault-bounds}
 
 pub go-fine : Passing turnOf
     (λ c i r d. (faultOf (c .track) (c .seen) (roleOf c r) (fieldsOf r) r ≡ Fine)
@@ -58,42 +56,18 @@ done-of c e = by-test (isDone (c .phase)) e
     by-test true h = refl
     by-test false h = absurd (omega arith)
 
--- the number of a fault is one of the findings'
-fault-number : (fs : List Finding) → All (λ f. 0 < f .number) fs → (n k : ℕ) → firstFault fs ≡ At n k → 0 < n
-unfolding firstFault
-fault-number [] a n k e = let z : _≡_ {A = ℕ} 0 1 = cc in absurd (omega arith)
-fault-number (f ∷ fs) a n k e =
-    by-column (eqb (leftmost (f .columns)) 0) e (fault-number fs (a .1) n k)
-  where
-    by-column : (t : Bool) → cond t (firstFault fs) (At (f .number) (leftmost (f .columns))) ≡ At n k
-        → (firstFault fs ≡ At n k → 0 < n) → 0 < n
-    by-column true h rest = rest h
-    by-column false h rest = let z : f .number ≡ n = cc in let b : 0 < f .number = a .0 in omega arith
-
-one : {n : ℕ} → 0 < suc n
-one = omega arith
-
-numbered : (c : Context) (role : ℕ) (fs : List (List ℕ)) (r : List ℕ)
-    → All (λ f. 0 < f .number) (findings (c .track) (c .seen) role fs r)
-numbered c role fs r =
-    (one, (one, (one, (one, (one, (one, (one, (one, (one, (one, (one, (one, (one, (one, tt))))))))))))))
-
 -- what a turn hands out is a refusal
 pub out-refused : (c : Context) (i : ℕ) (r : List ℕ) (v : Verdict) → turnOf c i r ≡ out v → v .refusal ≡ 0 → ⊥
-unfolding turnOf turnAs faultOf
-out-refused c i r v e z =
-    let role = roleOf c r in
-    by-fault (firstFault (findings (c .track) (c .seen) role (fieldsOf r) r)) refl e
+unfolding turnOf turnAs
+out-refused c i r v e z = by-fault (faultOf (c .track) (c .seen) (roleOf c r) (fieldsOf r) r) refl e
   where
-    by-fault : (x : Fault) → firstFault (findings (c .track) (c .seen) (roleOf c r) (fieldsOf r) r) ≡ x
+    by-fault : (x : Fault) → faultOf (c .track) (c .seen) (roleOf c r) (fieldsOf r) r ≡ x
         → onFault (recordOf (c .track .records)) x (contextAfter c (roleOf c r) (fieldsOf r) r) ≡ out v → ⊥
     by-fault Fine q h = let z : _≡_ {A = ℕ} 0 1 = cc in omega arith
     by-fault (At n k) q h =
         let w : refused n (recordOf (c .track .records)) k ≡ v = cc in
         let m : n ≡ v .refusal = ap (λ (x : Verdict). x .refusal) w in
-        let b : 0 < n =
-        fault-number (findings (c .track) (c .seen) (roleOf c r) (fieldsOf r) r)
-        (numbered c (roleOf c r) (fieldsOf r) r) n k q in
+        let b = fault-bounds (c .track) (c .seen) (roleOf c r) (fieldsOf r) r n k q .from-two in
         omega arith
 
 module _ (c : Context) (r t : List ℕ)

@@ -1,4 +1,4 @@
--- The judge by numbers is the judge of the definitions: the two go over the same records, and keep that the numbers
+-- The judge by ranges is the judge of the definitions: the two go over the same records, and keep that the numbers
 -- stand for the context. Assumes nothing.
 use Prim.Native.Nat.{ℕ, _+_, _*_, _-_, _/_, _%_, _<_, _≤_}
 use mathlib.Core.Path.{_≡_, refl, sym, _∙_, ap}
@@ -19,14 +19,15 @@ use Rattle.columns.specs.Fields.{fieldsOf}
 use Rattle.record.specs.Identifier.{identifierOf}
 use Rattle.rules_state.specs.declared.fault.Fault.{Fault}
 use Rattle.rules_state.specs.declared.fault.Fault.the-variants.{Fine, At}
-use Rattle.rules_state.specs.State.{Context, startContext, MOST-RECORDS, Bounded, AllPlaced, seenOf}
+use Rattle.rules_state.specs.State.{Context, startContext, MOST-RECORDS}
+use Rattle.rules_state.specs.Ranging.{Bounded, AllPlaced, seenOf}
 use Rattle.rules.specs.Order.{faultOf}
 use Rattle.entry.specs.declared.step.Judge.{Judge}
 use Rattle.entry_next.specs.Counted.{trackAfter}
 use Rattle.entry_next.specs.Next.{contextAfter}
 use Rattle.entry.specs.Verdict.{roleOf, refused, onFault, turnAs, turnOf, endOf, lengthGood, judgeOf}
-use Rattle.entry.specs.Numbers.{contextOf, judgeAfter, stepFor, stepAs, stepOf, startJudge, onStep, stepTurn}
-use Rattle.entry.specs.Numbers.{finishOf, judgeByNumbers}
+use Rattle.entry.specs.ByRanges.{contextOf, judgeAfter, stepFor, stepAs, stepOf, startJudge, onStep, stepTurn}
+use Rattle.entry.specs.ByRanges.{finishOf, judgeByRanges}
 use Rattle.entry_next.proofs.Counting.{Follows, track-follows}
 use Rattle.entry.proofs.Stepping.{next-bytes}
 use Rattle.entry_next.proofs.Following.{Joins, all-placed, seen-next, reaches, joins-next}
@@ -41,7 +42,7 @@ module _ (s : List ℕ) (n : ℕ) (whole : length s ≡ n * 81) (few : n ≤ MOS
     pub joins : Joins (j .phase) (j .track) (j .ranges)
 
   -- one record without fault
-  goes-on : (i : ℕ) (j : Judge) → i < n → (c : Context) → Standing i c j
+  pub goes-on : (i : ℕ) (j : Judge) → i < n → (c : Context) → Standing i c j
       → let b = take (i * 81) s in
       let r = blockAt 81 s i in
       let role = roleOf (contextOf b j) r in
@@ -125,9 +126,9 @@ whole-records n e =
     (omega arith, omega arith)
 
 -- the code's judge is the judge
-pub numbers-judge : (s : List ℕ) → judgeByNumbers s ≡ judgeOf s
-unfolding judgeByNumbers judgeOf
-numbers-judge s = by-test (lengthGood (length s)) refl
+pub ranges-judge : (s : List ℕ) → judgeByRanges s ≡ judgeOf s
+unfolding judgeByRanges judgeOf
+ranges-judge s = by-test (lengthGood (length s)) refl
   where
     by-test : (t : Bool) → lengthGood (length s) ≡ t
         → cond t (run (stepTurn s) finishOf startJudge 0 (length s / 81)) (refused 1 (record { 0 = 0 }) 0)

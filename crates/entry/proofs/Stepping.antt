@@ -9,11 +9,11 @@ use lib.ListN.{length, take, length-append}
 use lib.Seq.{take-add, length-take-le}
 use Rattle.laws.specs.Blocks.{blockAt}
 use Rattle.laws.proofs.Turns.{Run, run-all}
-use Rattle.rules_state.specs.State.{Stands}
+use Rattle.rules_state.specs.Ranging.{Stands}
 use Rattle.entry.specs.declared.step.Judge.{Judge}
 use Rattle.entry_next.specs.Counted.{trackAfter}
 use Rattle.entry.specs.Verdict.{lengthGood}
-use Rattle.entry.specs.Numbers.{judgeAfter, startJudge, stepTurn, finishOf, judgeByNumbers, Ready}
+use Rattle.entry.specs.ByRanges.{judgeAfter, startJudge, stepTurn, finishOf, judgeByRanges, Ready}
 use Rattle.entry_next.proofs.Counting.{Follows, track-follows}
 use Rattle.entry_next.proofs.Following.{all-placed}
 
@@ -42,8 +42,8 @@ stands-start =
 
 -- the loop at its start
 pub run-start : (s : List ℕ) → lengthGood (length s) ≡ true
-    → Run (stepTurn s) finishOf (judgeByNumbers s) startJudge 0 (length s / 81)
-unfolding judgeByNumbers
+    → Run (stepTurn s) finishOf (judgeByRanges s) startJudge 0 (length s / 81)
+unfolding judgeByRanges
 run-start s e = rw e (run-all (length s / 81))
 
 -- the bytes before the next record

@@ -1,4 +1,6 @@
 pub mod Verdict
-pub mod Numbers
+pub mod ByRanges
 pub mod Contexts
+pub mod Pass
 pub mod First
+pub mod Answer

@@ -5,9 +5,12 @@ ghost use Prim.Native.Nat.{ℕ, _+_, _-_, _*_, _≤_, _<_};
 ghost use lib.ListN.{length, getD};
 ghost use Rattle.number.specs.Form.{Tables};
 ghost use Rattle.columns.specs.Class.{ClassesLent};
+ghost use Rattle.columns.specs.Columns.{Whole};
 ghost use Rattle.record.specs.Identifier.{NamesLent};
+ghost use Rattle.rules_state.specs.State.{MOST-RECORDS};
+ghost use Rattle.rules_state.specs.Ranging.{Bounded};
 ghost use Rattle.rules_section.specs.Values.{valuesFor};
-ghost use Rattle.entry.specs.Numbers.{startJudge, judgeAfter, stepAs, Stepped, SteppedAs, Ready};
+ghost use Rattle.entry.specs.ByRanges.{startJudge, judgeAfter, stepAs, Stepped, SteppedAs, Ready};
 use columns::columns::Index;
 use columns::fields::fields;
 use entry_next::counted::track_after;
@@ -19,9 +22,9 @@ use record::numbers::Values;
 use rules::order::fault;
 use rules_section::values::values;
 use rules_state::fault::Fault;
+use rules_state::ranging::Range;
+use rules_state::ranging::Ranges;
 use rules_state::state::Phase;
-use rules_state::state::Range;
-use rules_state::state::Ranges;
 use rules_state::state::Track;
 
 // The state before a record: what is due, what is counted, and the records that a rule may look back at.
@@ -62,15 +65,10 @@ impl Judge {
     }
 
     // The state after a record without fault.
-    fn after<'a>(
-        self,
-        before: &'a [u8],
-        rec: &'a [u8],
-        role: usize,
-        fs: [[u8; 11]; 6],
-        values: Values,
-    ) -> Self
-        requires { ⌜ Ready self (now before) (now rec) ⌝ }
+    pub(crate) fn after(self, rec: &[u8], role: usize, fs: [[u8; 11]; 6], values: Values) -> Self
+        requires { ⌜ Bounded (self .track) ⌝ }
+        requires { ⌜ self .track .records .0 < MOST-RECORDS ⌝ }
+        requires { ⌜ Whole (now rec) ⌝ }
         requires { ⌜ values ≡ valuesFor (self .track) role fs ⌝ }
         ensures { λ r. ⌜ r ≡ judgeAfter self role fs (now (rec .entry)) ⌝ }
     {
@@ -122,7 +120,7 @@ impl Judge {
         );
         match found {
             Fault::Fine => {
-                let next = self.after(before, rec, role, fs, values);
+                let next = self.after(rec, role, fs, values);
                 Step {
                     fault: Fault::Fine,
                     next,

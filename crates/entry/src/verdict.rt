@@ -2,9 +2,9 @@
 ghost use mathlib.Core.Path.{_≡_};
 ghost use Prim.Native.Nat.{ℕ, _+_, _-_, _*_, _≤_, _<_};
 ghost use lib.ListN.{length, getD};
-ghost use Rattle.rules_state.specs.State.{Bounded};
+ghost use Rattle.rules_state.specs.Ranging.{Bounded};
 ghost use Rattle.entry.specs.Verdict.{refused, isDone, lengthGood, judgeOf};
-ghost use Rattle.entry.specs.Numbers.{finishOf};
+ghost use Rattle.entry.specs.ByRanges.{finishOf};
 use crate::step::Judge;
 use columns::class::classes;
 use columns::columns::RecordNo;

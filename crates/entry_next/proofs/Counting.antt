@@ -11,7 +11,8 @@ use Rattle.record.specs.Identifier.{ENTRY, BIB, COMMON, DATA}
 use Rattle.record.specs.Word.{blankTo}
 use Rattle.rules_state.specs.declared.state.Table.{Table}
 use Rattle.rules_state.specs.declared.state.Track.{Track}
-use Rattle.rules_state.specs.State.{MOST-RECORDS, Bounded, counted, rowEnds}
+use Rattle.rules_state.specs.State.{MOST-RECORDS, counted, rowEnds}
+use Rattle.rules_state.specs.Ranging.{Bounded}
 use Rattle.rules_state.specs.Role.{TEXT, DATA-VALUE, isSystem, opensSubentry, isHeading, isUnit, isValue}
 use Rattle.rules_section.specs.Values.{valuesFor}
 use Rattle.rules_state.proofs.EitherWay.{either-way}

@@ -6,9 +6,10 @@ use lib.Dec.{eqb, leb}
 use lib.ListN.{getD}
 use Rattle.record.specs.Expected.{accessionOf}
 use Rattle.record.specs.Identifier.{ENTRY, SUBENT, NOSUBENT, BIB, COMMON, DATA}
-use Rattle.record.specs.System.{subentryOf}
+use Rattle.record.specs.System.{subentryOf, upTo}
 use Rattle.record.specs.Word.{blankTo}
 use Rattle.columns.specs.declared.columns.LineNo.{LineNo}
+use Rattle.columns.specs.Fields.{n1}
 use Rattle.rules_state.specs.declared.state.Totals.{Totals}
 use Rattle.rules_state.specs.declared.state.Bib.{Bib}
 use Rattle.rules_state.specs.declared.state.Table.{Table}
@@ -17,7 +18,6 @@ use Rattle.rules_state.specs.State.{MOST-COLUMNS, MOST-LINES, HEADINGS, UNITS, 
 use Rattle.rules_state.specs.State.{withAccession, withTotals, withSubentry, withSection, withBib, withTable}
 use Rattle.rules_state.specs.Role.{TEXT, DATA-VALUE}
 use Rattle.rules_state.specs.Role.{isSystem, opensSubentry, isHeading, isUnit, isValue}
-use Rattle.rules_system.specs.Every.{n1}
 use Rattle.rules_system.specs.System.{countN1, countN2}
 use Rattle.rules_section.specs.Values.{valuesFor}
 
@@ -47,10 +47,6 @@ openSubentry t number =
 abbrev pub openBib : Track → ℕ → ℕ → Track
 openBib t keywords records =
     withBib (withSection t 0) (record { keywords = keywords; records = records; met = 0 })
-
--- a count that 8 has let pass
-abbrev pub upTo : ℕ → ℕ → ℕ
-upTo most n = cond (leb n most) n 0
 
 -- its first row are the headings; its first line is 1
 abbrev pub newTable : ℕ → ℕ → Table

@@ -7,8 +7,8 @@ use lib.ListN.{getD}
 use Rattle.record.specs.Identifier.{ENDCOMMON}
 use Rattle.columns.specs.declared.columns.Index.{Index}
 use Rattle.rules_state.specs.declared.state.Track.{Track}
-use Rattle.rules_state.specs.declared.state.Range.{Range}
-use Rattle.rules_state.specs.declared.state.Ranges.{Ranges}
+use Rattle.rules_state.specs.declared.ranging.Range.{Range}
+use Rattle.rules_state.specs.declared.ranging.Ranges.{Ranges}
 use Rattle.rules_state.specs.Role.{opensSubentry}
 use Rattle.entry_next.specs.declared.parts.Change.{Change}
 use Rattle.entry_next.specs.declared.parts.Change.the-variants.{Kept, Emptied, Begun, Joined}

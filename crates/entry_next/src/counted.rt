@@ -4,11 +4,12 @@ ghost use mathlib.Core.Bool.{_&&_};
 ghost use Prim.Native.Nat.{_+_, _-_, _*_, _≤_, _<_};
 ghost use lib.Dec.{eqb};
 ghost use Rattle.columns.specs.Columns.{Whole};
-ghost use Rattle.rules_state.specs.State.{MOST-RECORDS, Bounded};
+ghost use Rattle.rules_state.specs.State.{MOST-RECORDS};
+ghost use Rattle.rules_state.specs.Ranging.{Bounded};
 ghost use Rattle.rules_section.specs.Values.{valuesFor};
 ghost use Rattle.entry_next.specs.Counted.{oneSubentry, oneKeyword};
 ghost use Rattle.entry_next.specs.Counted.{moreNumbers};
-ghost use Rattle.entry_next.specs.Counted.{openSubentry, openBib, upTo, openTable, afterSystem};
+ghost use Rattle.entry_next.specs.Counted.{openSubentry, openBib, openTable, afterSystem};
 ghost use Rattle.entry_next.specs.Counted.{textRead, nextRow, sameRow};
 ghost use Rattle.entry_next.specs.Counted.{headingsRead, unitsRead, valuesRead, linesRead, numbersRead, afterInside};
 ghost use Rattle.entry_next.specs.Counted.{trackAfter};
@@ -20,6 +21,7 @@ use record::identifier::DATA;
 use record::identifier::ENTRY;
 use record::numbers::Values;
 use record::system::count_of;
+use record::system::count_to;
 use record::system::number_of;
 use record::system::subentry_of;
 use record::word::is_keyword_blank;
@@ -90,17 +92,6 @@ fn open_bib(t: Track, keywords: u64, records: u64) -> Track
     t.with_section(0).with_bib(bib)
 }
 
-// A count that 8 has let pass.
-fn up_to(most: u64, n: u64) -> u32
-    requires { ⌜ most ≤ MOST-RECORDS ⌝ }
-    ensures { λ r. ⌜ r ≡ upTo most n ⌝ }
-{
-    if n <= most {
-        return n as u32;
-    }
-    0
-}
-
 fn open_table(t: Track, columns: u32, last: u32) -> Track
     ensures { λ r. ⌜ r ≡ openTable t columns last ⌝ }
 {
@@ -133,12 +124,12 @@ fn after_system(t: Track, role: usize, fs: [[u8; 11]; 6], rec: &[u8]) -> Track
         return open_bib(t, number_of(count_of(f)), number_of(count_of(g)));
     }
     if role == COMMON {
-        let columns = up_to(MOST_COLUMNS, number_of(count_of(f)));
+        let columns = count_to(MOST_COLUMNS as u32, f);
         return open_table(t, columns, 1);
     }
     if role == DATA {
-        let columns = up_to(MOST_COLUMNS, number_of(count_of(f)));
-        let last = up_to(MOST_LINES, number_of(count_of(g)));
+        let columns = count_to(MOST_COLUMNS as u32, f);
+        let last = count_to(MOST_LINES as u32, g);
         return open_table(t, columns, last);
     }
     t

@@ -13,11 +13,11 @@ use record::identifier::DATA;
 use record::identifier::ENDCOMMON;
 use record::identifier::ENDSUBENT;
 use record::word::is_keyword_blank;
+use rules_state::ranging::Range;
+use rules_state::ranging::Ranges;
 use rules_state::role::TEXT;
 use rules_state::role::is_heading;
 use rules_state::role::opens_subentry;
-use rules_state::state::Range;
-use rules_state::state::Ranges;
 use rules_state::state::Track;
 
 // What a record does to a part that a later rule may look back at.

@@ -1,5 +1,4 @@
-pub mod Lifting
-pub mod Packing
 pub mod NearFaults
 pub mod Sizes
+pub mod Twos
 pub mod Laws

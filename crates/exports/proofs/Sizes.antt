@@ -1,7 +1,6 @@
--- Every verdict fits its word: a refusal is 1 to 16, at a record up to 20,001 and a column up to 81, and an accepted
--- entry counts no more than its records allow.
+-- Every verdict fits its word: a refusal is 1 to 16, at a record up to 20,001 and a column up to 81.
 -- Assumes nothing.
-use Prim.Native.Nat.{ℕ, _+_, _*_, _/_, _<_, _≤_}
+use Prim.Native.Nat.{ℕ, _+_, _*_, _/_, _^_, _<_, _≤_}
 use mathlib.Core.Path.{_≡_, refl}
 use mathlib.Core.Bool.{Bool, true, false, cond}
 use mathlib.Core.List.{List, [], _∷_}
@@ -11,20 +10,33 @@ use Rattle.laws.specs.Turns.{after}
 use Rattle.laws.specs.Walk.{walk}
 use Rattle.laws.specs.Blocks.{blocks}
 use Rattle.laws.proofs.Blocks.{length-blocks}
+use Rattle.columns.specs.declared.columns.RecordNo.{RecordNo}
 use Rattle.columns.specs.Columns.{recordOf}
 use Rattle.columns.specs.Fields.{fieldsOf}
 use Rattle.rules_state.specs.declared.fault.Fault.{Fault}
 use Rattle.rules_state.specs.declared.fault.Fault.the-variants.{Fine, At}
+use Rattle.rules_state.specs.declared.state.Totals.{Totals}
 use Rattle.rules_state.specs.declared.state.Track.{Track}
-use Rattle.rules_state.specs.State.{Context, startContext, MOST-RECORDS, Bounded}
+use Rattle.rules_state.specs.State.{Context, startContext, MOST-RECORDS}
+use Rattle.rules_state.specs.Ranging.{Bounded}
 use Rattle.rules.specs.Order.{faultOf}
 use Rattle.rules_state.proofs.EitherWay.{either-way}
 use Rattle.entry_next.specs.Next.{contextAfter}
-use Rattle.entry.specs.Verdict.{refused, roleOf, onFault, turnAs, turnOf, isDone, endOf, lengthGood, judgeOf}
+use Rattle.entry.specs.declared.verdict.Verdict.{Verdict}
+use Rattle.entry.specs.Verdict.{refused, accepted, roleOf, onFault, turnAs, turnOf, isDone, endOf, lengthGood, judgeOf}
 use Rattle.entry_next.proofs.Counting.{Follows, track-follows}
 use Rattle.entry.proofs.Numbered.{whole-records}
-use Rattle.exports.specs.Verdicts.{FewTotals, NearRefusal, Fitting, accepting, refusing}
 use Rattle.exports.proofs.NearFaults.{Near, near-fault}
+
+-- what a word can hold
+pub record NearRefusal (n : ℕ) (at : RecordNo) (k : ℕ) : Type 0 where
+  pub number : n < 2 ^ 8
+  pub «record» : at .0 < 2 ^ 24
+  pub column : k < 2 ^ 8
+
+pub data Fitting : Verdict → Type 0 where
+  accepting : (t : Totals) → Fitting (accepted t)
+  refusing : (n : ℕ) (at : RecordNo) (k : ℕ) → 0 < n → NearRefusal n at k → Fitting (refused n at k)
 
 fits : (n k : ℕ) → Near n k → (t : Track) → t .records .0 ≤ MOST-RECORDS → Fitting (refused n (recordOf (t .records)) k)
 fits n k h t few =
@@ -33,13 +45,10 @@ fits n k h t few =
     refusing n (recordOf (t .records)) k (h .some)
     (record { number = omega arith; «record» = omega arith; column = omega arith })
 
-few-totals : (t : Track) → Bounded t → FewTotals (t .totals)
-few-totals t b = omega arith
-
 end-fits : (c : Context) → Bounded (c .track) → Fitting (endOf c)
 unfolding endOf
 end-fits c b =
-    either-way Fitting (isDone (c .phase)) _ _ (accepting (c .track .totals) (few-totals (c .track) b))
+    either-way Fitting (isDone (c .phase)) _ _ (accepting (c .track .totals))
     (fits 16 0 (record { some = omega arith; number = omega arith; column = omega arith }) (c .track) (b .records))
 
 walk-fits : (rs : List (List ℕ)) (c : Context) (i : ℕ) → Bounded (c .track)

@@ -1,2 +1,3 @@
 pub mod Words
+pub mod Values
 pub mod Verdicts

@@ -1,23 +1,51 @@
 // Judging, for host programs.
 ghost use mathlib.Core.Path.{_≡_};
 ghost use Rattle.entry.specs.Verdict.{judgeOf};
-ghost use Rattle.exports.specs.Verdicts.{verdictWord};
-use crate::words::refused_word;
-use crate::words::totals_word;
+ghost use Rattle.exports.specs.Words.{answerWord, lentAfter};
+ghost use Rattle.exports.specs.Verdicts.{verdictAnswer, totalsNumbers};
+use crate::words::answer_word;
+use entry::answer::Answer;
+use entry::verdict::Verdict;
 use entry::verdict::judge;
 
-// The verdict on an entry.
+// Stores the totals of an accepted entry, and returns the word.
+fn put_verdict(v: Verdict, out: &mut [u64; 4]) -> u64
+    ensures { λ r. ⌜ r ≡ answerWord (verdictAnswer v) ⌝ }
+    ensures { λ r. ⌜ now (out .exit) ≡ lentAfter (v .refusal) (now (out .entry)) (totalsNumbers (v .totals)) ⌝ }
+{
+    let refusal = v.refusal;
+    let record = v.record;
+    let column = v.column;
+    let totals = v.totals;
+    if refusal != 0 {
+        return answer_word(Answer {
+            number: refusal,
+            refusal,
+            record,
+            column,
+        });
+    }
+    let subentries = totals.subentries;
+    let keywords = totals.keywords;
+    let lines = totals.lines;
+    let numbers = totals.numbers;
+    *out = [
+        subentries as u64,
+        keywords as u64,
+        lines as u64,
+        numbers as u64,
+    ];
+    0
+}
+
+// The verdict on an entry: its totals, stored only where it is accepted.
 #[no_mangle]
-pub extern "C" fn x4_judge(entry: &[u8]) -> u64
-    ensures { λ r. ⌜ r ≡ verdictWord (judgeOf (now (entry .entry))) ⌝ }
+pub extern "C" fn x4_judge(entry: &[u8], totals: &mut [u64; 4]) -> u64
+    ensures { λ r. ⌜ r ≡ answerWord (verdictAnswer (judgeOf (now (entry .entry)))) ⌝ }
+    ensures { λ r. ⌜ now (totals .exit)
+        ≡ lentAfter (judgeOf (now (entry .entry)) .refusal) (now (totals .entry))
+        (totalsNumbers (judgeOf (now (entry .entry)) .totals)) ⌝ }
 {
     let v = judge(entry);
-    let refusal = v.refusal;
-    let column = v.column;
-    let at = v.record;
-    let totals = v.totals;
-    if refusal == 0 {
-        return totals_word(totals);
-    }
-    refused_word(refusal as u64, refusal as u64, at.0 as u64, column as u64)
+    put_verdict(v, totals)
 }

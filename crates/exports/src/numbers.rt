@@ -5,18 +5,21 @@ ghost use lib.Dec.{eqb};
 ghost use Rattle.number.specs.Value.{valueOf};
 ghost use Rattle.number.specs.Reading.{readNumber};
 ghost use Rattle.canonical.specs.Writing.{bytes, refusalOf};
-ghost use Rattle.exports.specs.Words.{readingWord};
-use crate::words::reading_word;
+ghost use Rattle.exports.specs.Words.{answerWord};
+ghost use Rattle.exports.specs.Values.{readingAnswer, readingStored};
+use crate::values::put_reading;
 use canonical::write::Written;
 use canonical::write::write_number;
 use number::read::read_number;
 
-// What a number field says.
+// What a number field says, stored only where that is a blank or a number.
 #[no_mangle]
-pub extern "C" fn x4_read_number(field: &[u8]) -> u64
-    ensures { λ r. ⌜ r ≡ readingWord (readNumber (now (field .entry))) ⌝ }
+pub extern "C" fn x4_read_number(field: &[u8], value: &mut [u64; 8]) -> u64
+    ensures { λ r. ⌜ r ≡ answerWord (readingAnswer (readNumber (now (field .entry)))) ⌝ }
+    ensures { λ r. ⌜ now (value .exit) ≡ readingStored (now (value .entry)) (readNumber (now (field .entry))) ⌝ }
 {
-    reading_word(read_number(field))
+    let said = read_number(field);
+    put_reading(said, value)
 }
 
 // Writes the canonical field of a value, below zero where `negative` is not 0: 0 done, 40 buffer not eleven bytes, 41 no

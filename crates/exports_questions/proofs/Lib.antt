@@ -1,4 +1,4 @@
-pub mod Rooms
 pub mod Refusals
-pub mod PartWords
-pub mod ValueWords
+pub mod PartsBack
+pub mod NoPlace
+pub mod ValuesBack

@@ -1,45 +1,84 @@
-// The questions, for host programs.
+// The questions, for host programs. What is answered is stored in a lent array; a refused question stores nothing.
 ghost use mathlib.Core.Path.{_≡_};
 ghost use Rattle.questions.specs.Ask.{valueOf, headingOf, unitOf, passageAnswer};
-ghost use Rattle.exports_questions.specs.Questions.{valueWord, partWord, keywordPlace};
-use crate::words::answer_word;
-use crate::words::part_word;
+ghost use Rattle.exports.specs.Words.{answerWord};
+ghost use Rattle.exports_questions.specs.Questions.{valueAnswer, valueStored, partStored, keywordPlace};
+use crate::parts::put_part;
 use columns::columns::LineNo;
-use exports::words::reading_word;
+use exports::values::put_reading;
+use exports::words::answer_word;
+use questions::ask::ValueAnswer;
 use questions::ask::heading;
 use questions::ask::passage;
 use questions::ask::unit;
 use questions::ask::value;
 
-// The value in a line and a column of COMMON (section 1) or DATA (section 2) of a subentry.
-#[no_mangle]
-pub extern "C" fn x4_value(entry: &[u8], subentry: u32, section: u32, line: u32, column: u32) -> u64
-    ensures { λ r. ⌜ r ≡ valueWord (valueOf (now (entry .entry)) subentry section (record { 0 = line }) column) ⌝ }
+// Stores a value that is answered, and returns the word.
+fn put_value(v: ValueAnswer, out: &mut [u64; 8]) -> u64
+    ensures { λ r. ⌜ r ≡ answerWord (valueAnswer v) ⌝ }
+    ensures { λ r. ⌜ now (out .exit) ≡ valueStored (now (out .entry)) v ⌝ }
 {
-    let at = LineNo(line);
-    let v = value(entry, subentry, section, at, column);
     let answer = v.answer;
     let said = v.value;
     if answer.number == 0 {
-        return reading_word(said);
+        return put_reading(said, out);
     }
     answer_word(answer)
 }
 
+// The value in a line and a column of COMMON (section 1) or DATA (section 2) of a subentry.
+#[no_mangle]
+pub extern "C" fn x4_value(
+    entry: &[u8],
+    subentry: u32,
+    section: u32,
+    line: u32,
+    column: u32,
+    out: &mut [u64; 8],
+) -> u64
+    ensures { λ r. ⌜ r
+        ≡ answerWord (valueAnswer (valueOf (now (entry .entry)) subentry section (record { 0 = line }) column)) ⌝ }
+    ensures { λ r. ⌜ now (out .exit)
+        ≡ valueStored (now (out .entry))
+        (valueOf (now (entry .entry)) subentry section (record { 0 = line }) column) ⌝ }
+{
+    let at = LineNo(line);
+    let v = value(entry, subentry, section, at, column);
+    put_value(v, out)
+}
+
 // Where the heading of a column stands in the entry, and its pointer.
 #[no_mangle]
-pub extern "C" fn x4_heading(entry: &[u8], subentry: u32, section: u32, column: u32) -> u64
-    ensures { λ r. ⌜ r ≡ partWord (headingOf (now (entry .entry)) subentry section column) ⌝ }
+pub extern "C" fn x4_heading(
+    entry: &[u8],
+    subentry: u32,
+    section: u32,
+    column: u32,
+    out: &mut [u64; 3],
+) -> u64
+    ensures { λ r. ⌜ r ≡ answerWord (headingOf (now (entry .entry)) subentry section column .answer) ⌝ }
+    ensures { λ r. ⌜ now (out .exit)
+        ≡ partStored (now (out .entry)) (headingOf (now (entry .entry)) subentry section column) ⌝ }
 {
-    part_word(heading(entry, subentry, section, column))
+    let p = heading(entry, subentry, section, column);
+    put_part(p, out)
 }
 
 // Where the unit of a column stands, and the heading's pointer.
 #[no_mangle]
-pub extern "C" fn x4_unit(entry: &[u8], subentry: u32, section: u32, column: u32) -> u64
-    ensures { λ r. ⌜ r ≡ partWord (unitOf (now (entry .entry)) subentry section column) ⌝ }
+pub extern "C" fn x4_unit(
+    entry: &[u8],
+    subentry: u32,
+    section: u32,
+    column: u32,
+    out: &mut [u64; 3],
+) -> u64
+    ensures { λ r. ⌜ r ≡ answerWord (unitOf (now (entry .entry)) subentry section column .answer) ⌝ }
+    ensures { λ r. ⌜ now (out .exit)
+        ≡ partStored (now (out .entry)) (unitOf (now (entry .entry)) subentry section column) ⌝ }
 {
-    part_word(unit(entry, subentry, section, column))
+    let p = unit(entry, subentry, section, column);
+    put_part(p, out)
 }
 
 // A keyword's ten bytes; blanks for any other slice.
@@ -65,10 +104,20 @@ fn keyword_place(keyword: &[u8]) -> [u8; 10]
 
 // Where the passage with a keyword and a pointer stands.
 #[no_mangle]
-pub extern "C" fn x4_passage(entry: &[u8], subentry: u32, keyword: &[u8], pointer: u8) -> u64
+pub extern "C" fn x4_passage(
+    entry: &[u8],
+    subentry: u32,
+    keyword: &[u8],
+    pointer: u8,
+    out: &mut [u64; 3],
+) -> u64
     ensures { λ r. ⌜ r
-        ≡ partWord (passageAnswer (now (entry .entry)) subentry (keywordPlace (now (keyword .entry))) pointer) ⌝ }
+        ≡ answerWord (passageAnswer (now (entry .entry)) subentry (keywordPlace (now (keyword .entry))) pointer .answer) ⌝ }
+    ensures { λ r. ⌜ now (out .exit)
+        ≡ partStored (now (out .entry))
+        (passageAnswer (now (entry .entry)) subentry (keywordPlace (now (keyword .entry))) pointer) ⌝ }
 {
     let place = keyword_place(keyword);
-    part_word(passage(entry, subentry, place, pointer))
+    let p = passage(entry, subentry, place, pointer);
+    put_part(p, out)
 }

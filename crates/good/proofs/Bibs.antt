@@ -8,7 +8,7 @@ use native.Mathlib.Nat.{zero-add}
 use lib.ListN.{length, length-append}
 use borrow.Author.Tests.{eqb-true, eq-eqb, leb-true, le-leb}
 use Rattle.laws.specs.Blocks.{joined}
-use Rattle.columns.specs.Fields.{fieldsOf}
+use Rattle.columns.specs.Fields.{fieldsOf, n1, n2}
 use Rattle.record.specs.Identifier.{BIB, NOBIB, ENDBIB}
 use Rattle.rules_state.specs.declared.state.Phase.the-variants.{InSubentry, InBib, AfterBib}
 use Rattle.rules_state.specs.State.{Context}
@@ -22,7 +22,7 @@ use Rattle.entry_next.specs.Parts.{seenAfter, partAfter, bibChange}
 use Rattle.entry_next.specs.Parts.{underChange}
 use Rattle.entry.specs.Verdict.{roleOf, isDone}
 use Rattle.good.specs.Parts.{Record, Bib, Section, present, absent, textsOf, bibRecords}
-use Rattle.good.specs.Marks.{Marked, Following, nameOf, n1, n2, Says}
+use Rattle.good.specs.Marks.{Marked, Following, nameOf, Says}
 use Rattle.good.specs.Bib.{GoodBibPart, textsOfPart}
 use Rattle.good.specs.Totals.{keywordsIn}
 use Rattle.good.proofs.Steps.{Takes, next, Passes, next-pass, takes-marked}
@@ -142,7 +142,7 @@ end-marked : (c : Context) (r : Record) → Takes c ENDBIB r → Here c r
 unfolding expectedIdentification expectedSequence
 end-marked c r t = takes-marked c ENDBIB r t
 
-end-bib-takes : (c : Context) (r : Record) → Here c r → Says (n1 r) (c .track .section)
+end-bib-takes : (c : Context) (r : Record) → Here c r → Says (n1 (fieldsOf r)) (c .track .section)
     → c .track .bib .met ≡ c .track .bib .keywords → Takes c ENDBIB r
 unfolding expectedIdentification expectedSequence trueCount
 end-bib-takes c r m s k = end-takes c ENDBIB r end-BIB m s (eq-eqb (c .track .bib .met) (c .track .bib .keywords) k)
@@ -231,13 +231,14 @@ ended-bib c r xs ys z done named t l run left p =
           ∙ sym (append-assoc (textsOf (ks .keywords)) (e ∷ []) ts));
       good = record {
         opens = named;
-        keywords = says-as (n1 r) (countN1 (fieldsOf r)) (length (ks .keywords)) (a .first) k;
+        keywords = says-as (n1 (fieldsOf r)) (countN1 (fieldsOf r)) (length (ks .keywords)) (a .first) k;
         least = rw k at least;
-        records = says-as (n2 r) (countN2 (fieldsOf r)) (length (textsOf (ks .keywords))) (a .second) (sym l ∙ n);
+        records = says-as (n2 (fieldsOf r)) (countN2 (fieldsOf r)) (length (textsOf (ks .keywords))) (a .second)
+            (sym l ∙ n);
         each = ks .each;
         once = ks .once;
         ends = s .named;
-        between = says-as (n1 e) (c2 .track .section) (length (textsOf (ks .keywords))) between sec;
+        between = says-as (n1 (fieldsOf e)) (c2 .track .section) (length (textsOf (ks .keywords))) between sec;
       };
       follows = (
         here-of c BIB r (open-BIB .inside) t,
@@ -321,7 +322,7 @@ bib-pass c (present b) rest z e g f p =
     at .met ∙ ap (λ (m : ℕ). m + bearing texts) (o .met) ∙ zero-add (bearing texts)
     ∙ bearing-keywords (b .keywords) (g .each) ∙ sym k ∙ sym (o .announced) ∙ sym (at .announced) in
     let t2 = end-bib-takes c2 (b .ending) (rw (i, q) (last .0))
-    (says-as (n1 (b .ending)) (length texts) (c2 .track .section) (g .between) sec) met in
+    (says-as (n1 (fieldsOf (b .ending))) (length texts) (c2 .track .section) (g .between) sec) met in
     next-pass c BIB r ((texts ++ (b .ending ∷ [])) ++ rest) z
     (bib-role c r e ∙ either-left BIB NOBIB (nameOf r) (g .opens))
     (announces-takes c BIB r (length (b .keywords)) (length texts) open-BIB (f .0)

@@ -8,7 +8,6 @@ use native.Mathlib.Omega.{arith}
 use lib.Dec.{eqb}
 use lib.ListN.{length}
 use borrow.Author.Tests.{lt-ltb, le-ltb, not-false}
-use Rattle.laws.proofs.Booleans.{differ}
 use Rattle.laws.proofs.Listing.{all-append, joined-one}
 use Rattle.laws.specs.Walk.{All}
 use Rattle.laws.specs.Blocks.{joined}
@@ -19,15 +18,17 @@ use Rattle.columns.specs.Fields.{fieldAt, fieldsOf, inField}
 use Rattle.columns.specs.Text.{isBlank}
 use Rattle.record.specs.Word.{isWord, blankTo, pointerOf, pointerFault, headingFault}
 use Rattle.rules_state.specs.State.{Context, used}
-use Rattle.rules_state.specs.Fault.{leftmost, fieldColumn, pointerColumn}
-use Rattle.rules_section.specs.Headings.{rule11Heading, rule12Heading, headingRepeated, rule13, pointersFor, pointerLost}
-use Rattle.rules_section.specs.Headings.{lostAt, rule14}
-use Rattle.rules.proofs.WithoutFault.{where-none}
+use Rattle.rules_state.specs.Role.{DATA-HEADING, NOT-DUE, isHeading}
+use Rattle.rules_state.specs.Fault.{fieldColumn, pointerColumn}
+use Rattle.rules_section.specs.Headings.{rule11Heading, rule12Heading, headingRepeated, rule13, pointersFor}
+use Rattle.rules_section.specs.Headings.{pointerLost, lostAt, rule14}
+use Rattle.rules.proofs.NoColumns.{where-none, none-where}
+use Rattle.rules.proofs.ByKind.{clean-heading}
 use Rattle.good.specs.Parts.{Record}
 use Rattle.good.specs.Marks.{Following}
 use Rattle.good.specs.Tables.{Heading, BlankCell}
 use Rattle.good.specs.Subentries.{Occurs}
-use Rattle.good.proofs.Steps.{Takes, next, MarkedFor, none-where, takes-own, own-takes}
+use Rattle.good.proofs.Steps.{Takes, next, MarkedFor, marked-every}
 use Rattle.good.proofs.Runs.{Run, afterRun}
 use Rattle.good.proofs.Lists.{Long}
 use Rattle.good.proofs.Systems.{identificationIn}
@@ -39,38 +40,18 @@ use Rattle.good.proofs.Earlier.{New, search-new, new-search}
 
 -- ---- the rules 11 to 14
 
-record ByRules (d : Bool) (c : Context) (r : Record) : Type 0 where
-  eleven : leftmost (rule11Heading (c .track) (fieldsOf r)) ≡ 0
-  twelve : leftmost (rule12Heading (c .track) (fieldsOf r)) ≡ 0
-  thirteen : leftmost (rule13 (c .seen) (c .track) (fieldsOf r) r) ≡ 0
-  fourteen : d ≡ true → leftmost (rule14 (c .seen) (c .track) (fieldsOf r)) ≡ 0
+heading-role : (d : Bool) → (isHeading (roleFor headings d) ≡ true) × (eqb (roleFor headings d) NOT-DUE ≡ false)
+heading-role false = (refl, refl)
+heading-role true = (refl, refl)
 
-heading-rules : (d : Bool) (c : Context) (r : Record) → Takes c (roleFor headings d) r → ByRules d c r
-heading-rules false c r t =
-    let own = takes-own c (roleFor headings false) r t in
-    record {
-      eleven = own .1 .1 .1 .1 .0;
-      twelve = own .1 .1 .1 .1 .1 .0;
-      thirteen = own .1 .1 .1 .1 .1 .1 .0;
-      fourteen = λ e. differ (sym e);
-    }
-heading-rules true c r t =
-    let own = takes-own c (roleFor headings true) r t in
-    record {
-      eleven = own .1 .1 .1 .1 .0;
-      twelve = own .1 .1 .1 .1 .1 .0;
-      thirteen = own .1 .1 .1 .1 .1 .1 .0;
-      fourteen = λ e. own .1 .1 .1 .1 .1 .1 .1 .0;
-    }
+-- 14 is made on the headings of DATA
+data-role : (d : Bool) → d ≡ true → eqb (roleFor headings d) DATA-HEADING ≡ true
+data-role true q = refl
+data-role false q = q
 
-rules-heading : (d : Bool) (c : Context) (r : Record) → MarkedFor c (roleFor headings d) r → ByRules d c r
-    → Takes c (roleFor headings d) r
-rules-heading false c r m b =
-    own-takes c (roleFor headings false) r m refl
-    (refl, (refl, (refl, (refl, (b .eleven, (b .twelve, (b .thirteen, (refl, (refl, tt)))))))))
-rules-heading true c r m b =
-    own-takes c (roleFor headings true) r m refl
-    (refl, (refl, (refl, (refl, (b .eleven, (b .twelve, (b .thirteen, (b .fourteen refl, (refl, tt)))))))))
+role-data : (d : Bool) → eqb (roleFor headings d) DATA-HEADING ≡ true → d ≡ true
+role-data true q = refl
+role-data false q = q
 
 -- ---- a record of headings
 
@@ -112,15 +93,15 @@ module _ (d : Bool) (first common : List Record) (pointers : List ℕ) where
       → c .track .table .rest ≡ rest → Known c before m → Takes c (roleFor headings d) r → RowOf rest before m r
   unfolding rule11Heading rule12Heading rule13 rule14 pointerFault headingFault
   headings-to c rest before m r e k t =
-      let b = heading-rules d c r t in
+      let kind = heading-role d .0 in
       let u = few-used (c .track) rest e in
-      let h11 = where-none (inField (pointerFault (used (c .track))) (fieldsOf r)) pointerColumn 6 (λ k. omega arith)
-      (b .eleven) in
-      let h12 = where-none (inField (headingFault (used (c .track))) (fieldsOf r)) fieldColumn 6 (λ k. omega arith)
-      (b .twelve) in
+      let h11 = where-none (inField (pointerFault (used (c .track))) (fieldsOf r)) pointerColumn 6
+      (t .1 .eleven kind) in
+      let h12 = where-none (inField (headingFault (used (c .track))) (fieldsOf r)) fieldColumn 6
+      (t .1 .twelve kind) in
       let h13 =
       where-none (headingRepeated (c .seen .common001) (c .seen .common) (c .seen .table) r (fieldsOf r)) fieldColumn
-      (used (c .track)) (λ k. omega arith) (b .thirteen) in
+      (used (c .track)) (t .1 .thirteen kind) in
       record {
         cells = record {
           used = λ j l a.
@@ -143,7 +124,7 @@ module _ (d : Bool) (first common : List Record) (pointers : List ℕ) where
             (rw (k .named, field-at r j l) at
             (where-none
             (lostAt (pointersFor (c .seen .bib) (c .seen .bib001) (c .seen .common) (c .seen .common001)) (fieldsOf r))
-            fieldColumn (used (c .track)) (λ k. omega arith) (b .fourteen q) j (rw u (few-below rest j l a))));
+            fieldColumn (used (c .track)) (t .1 .fourteen (data-role d q)) j (rw u (few-below rest j l a))));
       }
 
   headings-from : (c : Context) (rest : ℕ) (before : List Record) (m : ℕ) (r : Record)
@@ -153,40 +134,38 @@ module _ (d : Bool) (first common : List Record) (pointers : List ℕ) where
   headings-from c rest before m r e k mk f =
       let u = few-used (c .track) rest e in
       let s = few-least rest in
-      rules-heading d c r mk
-      (record {
-        eleven = ap leftmost
+      let role = roleFor headings d in
+      let (kind, due) = heading-role d in (
+        mk .whole,
+        clean-heading (c .track) (c .seen) role (fieldsOf r) r (marked-every c role r mk due) kind
             (none-where (inField (pointerFault (used (c .track))) (fieldsOf r)) pointerColumn 6
             (λ j l.
             rw (u, field-at r j l)
             (either j rest
             (λ a. rw (lt-ltb j (few rest) (few-below rest j l a)) (f .cells .used j l a .pointer))
-            (λ a. rw (le-ltb j (few rest) (few-past rest j l a))))));
-        twelve = ap leftmost
+            (λ a. rw (le-ltb j (few rest) (few-past rest j l a))))))
             (none-where (inField (headingFault (used (c .track))) (fieldsOf r)) fieldColumn 6
             (λ j l.
             rw (u, field-at r j l)
             (either j rest
             (λ a. rw (lt-ltb j (few rest) (few-below rest j l a), f .cells .used j l a .word))
-            (λ a. rw (le-ltb j (few rest) (few-past rest j l a), f .cells .unused j l a)))));
-        thirteen = ap leftmost
-            (none-where (headingRepeated (c .seen .common001) (c .seen .common) (c .seen .table) r
-            (fieldsOf r)) fieldColumn
-            (used (c .track))
+            (λ a. rw (le-ltb j (few rest) (few-past rest j l a), f .cells .unused j l a)))))
+            (none-where (headingRepeated (c .seen .common001) (c .seen .common) (c .seen .table) r (fieldsOf r))
+            fieldColumn (used (c .track))
             (λ j l.
             let q : j < few rest = rw u at l in
             rw (k .first-part, k .common-part, k .table-part, field-at r j (omega arith))
             (new-search first common before r j (fieldAt r j) (k .long-first) (k .long-common) (k .long-before)
-            (omega arith) (f .new j (omega arith) (below-few rest j q)))));
-        fourteen = λ t. ap leftmost
-            (none-where
+            (omega arith) (f .new j (omega arith) (below-few rest j q)))))
+            (λ t.
+            none-where
             (lostAt (pointersFor (c .seen .bib) (c .seen .bib001) (c .seen .common) (c .seen .common001)) (fieldsOf r))
             fieldColumn (used (c .track))
             (λ j l.
             let q : j < few rest = rw u at l in
             rw (k .named, field-at r j (omega arith))
-            (lost-not pointers (fieldAt r j) (f .found t j (omega arith) (below-few rest j q)))));
-      })
+            (lost-not pointers (fieldAt r j) (f .found (role-data d t) j (omega arith) (below-few rest j q))))),
+      )
 
   headings-onward : (c : Context) (rest : ℕ) (before : List Record) (m : ℕ) (r : Record)
       → c .track .table .rest ≡ rest → Known c before m → 6 < rest → Takes c (roleFor headings d) r

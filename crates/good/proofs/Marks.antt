@@ -7,13 +7,13 @@ use native.Mathlib.Omega.{arith}
 use lib.ListN.{length}
 use Rattle.laws.proofs.Booleans.{differ}
 use Rattle.laws.specs.Walk.{All}
-use Rattle.columns.specs.Fields.{fieldsOf}
+use Rattle.columns.specs.Fields.{fieldsOf, n1, n2}
 use Rattle.record.specs.System.{countOf, isCount, numberOf}
 use Rattle.record.specs.declared.system.Count.{Count}
 use Rattle.record.specs.declared.system.Count.the-variants.{Number, Bad}
 use Rattle.rules_system.specs.System.{countN1, countN2}
 use Rattle.good.specs.Parts.{Record}
-use Rattle.good.specs.Marks.{Following, n1, n2, Says}
+use Rattle.good.specs.Marks.{Following, Says}
 use Rattle.good.proofs.Lists.{Long}
 
 -- ---- counts
@@ -34,13 +34,11 @@ says-number f n s = ap numberOf s
 pub says-count : (f : List ℕ) (n : ℕ) → Says f n → isCount (countOf f) ≡ true
 says-count f n s = ap isCount s
 
-pub counted1 : (r : Record) (n : ℕ) → Says (n1 r) n → countN1 (fieldsOf r) ≡ n
-unfolding fieldsOf
-counted1 r n s = says-number (n1 r) n s
+pub counted1 : (r : Record) (n : ℕ) → Says (n1 (fieldsOf r)) n → countN1 (fieldsOf r) ≡ n
+counted1 r n s = says-number (n1 (fieldsOf r)) n s
 
-pub counted2 : (r : Record) (n : ℕ) → Says (n2 r) n → countN2 (fieldsOf r) ≡ n
-unfolding fieldsOf
-counted2 r n s = says-number (n2 r) n s
+pub counted2 : (r : Record) (n : ℕ) → Says (n2 (fieldsOf r)) n → countN2 (fieldsOf r) ≡ n
+counted2 r n s = says-number (n2 (fieldsOf r)) n s
 
 -- ---- records that follow one another
 

@@ -6,14 +6,13 @@ use mathlib.Core.List.{List, []}
 use native.Mathlib.Omega.{arith}
 use lib.Dec.{eqb, ltb, leb}
 use borrow.Author.Tests.{not-false, eqb-true, eq-eqb, ne-eqb, ltb-true, lt-ltb, leb-true, le-leb}
-use Rattle.laws.proofs.Booleans.{and-left, and-right}
+use Rattle.laws.proofs.Booleans.{differ, and-left, and-right}
 use Rattle.laws.specs.Search.{first}
-use Rattle.columns.specs.Columns.{columnsAt}
-use Rattle.columns.specs.Fields.{fieldsOf}
+use Rattle.columns.specs.Fields.{fieldsOf, n1, n2}
 use Rattle.record.specs.Word.{equalTo}
 use Rattle.record.specs.Identifier.{ENTRY, SUBENT, NOSUBENT, ENDSUBENT, ENDENTRY, isEnd}
 use Rattle.record.specs.System.{isSubentN1, isDate}
-use Rattle.record.specs.Expected.{accessionOf, identificationFor}
+use Rattle.record.specs.Expected.{accessionOf, identificationFor, subentAccession, subentIdentification}
 use Rattle.rules_state.specs.declared.state.Phase.{Phase}
 use Rattle.rules_state.specs.declared.state.Phase.the-variants.{Opened, InSubentry, Between, Done}
 use Rattle.rules_state.specs.State.{Context, LAST-SUBENTRY, startContext}
@@ -23,14 +22,15 @@ use Rattle.entry_next.specs.Next.{contextAfter}
 use Rattle.entry_next.specs.Due.{phaseAfter}
 use Rattle.entry_next.specs.Counted.{trackAfter, afterSystem}
 use Rattle.entry_next.specs.Parts.{seenAfter, partAfter, bibChange}
+use Rattle.rules.proofs.NoColumns.{when-none, none-when}
 use Rattle.good.specs.Parts.{Record}
-use Rattle.good.specs.Marks.{Marked, nameOf, n1, n2, Says}
+use Rattle.good.specs.Marks.{Marked, nameOf, Says}
 use Rattle.good.specs.Subentries.{Opens, ownNumber}
 use Rattle.good.specs.Good.{GoodOpening, GoodEnding}
-use Rattle.good.proofs.Steps.{Takes, next, when-none, none-when, takes-marked}
+use Rattle.good.proofs.Steps.{Takes, next, takes-marked}
 use Rattle.good.proofs.Marks.{says-as}
-use Rattle.good.proofs.Systems.{SystemRole, takes-rules, rules-takes, takes-end, end-takes}
-use Rattle.good.proofs.SystemRoles.{system-role, end-SUBENT, end-ENTRY}
+use Rattle.good.proofs.Systems.{takes-rules, rules-takes, takes-end, end-takes}
+use Rattle.good.proofs.SystemRoles.{end-SUBENT, end-ENTRY}
 
 -- ---- SUBENT, and NOSUBENT where the Boolean is true
 
@@ -38,54 +38,50 @@ abbrev pub nameFor : Bool → ℕ
 nameFor false = SUBENT
 nameFor true = NOSUBENT
 
-opening-role : (b : Bool) → SystemRole (nameFor b)
-opening-role false = system-role SUBENT refl refl refl refl refl refl refl
-opening-role true = system-role NOSUBENT refl refl refl refl refl refl refl
-
 abbrev Due : Context → Record → Bool
-Due c r = equalTo 5 (columnsAt 3 5 (n1 r)) (c .track .accession) && numberDue (c .track) (ownNumber r)
+Due c r = equalTo 5 (subentAccession (n1 (fieldsOf r))) (c .track .accession) && numberDue (c .track) (ownNumber r)
 
 opening-rules : (b : Bool) (c : Context) (r : Record) → Takes c (nameFor b) r
-    → (isSubentN1 (n1 r) ≡ true) × (isDate (n2 r) ≡ true) × (Due c r ≡ true)
-unfolding formN1 formN2 inForm fieldsOf rule9 ownNumber
+    → (isSubentN1 (n1 (fieldsOf r)) ≡ true) × (isDate (n2 (fieldsOf r)) ≡ true) × (Due c r ≡ true)
+unfolding formN1 formN2 inForm rule9 ownNumber
 opening-rules false c r t =
-    let x = takes-rules c SUBENT r (opening-role false) t in
-    (x .form1, x .form2, not-false (Due c r) (when-none (not (Due c r)) 12 (omega arith) (x .rule-9)))
+    let x = takes-rules c SUBENT r refl t in
+    (x .form1, x .form2, not-false (Due c r) (when-none (not (Due c r)) 12 (x .rule-9 refl)))
 opening-rules true c r t =
-    let x = takes-rules c NOSUBENT r (opening-role true) t in
-    (x .form1, x .form2, not-false (Due c r) (when-none (not (Due c r)) 12 (omega arith) (x .rule-9)))
+    let x = takes-rules c NOSUBENT r refl t in
+    (x .form1, x .form2, not-false (Due c r) (when-none (not (Due c r)) 12 (x .rule-9 refl)))
 
 pub opening-marked : (b : Bool) (c : Context) (r : Record) → Takes c (nameFor b) r
-    → Marked (columnsAt 3 8 (n1 r)) 1 r
-unfolding expectedIdentification expectedSequence fieldsOf
+    → Marked (subentIdentification (n1 (fieldsOf r))) 1 r
+unfolding expectedIdentification expectedSequence
 opening-marked false c r t = takes-marked c SUBENT r t
 opening-marked true c r t = takes-marked c NOSUBENT r t
 
-rules-opening : (b : Bool) (c : Context) (r : Record) → Marked (columnsAt 3 8 (n1 r)) 1 r → isSubentN1 (n1 r) ≡ true
-    → isDate (n2 r) ≡ true → Due c r ≡ true → Takes c (nameFor b) r
-unfolding formN1 formN2 inForm fieldsOf rule8 rule9 ownNumber expectedIdentification expectedSequence isEnd equalTo
+rules-opening : (b : Bool) (c : Context) (r : Record) → Marked (subentIdentification (n1 (fieldsOf r))) 1 r
+    → isSubentN1 (n1 (fieldsOf r)) ≡ true → isDate (n2 (fieldsOf r)) ≡ true → Due c r ≡ true → Takes c (nameFor b) r
+unfolding formN1 formN2 inForm rule8 rule9 ownNumber expectedIdentification expectedSequence isEnd equalTo
     first
 rules-opening false c r m p q d =
-    rules-takes c SUBENT r (opening-role false) m
-    (record { form1 = p; form2 = q; rule-8 = refl; rule-9 = none-when (not (Due c r)) 12 (ap not d) })
+    rules-takes c SUBENT r refl m
+    (record { form1 = p; form2 = q; rule-8 = refl; rule-9 = λ h. none-when (not (Due c r)) 12 (ap not d) })
 rules-opening true c r m p q d =
-    rules-takes c NOSUBENT r (opening-role true) m
-    (record { form1 = p; form2 = q; rule-8 = refl; rule-9 = none-when (not (Due c r)) 12 (ap not d) })
+    rules-takes c NOSUBENT r refl m
+    (record { form1 = p; form2 = q; rule-8 = refl; rule-9 = λ h. none-when (not (Due c r)) 12 (ap not d) })
 
 pub takes-opens : (b : Bool) (c : Context) (r : Record) (accession : List ℕ) → c .track .accession ≡ accession
     → nameOf r ≡ nameFor b → Takes c (nameFor b) r
     → Opens (nameFor b) accession r × (numberDue (c .track) (ownNumber r) ≡ true)
 takes-opens b c r accession e named t =
     let x = opening-rules b c r t in
-    let a = and-left (equalTo 5 (columnsAt 3 5 (n1 r)) (c .track .accession)) (numberDue (c .track) (ownNumber r))
-    (x .2) in
-    let n = and-right (equalTo 5 (columnsAt 3 5 (n1 r)) (c .track .accession)) (numberDue (c .track) (ownNumber r))
-    (x .2) in (
+    let a = and-left (equalTo 5 (subentAccession (n1 (fieldsOf r))) (c .track .accession))
+    (numberDue (c .track) (ownNumber r)) (x .2) in
+    let n = and-right (equalTo 5 (subentAccession (n1 (fieldsOf r))) (c .track .accession))
+    (numberDue (c .track) (ownNumber r)) (x .2) in (
       record {
         named = named;
         numbered = x .0;
         dated = x .1;
-        same = ap (equalTo 5 (columnsAt 3 5 (n1 r))) (sym e) ∙ a;
+        same = ap (equalTo 5 (subentAccession (n1 (fieldsOf r)))) (sym e) ∙ a;
         marked = opening-marked b c r t;
       },
       n,
@@ -95,7 +91,7 @@ pub opens-takes : (b : Bool) (c : Context) (r : Record) (accession : List ℕ) �
     → Opens (nameFor b) accession r → numberDue (c .track) (ownNumber r) ≡ true → Takes c (nameFor b) r
 opens-takes b c r accession e o n =
     rules-opening b c r (o .marked) (o .numbered) (o .dated)
-    (and-both (ap (equalTo 5 (columnsAt 3 5 (n1 r))) e ∙ o .same) n)
+    (and-both (ap (equalTo 5 (subentAccession (n1 (fieldsOf r)))) e ∙ o .same) n)
   where
     and-both : {a b : Bool} → a ≡ true → b ≡ true → (a && b) ≡ true
     and-both p q = rw (p, q)
@@ -141,7 +137,7 @@ pub record SubentryOpened (c e : Context) (b : Bool) (r : Record) : Type 0 where
   pub common001 : e .seen .common001 ≡ c .seen .common001
 
 pub after-opening : (b : Bool) (c : Context) (r : Record) → SubentryOpened c (next c (nameFor b) r) b r
-unfolding contextAfter phaseAfter trackAfter afterSystem seenAfter partAfter bibChange ownNumber fieldsOf
+unfolding contextAfter phaseAfter trackAfter afterSystem seenAfter partAfter bibChange ownNumber
 after-opening false c r =
     record {
       phase = refl;
@@ -179,11 +175,11 @@ abbrev pub AtEnd : Context → Record → Type 0
 AtEnd c r = Marked (identificationFor (c .track .accession) (c .track .subentry .number)) 99999 r
 
 pub takes-endsubent : (c : Context) (r : Record) → Takes c ENDSUBENT r
-    → AtEnd c r × Says (n1 r) (c .track .subentry .records)
+    → AtEnd c r × Says (n1 (fieldsOf r)) (c .track .subentry .records)
 unfolding expectedIdentification expectedSequence trueCount
 takes-endsubent c r t = (takes-marked c ENDSUBENT r t, takes-end c ENDSUBENT r end-SUBENT t .0)
 
-pub endsubent-takes : (c : Context) (r : Record) → AtEnd c r → Says (n1 r) (c .track .subentry .records)
+pub endsubent-takes : (c : Context) (r : Record) → AtEnd c r → Says (n1 (fieldsOf r)) (c .track .subentry .records)
     → Takes c ENDSUBENT r
 unfolding expectedIdentification expectedSequence trueCount
 endsubent-takes c r m s = end-takes c ENDSUBENT r end-SUBENT m s refl
@@ -216,20 +212,17 @@ after-endsubent c r =
 
 -- ---- ENTRY and ENDENTRY
 
-entry-role : SystemRole ENTRY
-entry-role = system-role ENTRY refl refl refl refl refl refl refl
-
 pub takes-entry : (c : Context) (r : Record) → nameOf r ≡ ENTRY → Takes c ENTRY r → GoodOpening r
-unfolding formN1 formN2 inForm fieldsOf expectedIdentification expectedSequence
+unfolding formN1 formN2 inForm expectedIdentification expectedSequence
 takes-entry c r named t =
-    let x = takes-rules c ENTRY r entry-role t in
+    let x = takes-rules c ENTRY r refl t in
     record { named = named; numbered = x .form1; dated = x .form2; marked = takes-marked c ENTRY r t }
 
 pub entry-takes : (c : Context) (r : Record) → GoodOpening r → Takes c ENTRY r
-unfolding formN1 formN2 inForm fieldsOf rule8 expectedIdentification expectedSequence isEnd equalTo first
+unfolding formN1 formN2 inForm rule8 expectedIdentification expectedSequence isEnd equalTo first
 entry-takes c r g =
-    rules-takes c ENTRY r entry-role (g .marked)
-    (record { form1 = g .numbered; form2 = g .dated; rule-8 = refl; rule-9 = refl })
+    rules-takes c ENTRY r refl (g .marked)
+    (record { form1 = g .numbered; form2 = g .dated; rule-8 = refl; rule-9 = λ h. differ (sym h) })
 
 pub record EntryOpened (e : Context) (r : Record) : Type 0 where
   pub phase : e .phase ≡ Opened
@@ -261,7 +254,7 @@ unfolding expectedIdentification expectedSequence trueCount
 takes-endentry c r accession n e q named t =
     record {
       named = named;
-      counted = says-as (n1 r) (c .track .totals .subentries) n (takes-end c ENDENTRY r end-ENTRY t .0) q;
+      counted = says-as (n1 (fieldsOf r)) (c .track .totals .subentries) n (takes-end c ENDENTRY r end-ENTRY t .0) q;
       marked = rw e at (takes-marked c ENDENTRY r t);
     }
 
@@ -270,7 +263,7 @@ pub endentry-takes : (c : Context) (r : Record) (accession : List ℕ) (n : ℕ)
 unfolding expectedIdentification expectedSequence trueCount
 endentry-takes c r accession n e q g =
     end-takes c ENDENTRY r end-ENTRY (rw e (g .marked))
-    (says-as (n1 r) n (c .track .totals .subentries) (g .counted) (sym q)) refl
+    (says-as (n1 (fieldsOf r)) n (c .track .totals .subentries) (g .counted) (sym q)) refl
 
 pub record EntryClosed (c e : Context) : Type 0 where
   pub phase : e .phase ≡ Done

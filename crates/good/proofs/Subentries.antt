@@ -11,6 +11,7 @@ use Rattle.laws.proofs.Listing.{all-left}
 use Rattle.laws.specs.Walk.{All}
 use Rattle.laws.specs.Blocks.{joined}
 use Rattle.laws.specs.Members.{listOf}
+use Rattle.columns.specs.Fields.{fieldsOf, n1}
 use Rattle.record.specs.Identifier.{ENDSUBENT}
 use Rattle.record.specs.Expected.{identificationFor}
 use Rattle.rules_state.specs.declared.state.Phase.the-variants.{AfterBib, AfterCommon, AfterData, Between}
@@ -19,7 +20,7 @@ use Rattle.rules_state.specs.Role.{only, roleIn, dataRole, either as oneOf}
 use Rattle.entry.specs.Verdict.{roleOf}
 use Rattle.good.specs.Parts.{Record, Bib, Table, Section, present, absent, concat, textsOf, rowsOf, bibRecords}
 use Rattle.good.specs.Parts.{tableRecords}
-use Rattle.good.specs.Marks.{Following, nameOf, n1}
+use Rattle.good.specs.Marks.{Following, nameOf}
 use Rattle.good.specs.Bib.{textsOfPart}
 use Rattle.good.specs.Tables.{cell, headingsOf, Heading, GoodTable, columnsOf, headingsOfPart}
 use Rattle.good.specs.Subentries.{ownNumber, Encloses}
@@ -117,7 +118,7 @@ encloses-of c e accession opening ending body k l m a n z mv f named t =
     record {
       between = f;
       named = named;
-      counted = says-as (n1 ending) (e .track .subentry .records) (length body) count (omega arith);
+      counted = says-as (n1 (fieldsOf ending)) (e .track .subentry .records) (length body) count (omega arith);
       marked = rw (mv .accession, mv .number, a, n) at mark;
     }
 
@@ -127,4 +128,4 @@ pub of-encloses : (c e : Context) (accession : List ℕ) (opening ending : Recor
 of-encloses c e accession opening ending body k l m a n z mv g =
     let x = mv .records in
     endsubent-takes e ending (rw (mv .accession, mv .number, a, n) (g .marked))
-    (says-as (n1 ending) (length body) (e .track .subentry .records) (g .counted) (omega arith))
+    (says-as (n1 (fieldsOf ending)) (length body) (e .track .subentry .records) (g .counted) (omega arith))

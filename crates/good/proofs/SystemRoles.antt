@@ -1,28 +1,18 @@
 -- The system records inside a subentry, and the END records: which of the three kinds each is of. Assumes nothing.
-use Prim.Native.Nat.{ℕ}
-use mathlib.Core.Path.{_≡_, refl}
-use mathlib.Core.Bool.{true, false}
-use lib.Dec.{eqb}
+use mathlib.Core.Path.{refl}
 use Rattle.laws.specs.Search.{first}
 use Rattle.record.specs.Word.{equalTo}
 use Rattle.record.specs.Identifier.{BIB, NOBIB, ENDBIB, COMMON, NOCOMMON, ENDCOMMON, DATA, NODATA, ENDDATA, ENDSUBENT}
 use Rattle.record.specs.Identifier.{ENDENTRY, isEnd}
-use Rattle.rules_state.specs.Role.{TEXT, DATA-HEADING, NOT-DUE, isSystem, isHeading, isUnit, isValue}
 use Rattle.rules_system.specs.Every.{expectedIdentification, expectedSequence}
 use Rattle.rules_system.specs.System.{formN1, formN2}
-use Rattle.good.proofs.Systems.{SystemRole, Inside, FreeRole, OpenRole, EndRole}
-
-pub system-role : (role : ℕ) → isSystem role ≡ true → eqb role TEXT ≡ false → isHeading role ≡ false
-    → isUnit role ≡ false
-    → eqb role DATA-HEADING ≡ false → isValue role ≡ false → eqb role NOT-DUE ≡ false → SystemRole role
-system-role role a b c d e f g =
-    record { system = a; text = b; heading = c; unit = d; data-heading = e; value = f; due = g }
+use Rattle.good.proofs.Systems.{Inside, FreeRole, OpenRole, EndRole}
 
 inside-NOBIB : Inside NOBIB
 unfolding expectedIdentification expectedSequence
 inside-NOBIB =
     record {
-      role-of = system-role NOBIB refl refl refl refl refl refl refl;
+      system = refl;
       not-opening = refl;
       marked = λ c r. (λ m. m, λ m. m);
     }
@@ -31,7 +21,7 @@ inside-NOCOMMON : Inside NOCOMMON
 unfolding expectedIdentification expectedSequence
 inside-NOCOMMON =
     record {
-      role-of = system-role NOCOMMON refl refl refl refl refl refl refl;
+      system = refl;
       not-opening = refl;
       marked = λ c r. (λ m. m, λ m. m);
     }
@@ -40,7 +30,7 @@ inside-NODATA : Inside NODATA
 unfolding expectedIdentification expectedSequence
 inside-NODATA =
     record {
-      role-of = system-role NODATA refl refl refl refl refl refl refl;
+      system = refl;
       not-opening = refl;
       marked = λ c r. (λ m. m, λ m. m);
     }
@@ -61,7 +51,7 @@ inside-BIB : Inside BIB
 unfolding expectedIdentification expectedSequence
 inside-BIB =
     record {
-      role-of = system-role BIB refl refl refl refl refl refl refl;
+      system = refl;
       not-opening = refl;
       marked = λ c r. (λ m. m, λ m. m);
     }
@@ -70,7 +60,7 @@ inside-COMMON : Inside COMMON
 unfolding expectedIdentification expectedSequence
 inside-COMMON =
     record {
-      role-of = system-role COMMON refl refl refl refl refl refl refl;
+      system = refl;
       not-opening = refl;
       marked = λ c r. (λ m. m, λ m. m);
     }
@@ -79,7 +69,7 @@ inside-DATA : Inside DATA
 unfolding expectedIdentification expectedSequence
 inside-DATA =
     record {
-      role-of = system-role DATA refl refl refl refl refl refl refl;
+      system = refl;
       not-opening = refl;
       marked = λ c r. (λ m. m, λ m. m);
     }
@@ -100,7 +90,7 @@ pub end-BIB : EndRole ENDBIB
 unfolding formN1 formN2 isEnd equalTo first
 end-BIB =
     record {
-      role-of = system-role ENDBIB refl refl refl refl refl refl refl;
+      system = refl;
       not-opening = refl;
       form1 = refl;
       form2 = refl;
@@ -112,7 +102,7 @@ pub end-COMMON : EndRole ENDCOMMON
 unfolding formN1 formN2 isEnd equalTo first
 end-COMMON =
     record {
-      role-of = system-role ENDCOMMON refl refl refl refl refl refl refl;
+      system = refl;
       not-opening = refl;
       form1 = refl;
       form2 = refl;
@@ -124,7 +114,7 @@ pub end-DATA : EndRole ENDDATA
 unfolding formN1 formN2 isEnd equalTo first
 end-DATA =
     record {
-      role-of = system-role ENDDATA refl refl refl refl refl refl refl;
+      system = refl;
       not-opening = refl;
       form1 = refl;
       form2 = refl;
@@ -136,7 +126,7 @@ pub end-SUBENT : EndRole ENDSUBENT
 unfolding formN1 formN2 isEnd equalTo first
 end-SUBENT =
     record {
-      role-of = system-role ENDSUBENT refl refl refl refl refl refl refl;
+      system = refl;
       not-opening = refl;
       form1 = refl;
       form2 = refl;
@@ -148,7 +138,7 @@ pub end-ENTRY : EndRole ENDENTRY
 unfolding formN1 formN2 isEnd equalTo first
 end-ENTRY =
     record {
-      role-of = system-role ENDENTRY refl refl refl refl refl refl refl;
+      system = refl;
       not-opening = refl;
       form1 = refl;
       form2 = refl;

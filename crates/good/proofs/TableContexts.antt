@@ -16,7 +16,7 @@ use Rattle.entry_next.specs.Due.{phaseAfter}
 use Rattle.entry_next.specs.Counted.{trackAfter, afterSystem}
 use Rattle.entry_next.specs.Parts.{seenAfter, partAfter, bibChange}
 use Rattle.entry_next.specs.Parts.{tableChange}
-use Rattle.entry_next.specs.Counted.{upTo}
+use Rattle.record.specs.System.{upTo}
 use Rattle.good.specs.Parts.{Record}
 use Rattle.good.proofs.Steps.{next}
 use Rattle.good.proofs.Moves.{Moved, quiet}

@@ -9,6 +9,7 @@ use lib.ListN.{length}
 use borrow.Author.Tests.{leb-true, le-leb}
 use Rattle.laws.proofs.Booleans.{and-left, and-right, differ}
 use Rattle.columns.specs.Columns.{recordsFor}
+use Rattle.columns.specs.Fields.{fieldsOf, n2}
 use Rattle.record.specs.Identifier.{COMMON, NOCOMMON, DATA, NODATA}
 use Rattle.rules_state.specs.declared.state.Phase.{Phase}
 use Rattle.rules_state.specs.declared.state.Phase.the-variants.{AfterCommon, AfterData}
@@ -16,7 +17,7 @@ use Rattle.rules_state.specs.State.{Context, MOST-COLUMNS, MOST-LINES}
 use Rattle.rules_system.specs.Every.{expectedIdentification, expectedSequence}
 use Rattle.rules_system.specs.System.{limitN1, limitN2, meets, trueCount, keywordsTrue}
 use Rattle.good.specs.Parts.{Record, Table, Section, present}
-use Rattle.good.specs.Marks.{nameOf, n2, Says}
+use Rattle.good.specs.Marks.{nameOf, Says}
 use Rattle.good.specs.Tables.{columnsOf, GoodTable, GoodCommonPart, GoodDataPart}
 use Rattle.good.proofs.Steps.{MarkedFor}
 use Rattle.good.proofs.Marks.{says-as}
@@ -94,19 +95,19 @@ limits-of false a b h l =
     let x = leb-true k b (and-left (leb k b) (leb b k) l) in
     let y = leb-true b k (and-right (leb k b) (leb b k) l) in
     record {
-      least = leb-true 1 a (and-left (leb 1 a) (leb a 18) h);
-      most = leb-true a 18 (and-right (leb 1 a) (leb a 18) h);
+      least = leb-true 1 a (and-left (leb 1 a) (leb a MOST-COLUMNS) h);
+      most = leb-true a MOST-COLUMNS (and-right (leb 1 a) (leb a MOST-COLUMNS) h);
       common = λ e. omega arith;
       data-least = λ e. differ (sym e);
       data-most = λ e. differ (sym e);
     }
 limits-of true a b h l =
     record {
-      least = leb-true 1 a (and-left (leb 1 a) (leb a 18) h);
-      most = leb-true a 18 (and-right (leb 1 a) (leb a 18) h);
+      least = leb-true 1 a (and-left (leb 1 a) (leb a MOST-COLUMNS) h);
+      most = leb-true a MOST-COLUMNS (and-right (leb 1 a) (leb a MOST-COLUMNS) h);
       common = λ e. differ e;
-      data-least = λ e. leb-true 1 b (and-left (leb 1 b) (leb b 20000) l);
-      data-most = λ e. leb-true b 20000 (and-right (leb 1 b) (leb b 20000) l);
+      data-least = λ e. leb-true 1 b (and-left (leb 1 b) (leb b MOST-LINES) l);
+      data-most = λ e. leb-true b MOST-LINES (and-right (leb 1 b) (leb b MOST-LINES) l);
     }
 
 pub of-limits : (d : Bool) (a b : ℕ) → Limits d a b
@@ -114,12 +115,12 @@ pub of-limits : (d : Bool) (a b : ℕ) → Limits d a b
 unfolding limitN1 limitN2
 of-limits false a b l =
     let e = l .common refl in (
-      rw (le-leb 1 a (l .least), le-leb a 18 (l .most)),
+      rw (le-leb 1 a (l .least), le-leb a MOST-COLUMNS (l .most)),
       rw (le-leb (3 * recordsFor a) b (omega arith), le-leb b (3 * recordsFor a) (omega arith)),
     )
 of-limits true a b l = (
-  rw (le-leb 1 a (l .least), le-leb a 18 (l .most)),
-  rw (le-leb 1 b (l .data-least refl), le-leb b 20000 (l .data-most refl)),
+  rw (le-leb 1 a (l .least), le-leb a MOST-COLUMNS (l .most)),
+  rw (le-leb 1 b (l .data-least refl), le-leb b MOST-LINES (l .data-most refl)),
 )
 
 -- ---- what a good section is, of either kind
@@ -131,7 +132,7 @@ GoodPart true part = GoodDataPart part
 pub record Pieces (d : Bool) (t : Table) (b : ℕ) : Type 0 where
   pub opens : nameOf (t .opening) ≡ openFor d
   pub table : GoodTable t
-  pub second : Says (n2 (t .opening)) b
+  pub second : Says (n2 (fieldsOf (t .opening))) b
   pub limits : Limits d (columnsOf t) b
   pub many : 1 + length (t .lines) ≡ lastFor d b + 1
   pub lines : LinesGood d (columnsOf t) (t .lines)
@@ -143,7 +144,8 @@ pieces-good false t b p =
       opens = p .opens;
       table = p .table;
       one = let m = p .many in omega arith;
-      records = says-as (n2 (t .opening)) b (3 * recordsFor (columnsOf t)) (p .second) (p .limits .common refl);
+      records = says-as (n2 (fieldsOf (t .opening))) b (3 * recordsFor (columnsOf t)) (p .second)
+          (p .limits .common refl);
       values = p .lines .0;
       ends = p .ends;
     }
@@ -154,7 +156,7 @@ pieces-good true t b p =
     record {
       opens = p .opens;
       table = p .table;
-      lines = says-as (n2 (t .opening)) b (length (t .lines)) (p .second) m;
+      lines = says-as (n2 (fieldsOf (t .opening))) b (length (t .lines)) (p .second) m;
       least = rw m at l;
       most = rw m at h;
       values = p .lines .0;

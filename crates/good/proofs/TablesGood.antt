@@ -7,7 +7,7 @@ use mathlib.Core.List.{List, [], _∷_, _++_}
 use native.Mathlib.Omega.{arith}
 use lib.ListN.{length}
 use Rattle.columns.specs.Columns.{recordsFor}
-use Rattle.columns.specs.Fields.{fieldsOf}
+use Rattle.columns.specs.Fields.{fieldsOf, n1}
 use Rattle.record.specs.System.{countOf, numberOf}
 use Rattle.record.specs.declared.system.Count.the-variants.{Number}
 use Rattle.rules_state.specs.State.{Context}
@@ -15,7 +15,7 @@ use Rattle.rules_state.specs.Role.{either as oneOf}
 use Rattle.rules_system.specs.System.{trueCount}
 use Rattle.entry.specs.Verdict.{roleOf}
 use Rattle.good.specs.Parts.{Record, Table, Section, present, absent, concat, rowsOf, tableRecords}
-use Rattle.good.specs.Marks.{Marked, Following, nameOf, n1}
+use Rattle.good.specs.Marks.{Marked, Following, nameOf}
 use Rattle.good.specs.Tables.{columnsOf, cell}
 use Rattle.good.specs.Subentries.{Occurs}
 use Rattle.good.proofs.Steps.{next, Passes, next-pass}
@@ -42,7 +42,7 @@ good-walked : (d : Bool) (c : Context) (t : Table) (b : ℕ) (first common : Lis
     → ((x : ℕ) → x < columnsOf t → NewIn first common [] (t .headings) x)
     → (d ≡ true → (x : ℕ) → x < columnsOf t → Occurs pointers (cell (t .headings) x))
     → Walked d c t (columnsOf t) b
-unfolding columnsOf fieldsOf
+unfolding columnsOf
 good-walked d c t b first common pointers k p f new found =
     let a = columnsOf t in
     let r = t .opening in
@@ -165,7 +165,7 @@ no-name : (d : Bool) (r : Record) → GoodPart d (absent r) → nameOf r ≡ noF
 no-name false r e = e
 no-name true r e = e
 
-columns-are : (t : Table) → numberOf (countOf (n1 (t .opening))) ≡ columnsOf t
+columns-are : (t : Table) → numberOf (countOf (n1 (fieldsOf (t .opening)))) ≡ columnsOf t
 unfolding columnsOf
 columns-are t = refl
 
@@ -198,14 +198,14 @@ table-pass d c (present t) rest z first common pointers k due g p =
     let many = pc .many in
     let te = end-takes c4 (endFor d) (t .ending) (end-for d)
     (marked-end d c4 (t .ending) (end-here d c t a b (t .ending) w (end .0)))
-    (says-as (n1 (t .ending)) (length (rowsOf t)) (trueCount (c4 .track) (endFor d)) (pc .table .between)
+    (says-as (n1 (fieldsOf (t .ending))) (length (rowsOf t)) (trueCount (c4 .track) (endFor d)) (pc .table .between)
     (sym (section-count d c4 ∙ walked-section d c t a b w)))
     (no-keywords d c4) in
     next-pass c (openFor d) r (rowsOf t ++ (t .ending ∷ []) ++ rest) z
     (due r ∙ either-left (openFor d) (noFor d) (nameOf r) (pc .opens))
     (announces-takes c (openFor d) r a b (open-for d) first-mark
     (record {
-      first = counted-says (n1 r) (pc .table .counted) ∙ ap Number
+      first = counted-says (n1 (fieldsOf r)) (pc .table .counted) ∙ ap Number
           (columns-are t);
       second = pc .second;
       limit1 = l1;

@@ -7,13 +7,13 @@ use mathlib.Core.List.{List, [], _∷_, _++_, append-assoc}
 use native.Mathlib.Omega.{arith}
 use lib.ListN.{length}
 use Rattle.columns.specs.Columns.{recordsFor}
-use Rattle.columns.specs.Fields.{fieldsOf}
+use Rattle.columns.specs.Fields.{fieldsOf, n1}
 use Rattle.rules_state.specs.State.{Context}
 use Rattle.rules_state.specs.Role.{either as oneOf}
 use Rattle.rules_system.specs.System.{trueCount, countN1, countN2}
 use Rattle.entry.specs.Verdict.{roleOf, isDone}
 use Rattle.good.specs.Parts.{Record, Table, Section, present, absent, concat, rowsOf, tableRecords}
-use Rattle.good.specs.Marks.{Marked, Following, nameOf, n1}
+use Rattle.good.specs.Marks.{Marked, Following, nameOf}
 use Rattle.good.specs.Tables.{columnsOf, cell}
 use Rattle.good.specs.Subentries.{Occurs}
 use Rattle.good.proofs.Steps.{Takes, next, Passes, takes-marked}
@@ -85,7 +85,7 @@ table-of : (d : Bool) (c : Context) (t : Table) (ts : List Record) (z : Context)
     → Walked d c t (countN1 (fieldsOf (t .opening))) (countN2 (fieldsOf (t .opening)))
     → Step (afterRows d c t) (endFor d) (t .ending) ts z
     → PassedTable d c (t .opening ∷ (rowsOf t ++ (t .ending ∷ []) ++ ts)) z first common pointers
-unfolding afterTable Following columnsOf fieldsOf
+unfolding afterTable Following columnsOf
 table-of d c t ts z first common pointers k named takes w s =
     let r = t .opening in
     let a = countN1 (fieldsOf r) in
@@ -111,13 +111,13 @@ table-of d c t ts z first common pointers k named takes w s =
           (record {
             opens = named;
             table = record {
-              counted = says-count (n1 r) a (an .first);
+              counted = says-count (n1 (fieldsOf r)) a (an .first);
               least = w .limits .least;
               most = w .limits .most;
               headings = heads .1;
               units = us .1;
-              between = says-as (n1 (t .ending)) (trueCount (afterRows d c t .track) (endFor d)) (length (rowsOf t))
-                  (end .0)
+              between = says-as (n1 (fieldsOf (t .ending))) (trueCount (afterRows d c t .track) (endFor d))
+                  (length (rowsOf t)) (end .0)
                   (section-count d (afterRows d c t) ∙ walked-section d c t a b w);
             };
             second = an .second;

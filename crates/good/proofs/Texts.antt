@@ -30,10 +30,12 @@ use Rattle.entry_next.specs.Counted.{trackAfter, afterInside, textRead}
 use Rattle.entry_next.specs.Parts.{seenAfter, partAfter}
 use Rattle.entry_next.specs.Parts.{bibChange, underChange}
 use Rattle.entry.specs.Verdict.{roleOf, isDone}
+use Rattle.rules.proofs.NoColumns.{when-none, none-when}
+use Rattle.rules.proofs.ByKind.{clean-text}
 use Rattle.good.specs.Parts.{Record}
 use Rattle.good.specs.Marks.{Marked, nameOf}
 use Rattle.good.specs.Bib.{placeOf, pointersIn}
-use Rattle.good.proofs.Steps.{Takes, next, Passes, when-none, none-when, takes-marked, takes-own, own-takes}
+use Rattle.good.proofs.Steps.{Takes, next, Passes, MarkedFor, takes-marked, marked-every}
 use Rattle.good.proofs.Runs.{role-at, Run, afterRun, pass-run, run-pass, run-left}
 use Rattle.good.proofs.Moves.{Moved, still, moved-on, recount}
 use Rattle.good.proofs.Lists.{Long, places-joined, pointers-joined}
@@ -252,11 +254,10 @@ text-fine : (c : Context) (identification : List ℕ) (n : ℕ) (before under : 
 unfolding expectedIdentification expectedSequence fieldsOf rule10 rule11Text
 text-fine c identification n before under r h o t =
     let m = takes-marked c TEXT r t in
-    let own = takes-own c TEXT r t in
-    let k = when-none (keywordFault (c .seen .bib) (c .track) (placeOf r)) 1 (omega arith) (own .1 .1 .1 .0) in
+    let k = when-none (keywordFault (c .seen .bib) (c .track) (placeOf r)) 1 (t .1 .ten refl) in
     let bad = badPointer (placeOf r) in
     let again = pointerRepeated (c .seen .under) (placeOf r) in
-    let p = when-none (bad || again) 11 (omega arith) (own .1 .1 .1 .1 .0) in (
+    let p = when-none (bad || again) 11 (t .1 .eleven-text refl) in (
       rw (h .identified, h .sequenced) at m,
       record {
         other = o;
@@ -270,23 +271,13 @@ fine-text : (c : Context) (identification : List ℕ) (n : ℕ) (before under : 
     → Holding c identification n before under → Marked identification n r → TextFine before under r → Takes c TEXT r
 unfolding expectedIdentification expectedSequence fieldsOf rule10 rule11Text
 fine-text c identification n before under r h m f =
-    own-takes c TEXT r (rw (h .identified, h .sequenced) m) refl (
-      refl,
-      (
-        refl,
-        (
-          refl,
-          (
-            none-when (keywordFault (c .seen .bib) (c .track) (placeOf r)) 1
-                (rw (h .section, h .bib, places-joined before (h .long)) (f .keyword)),
-            (
-              none-when (badPointer (placeOf r) || pointerRepeated (c .seen .under) (placeOf r)) 11
-                  (rw (f .pointer, h .under-is, pointers-joined under (h .long-under)) (f .repeated)),
-              (refl, (refl, (refl, (refl, tt)))),
-            ),
-          ),
-        ),
-      ),
+    let marked : MarkedFor c TEXT r = rw (h .identified, h .sequenced) m in (
+      m .whole,
+      clean-text (c .track) (c .seen) TEXT (fieldsOf r) r (marked-every c TEXT r marked refl) refl
+          (none-when (keywordFault (c .seen .bib) (c .track) (placeOf r)) 1
+          (rw (h .section, h .bib, places-joined before (h .long)) (f .keyword)))
+          (none-when (badPointer (placeOf r) || pointerRepeated (c .seen .under) (placeOf r)) 11
+          (rw (f .pointer, h .under-is, pointers-joined under (h .long-under)) (f .repeated))),
     )
 
 -- the judge's run over text records, with and without its contexts

@@ -1,25 +1,28 @@
 -- A row of units. Assumes nothing.
 use Prim.Native.Nat.{ℕ, _+_, _-_, _*_, _<_, _≤_}
-use mathlib.Core.Path.{_≡_, refl, ap}
+use mathlib.Core.Path.{_≡_, refl}
 use mathlib.Core.Bool.{Bool, true, false}
 use mathlib.Core.Logic.{_↔_}
 use mathlib.Core.List.{List, [], _∷_, _++_}
 use native.Mathlib.Omega.{arith}
 use lib.ListN.{length}
 use borrow.Author.Tests.{lt-ltb, le-ltb, not-false}
+use lib.Dec.{eqb}
 use Rattle.laws.specs.Walk.{All}
 use Rattle.laws.proofs.Search.{either}
 use Rattle.columns.specs.Columns.{recordsFor}
 use Rattle.columns.specs.Fields.{fieldAt, fieldsOf, inField}
 use Rattle.record.specs.Word.{isUnit, unitFault, blankTo}
 use Rattle.rules_state.specs.State.{Context, used}
-use Rattle.rules_state.specs.Fault.{leftmost, fieldColumn}
+use Rattle.rules_state.specs.Role.{NOT-DUE, isUnit as unitRole}
+use Rattle.rules_state.specs.Fault.{fieldColumn}
 use Rattle.rules_section.specs.Headings.{rule12Unit}
-use Rattle.rules.proofs.WithoutFault.{where-none}
+use Rattle.rules.proofs.NoColumns.{where-none, none-where}
+use Rattle.rules.proofs.ByKind.{clean-unit}
 use Rattle.good.specs.Parts.{Record}
 use Rattle.good.specs.Marks.{Following}
 use Rattle.good.specs.Tables.{cell, UnitCell, BlankCell, GoodUnits}
-use Rattle.good.proofs.Steps.{Takes, MarkedFor, none-where, takes-own, own-takes}
+use Rattle.good.proofs.Steps.{Takes, MarkedFor, marked-every}
 use Rattle.good.proofs.Runs.{Run, afterRun}
 use Rattle.good.proofs.Systems.{identificationIn}
 use Rattle.good.proofs.Rows.{units, roleFor, RowAt, NoEnd}
@@ -27,17 +30,24 @@ use Rattle.good.proofs.Rowwise.{RowFine, run-row, BehindRow, behind-row
 use Rattle.good.proofs.Cells.{field-at, few, few-used, few-below, few-past, Cells, fine-used, fine-unused}
 use Rattle.good.proofs.Cells.{cells-here, used-there, unused-there}
 
+-- ---- rule 12
+
+unit-role : (d : Bool) → (unitRole (roleFor units d) ≡ true) × (eqb (roleFor units d) NOT-DUE ≡ false)
+unit-role false = (refl, refl)
+unit-role true = (refl, refl)
+
 unit-rule : (d : Bool) (c : Context) (r : Record) → Takes c (roleFor units d) r
-    → leftmost (rule12Unit (c .track) (fieldsOf r)) ≡ 0
-unit-rule false c r t = takes-own c (roleFor units false) r t .1 .1 .1 .1 .1 .0
-unit-rule true c r t = takes-own c (roleFor units true) r t .1 .1 .1 .1 .1 .0
+    → rule12Unit (c .track) (fieldsOf r) ≡ []
+unit-rule d c r t = t .1 .twelve-unit (unit-role d .0)
 
 rule-unit : (d : Bool) (c : Context) (r : Record) → MarkedFor c (roleFor units d) r
-    → leftmost (rule12Unit (c .track) (fieldsOf r)) ≡ 0 → Takes c (roleFor units d) r
-rule-unit false c r m e =
-    own-takes c (roleFor units false) r m refl (refl, (refl, (refl, (refl, (refl, (e, (refl, (refl, (refl, tt)))))))))
-rule-unit true c r m e =
-    own-takes c (roleFor units true) r m refl (refl, (refl, (refl, (refl, (refl, (e, (refl, (refl, (refl, tt)))))))))
+    → rule12Unit (c .track) (fieldsOf r) ≡ [] → Takes c (roleFor units d) r
+rule-unit d c r m e =
+    let role = roleFor units d in
+    let (kind, due) = unit-role d in
+    (m .whole, clean-unit (c .track) (c .seen) role (fieldsOf r) r (marked-every c role r m due) kind e)
+
+-- ---- a record of units
 
 abbrev UnitsFine : ℕ → List Record → ℕ → Record → Type 0
 UnitsFine rest before m r = Cells UnitCell BlankCell rest r
@@ -52,8 +62,7 @@ units-to : (d : Bool) (c : Context) (rest : ℕ) (before : List Record) (m : ℕ
     → c .track .table .rest ≡ rest → Unit {0} → Takes c (roleFor units d) r → UnitsFine rest before m r
 unfolding rule12Unit unitFault
 units-to d c rest before m r e k t =
-    let h = where-none (inField (unitFault (used (c .track))) (fieldsOf r)) fieldColumn 6 (λ k. omega arith)
-    (unit-rule d c r t) in
+    let h = where-none (inField (unitFault (used (c .track))) (fieldsOf r)) fieldColumn 6 (unit-rule d c r t) in
     record {
       used = λ j l a.
           not-false (isUnit (fieldAt r j))
@@ -69,12 +78,12 @@ units-from : (d : Bool) (c : Context) (rest : ℕ) (before : List Record) (m : �
 unfolding rule12Unit unitFault
 units-from d c rest before m r e k mk f =
     rule-unit d c r mk
-    (ap leftmost (none-where (inField (unitFault (used (c .track))) (fieldsOf r)) fieldColumn 6
+    (none-where (inField (unitFault (used (c .track))) (fieldsOf r)) fieldColumn 6
     (λ j l.
     rw (few-used (c .track) rest e, field-at r j l)
     (either j rest
     (λ a. rw (lt-ltb j (few rest) (few-below rest j l a), f .used j l a))
-    (λ a. rw (le-ltb j (few rest) (few-past rest j l a), f .unused j l a))))))
+    (λ a. rw (le-ltb j (few rest) (few-past rest j l a), f .unused j l a)))))
 
 -- the judge's run over a row of units
 run-units : (d : Bool) (n last line rest : ℕ) (c : Context) (identification : List ℕ) (s : ℕ)

@@ -20,13 +20,15 @@ use Rattle.columns.specs.Fields.{fieldAt, fieldsOf, inField, firstField}
 use Rattle.record.specs.Numbers.{formAt, saysBlank, saysNumber, noValue, valueFault, isNumberAt, valuesOf}
 use Rattle.rules_state.specs.declared.state.Table.{Table}
 use Rattle.rules_state.specs.State.{Context, used}
-use Rattle.rules_state.specs.Fault.{when, columnsWhere, leftmost, fieldColumn}
+use Rattle.rules_state.specs.Role.{NOT-DUE, isValue}
+use Rattle.rules_state.specs.Fault.{when, columnsWhere, fieldColumn}
 use Rattle.rules_section.specs.Values.{optional, blankFields, lineBlank, rule15, valuesFor}
-use Rattle.rules.proofs.WithoutFault.{where-none}
+use Rattle.rules.proofs.NoColumns.{when-none, append-none, where-none, none-where}
+use Rattle.rules.proofs.ByKind.{clean-value}
 use Rattle.good.specs.Parts.{Record}
 use Rattle.good.specs.Marks.{Following}
 use Rattle.good.specs.Tables.{cell, Value, BlankValue, isNumber, numbersIn, GoodValues}
-use Rattle.good.proofs.Steps.{Takes, next, MarkedFor, none-where, takes-own, own-takes}
+use Rattle.good.proofs.Steps.{Takes, next, MarkedFor, marked-every}
 use Rattle.good.proofs.Runs.{Run, afterRun}
 use Rattle.good.proofs.Systems.{identificationIn}
 use Rattle.good.proofs.Rows.{values, roleFor, numbersOf, lastOf, row-step, RowAt, NoEnd}
@@ -36,25 +38,24 @@ use Rattle.good.proofs.Cells.{cell-there, Cells, fine-used, fine-unused
 
 -- ---- rule 15
 
+value-role : (d : Bool) → (isValue (roleFor values d) ≡ true) × (eqb (roleFor values d) NOT-DUE ≡ false)
+value-role false = (refl, refl)
+value-role true = (refl, refl)
+
 value-rule : (d : Bool) (c : Context) (r : Record) → Takes c (roleFor values d) r
-    → leftmost (rule15 (c .track) (roleFor values d) (fieldsOf r)) ≡ 0
-value-rule false c r t = takes-own c (roleFor values false) r t .1 .1 .1 .1 .1 .1 .1 .1 .0
-value-rule true c r t = takes-own c (roleFor values true) r t .1 .1 .1 .1 .1 .1 .1 .1 .0
+    → rule15 (c .track) (roleFor values d) (fieldsOf r) ≡ []
+value-rule d c r t = t .1 .fifteen (value-role d .0)
 
 rule-value : (d : Bool) (c : Context) (r : Record) → MarkedFor c (roleFor values d) r
-    → leftmost (rule15 (c .track) (roleFor values d) (fieldsOf r)) ≡ 0 → Takes c (roleFor values d) r
-rule-value false c r m e =
-    own-takes c (roleFor values false) r m refl (refl, (refl, (refl, (refl, (refl, (refl, (refl, (refl, (e, tt)))))))))
-rule-value true c r m e =
-    own-takes c (roleFor values true) r m refl (refl, (refl, (refl, (refl, (refl, (refl, (refl, (refl, (e, tt)))))))))
+    → rule15 (c .track) (roleFor values d) (fieldsOf r) ≡ [] → Takes c (roleFor values d) r
+rule-value d c r m e =
+    let role = roleFor values d in
+    let (kind, due) = value-role d in
+    (m .whole, clean-value (c .track) (c .seen) role (fieldsOf r) r (marked-every c role r m due) kind e)
 
 optional-is : (d : Bool) → optional (roleFor values d) ≡ d
 optional-is false = refl
 optional-is true = refl
-
-when-append : (b : Bool) (xs : List ℕ) → leftmost (when b 1 ++ xs) ≡ 0 → (b ≡ false) × (leftmost xs ≡ 0)
-when-append true xs e = absurd (omega arith)
-when-append false xs e = (refl, e)
 
 says-blank : (x : Form) → not (saysBlank x) ≡ false → x ≡ Form.Blank
 says-blank Form.Blank e = refl
@@ -84,15 +85,15 @@ unfolding rule15
 fields-fine d c r t =
     let role = roleFor values d in
     let (a, b) =
-    when-append (lineBlank (c .track) role (fieldsOf r))
+    append-none (when (lineBlank (c .track) role (fieldsOf r)) 1)
     (columnsWhere (inField (valueFault (optional role) (used (c .track))) (fieldsOf r)) fieldColumn 6)
     (value-rule d c r t) in (
-      a,
+      when-none (lineBlank (c .track) role (fieldsOf r)) 1 a,
       record {
         none = λ j l.
             rw (optional-is d) at
             (where-none (inField (valueFault (optional role) (used (c .track))) (fieldsOf r)) fieldColumn 6
-            (λ k. omega arith) b j l);
+            b j l);
       },
     )
 
@@ -229,9 +230,8 @@ unfolding rule15
 values-from d c rest before m r e b mk f =
     rule-value d c r mk
     (rw (no-blank d c rest m r e b f, optional-is d)
-    (ap leftmost
     (none-where (inField (valueFault d (used (c .track))) (fieldsOf r)) fieldColumn 6
-    (cells-fine d c rest r e (f .cells) .none))))
+    (cells-fine d c rest r e (f .cells) .none)))
 
 values-onward : (d : Bool) (c : Context) (rest : ℕ) (before : List Record) (m : ℕ) (r : Record)
     → c .track .table .rest ≡ rest → LineBlank c before m → 6 < rest → Takes c (roleFor values d) r

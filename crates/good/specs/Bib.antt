@@ -6,12 +6,12 @@ use mathlib.Core.List.{List, [], _∷_, map}
 use lib.Dec.{eqb}
 use lib.ListN.{length}
 use Rattle.laws.specs.Walk.{All}
-use Rattle.columns.specs.Fields.{fieldAt}
+use Rattle.columns.specs.Fields.{fieldAt, fieldsOf, n1, n2}
 use Rattle.columns.specs.Text.{isBlank}
 use Rattle.record.specs.Word.{equalTo, blankTo, isWord, pointerOf, badPointer}
 use Rattle.record.specs.Identifier.{BIB, NOBIB, ENDBIB, OTHER}
 use Rattle.good.specs.Parts.{Record, Keyword, Bib, Section, present, absent, textsOf}
-use Rattle.good.specs.Marks.{nameOf, n1, n2, Says, Once}
+use Rattle.good.specs.Marks.{nameOf, Says, Once}
 
 -- "BIB: columns 1-10 a keyword (word) or blank, 11 a pointer or blank, 12-66 text."
 abbrev pub placeOf : Record → List ℕ
@@ -45,13 +45,13 @@ keywordPlaces ks = map (λ k. placeOf (k .first)) ks
 -- records between"
 pub record GoodBib (b : Bib) : Type 0 where
   pub opens : nameOf (b .opening) ≡ BIB
-  pub keywords : Says (n1 (b .opening)) (length (b .keywords))
+  pub keywords : Says (n1 (fieldsOf (b .opening))) (length (b .keywords))
   pub least : 1 ≤ length (b .keywords)
-  pub records : Says (n2 (b .opening)) (length (textsOf (b .keywords)))
+  pub records : Says (n2 (fieldsOf (b .opening))) (length (textsOf (b .keywords)))
   pub each : All GoodKeyword (b .keywords)
   pub once : Once (equalTo 10) [] (keywordPlaces (b .keywords))
   pub ends : nameOf (b .ending) ≡ ENDBIB
-  pub between : Says (n1 (b .ending)) (length (textsOf (b .keywords)))
+  pub between : Says (n1 (fieldsOf (b .ending))) (length (textsOf (b .keywords)))
 
 -- "BIB section or NOBIB"
 abbrev pub GoodBibPart : Section Bib → Type 0

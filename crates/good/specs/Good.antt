@@ -6,12 +6,13 @@ use mathlib.Core.List.{List}
 use lib.ListN.{length}
 use Rattle.laws.specs.Walk.{All}
 use Rattle.laws.specs.Blocks.{joined}
+use Rattle.columns.specs.Fields.{fieldsOf, n1, n2}
 use Rattle.record.specs.Identifier.{ENTRY, ENDENTRY}
 use Rattle.record.specs.System.{isEntryN1, isDate}
 use Rattle.record.specs.Expected.{accessionOf, identificationFor, entryAccession}
 use Rattle.rules_state.specs.State.{MOST-RECORDS}
 use Rattle.good.specs.Parts.{Record, Entry, recordsOf}
-use Rattle.good.specs.Marks.{Marked, nameOf, n1, n2, Says}
+use Rattle.good.specs.Marks.{Marked, nameOf, Says}
 use Rattle.good.specs.Subentries.{GoodFirst, GoodSubentry, Rising}
 
 -- ---- a good entry
@@ -19,14 +20,14 @@ use Rattle.good.specs.Subentries.{GoodFirst, GoodSubentry, Rising}
 -- "ENTRY | 6 blanks, accession (capital or digit, then 4 digits) | date"; "subentry 000 on ENTRY"; "Sequence 00001"
 pub record GoodOpening (r : Record) : Type 0 where
   pub named : nameOf r ≡ ENTRY
-  pub numbered : isEntryN1 (n1 r) ≡ true
-  pub dated : isDate (n2 r) ≡ true
-  pub marked : Marked (identificationFor (entryAccession (n1 r)) 0) 1 r
+  pub numbered : isEntryN1 (n1 (fieldsOf r)) ≡ true
+  pub dated : isDate (n2 (fieldsOf r)) ≡ true
+  pub marked : Marked (identificationFor (entryAccession (n1 (fieldsOf r))) 0) 1 r
 
 -- "ENDENTRY | subentries, NOSUBENT included"; "999 on ENDENTRY"; "99999 on .. ENDENTRY"
 pub record GoodEnding (accession : List ℕ) (subentries : ℕ) (r : Record) : Type 0 where
   pub named : nameOf r ≡ ENDENTRY
-  pub counted : Says (n1 r) subentries
+  pub counted : Says (n1 (fieldsOf r)) subentries
   pub marked : Marked (identificationFor accession 999) 99999 r
 
 -- SUBENTs and NOSUBENTs

@@ -38,13 +38,6 @@ Following identification n (r ∷ rs) = Marked identification n r × Following i
 abbrev pub nameOf : Record → ℕ
 nameOf r = identifierOf (fieldAt r 0)
 
--- "N1 is columns 12-22, N2 23-33."
-abbrev pub n1 : Record → List ℕ
-n1 r = fieldAt r 1
-
-abbrev pub n2 : Record → List ℕ
-n2 r = fieldAt r 2
-
 -- "A count is blanks, then digits up to the last column.": the field says this number
 abbrev pub Says : List ℕ → ℕ → Type 0
 Says f n = countOf f ≡ Number n

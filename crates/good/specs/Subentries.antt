@@ -7,15 +7,15 @@ use lib.Dec.{eqb}
 use lib.ListN.{length}
 use Rattle.laws.specs.Members.{anyOf}
 use Rattle.laws.specs.Walk.{All}
-use Rattle.columns.specs.Columns.{columnsAt}
 use Rattle.columns.specs.Text.{isBlank}
+use Rattle.columns.specs.Fields.{fieldsOf, n1, n2}
 use Rattle.record.specs.Word.{equalTo, pointerOf}
 use Rattle.record.specs.Identifier.{SUBENT, NOSUBENT, ENDSUBENT}
 use Rattle.record.specs.System.{isSubentN1, isDate, subentryOf}
-use Rattle.record.specs.Expected.{identificationFor, subentIdentification}
+use Rattle.record.specs.Expected.{identificationFor, subentIdentification, subentAccession}
 use Rattle.rules_state.specs.State.{LAST-SUBENTRY}
 use Rattle.good.specs.Parts.{Record, First, Later, Subentry, nosubent, subent, bodyOfFirst, bodyOf}
-use Rattle.good.specs.Marks.{Marked, Following, nameOf, n1, n2, Says, Once}
+use Rattle.good.specs.Marks.{Marked, Following, nameOf, Says, Once}
 use Rattle.good.specs.Bib.{GoodBibPart, pointersIn, textsOfPart}
 use Rattle.good.specs.Tables.{GoodCommonPart, GoodDataPart, headingsOfPart}
 
@@ -25,20 +25,20 @@ use Rattle.good.specs.Tables.{GoodCommonPart, GoodDataPart, headingsOfPa
 -- SUBENT and NOSUBENT"; "On .. SUBENT and NOSUBENT, number 5 compares bytes with the record's own N1"
 pub record Opens (name : ℕ) (accession : List ℕ) (r : Record) : Type 0 where
   pub named : nameOf r ≡ name
-  pub numbered : isSubentN1 (n1 r) ≡ true
-  pub dated : isDate (n2 r) ≡ true
-  pub same : equalTo 5 (columnsAt 3 5 (n1 r)) accession ≡ true
-  pub marked : Marked (subentIdentification (n1 r)) 1 r
+  pub numbered : isSubentN1 (n1 (fieldsOf r)) ≡ true
+  pub dated : isDate (n2 (fieldsOf r)) ≡ true
+  pub same : equalTo 5 (subentAccession (n1 (fieldsOf r))) accession ≡ true
+  pub marked : Marked (subentIdentification (n1 (fieldsOf r))) 1 r
 
 -- the number of a subentry
 unfoldable pub ownNumber : Record → ℕ
-ownNumber r = subentryOf (n1 r)
+ownNumber r = subentryOf (n1 (fieldsOf r))
 
 -- "ENDSUBENT | records between"; "99999 on ENDSUBENT"; the records between follow SUBENT, each with "its own number"
 pub record Encloses (accession : List ℕ) (opening : Record) (body : List Record) (ending : Record) : Type 0 where
   pub between : Following (identificationFor accession (ownNumber opening)) 2 body
   pub named : nameOf ending ≡ ENDSUBENT
-  pub counted : Says (n1 ending) (length body)
+  pub counted : Says (n1 (fieldsOf ending)) (length body)
   pub marked : Marked (identificationFor accession (ownNumber opening)) 99999 ending
 
 -- ---- headings and pointers

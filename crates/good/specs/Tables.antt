@@ -10,20 +10,20 @@ use Rattle.laws.specs.Walk.{All}
 use Rattle.number.specs.declared.form.Form.{Form}
 use Rattle.number.specs.declared.form.Form.the-variants as Form
 use Rattle.columns.specs.Columns.{recordsFor}
-use Rattle.columns.specs.Fields.{fieldAt}
+use Rattle.columns.specs.Fields.{fieldAt, fieldsOf, n1, n2}
 use Rattle.record.specs.Word.{isWord, badPointer, isUnit, blankTo}
 use Rattle.record.specs.Identifier.{COMMON, NOCOMMON, ENDCOMMON, DATA, NODATA, ENDDATA, isEnd}
 use Rattle.record.specs.System.{countOf, isCount, numberOf}
 use Rattle.record.specs.Numbers.{formAt, saysNumber, noValue}
 use Rattle.rules_state.specs.State.{MOST-COLUMNS, MOST-LINES}
 use Rattle.good.specs.Parts.{Record, Table, Section, present, absent, rowsOf}
-use Rattle.good.specs.Marks.{nameOf, n1, n2, Says}
+use Rattle.good.specs.Marks.{nameOf, Says}
 
 -- ---- rows
 
 -- "columns, 1-18": N1 of COMMON and of DATA
 unfoldable pub columnsOf : Table → ℕ
-columnsOf t = numberOf (countOf (n1 (t .opening)))
+columnsOf t = numberOf (countOf (n1 (fieldsOf (t .opening))))
 
 -- the column c of a row, counted from 0: six to a record
 unfoldable pub cell : List Record → ℕ → List ℕ
@@ -80,19 +80,19 @@ headingsOf t = listOf (cell (t .headings)) 0 (columnsOf t)
 
 -- what COMMON and DATA have in common
 pub record GoodTable (t : Table) : Type 0 where
-  pub counted : isCount (countOf (n1 (t .opening))) ≡ true
+  pub counted : isCount (countOf (n1 (fieldsOf (t .opening)))) ≡ true
   pub least : 1 ≤ columnsOf t
   pub most : columnsOf t ≤ MOST-COLUMNS
   pub headings : GoodHeadings (columnsOf t) (t .headings)
   pub units : GoodUnits (columnsOf t) (t .units)
-  pub between : Says (n1 (t .ending)) (length (rowsOf t))
+  pub between : Says (n1 (fieldsOf (t .ending))) (length (rowsOf t))
 
 -- "COMMON has exactly 3k records": headings, units and one line, and N2 says so
 pub record GoodCommon (t : Table) : Type 0 where
   pub opens : nameOf (t .opening) ≡ COMMON
   pub table : GoodTable t
   pub one : length (t .lines) ≡ 1
-  pub records : Says (n2 (t .opening)) (3 * recordsFor (columnsOf t))
+  pub records : Says (n2 (fieldsOf (t .opening))) (3 * recordsFor (columnsOf t))
   pub values : All (GoodValues false (columnsOf t)) (t .lines)
   pub ends : nameOf (t .ending) ≡ ENDCOMMON
 
@@ -100,7 +100,7 @@ pub record GoodCommon (t : Table) : Type 0 where
 pub record GoodData (t : Table) : Type 0 where
   pub opens : nameOf (t .opening) ≡ DATA
   pub table : GoodTable t
-  pub lines : Says (n2 (t .opening)) (length (t .lines))
+  pub lines : Says (n2 (fieldsOf (t .opening))) (length (t .lines))
   pub least : 1 ≤ length (t .lines)
   pub most : length (t .lines) ≤ MOST-LINES
   pub values : All (GoodValues true (columnsOf t)) (t .lines)

@@ -6,7 +6,7 @@ use mathlib.Core.Bool.{Bool, true, false, cond}
 use mathlib.Core.List.{List, [], _∷_}
 use native.Mathlib.Omega.{arith}
 use native.Mathlib.Nat.{suc-mul, zero-mul}
-use lib.Dec.{eqb, leb}
+use lib.Dec.{eqb}
 use lib.ListN.{length, getD}
 use borrow.Author.Tests.{eqb-true, ne-eqb, le-leb}
 use Rattle.laws.specs.Blocks.{blockAt}
@@ -16,6 +16,7 @@ use Rattle.columns.specs.Text.{within}
 use Rattle.record.specs.Numbers.{noValue}
 use Rattle.number.specs.Form.{formOf}
 use Rattle.record.specs.Identifier.{COMMON, DATA}
+use Rattle.record.specs.System.{upTo}
 use Rattle.columns.specs.declared.columns.RecordNo.{RecordNo}
 use Rattle.columns.specs.declared.columns.LineNo.{LineNo}
 use Rattle.columns.specs.declared.columns.Place.{Place}
@@ -24,17 +25,19 @@ use Rattle.number.specs.declared.value.Reading.{Reading}
 use Rattle.number.specs.declared.value.Reading.the-variants.{Blank, Number, Refused}
 use Rattle.rules_system.specs.System.{countN1, countN2}
 use Rattle.rules_state.specs.Role.{NOT-DUE, isValue}
+use Rattle.rules_state.specs.State.{MOST-COLUMNS, MOST-LINES}
 use Rattle.entry.specs.Verdict.{roleOf, judgeOf, Accepted}
 use Rattle.rules.proofs.DueRecords.{fine-due}
 use Rattle.rules.proofs.WithoutFault.{fine-reads}
 use Rattle.entry.proofs.GoingOn.{go-fine}
 use Rattle.entry.specs.Contexts.{contextAt, roleAt}
+use Rattle.entry.specs.Answer.{firstOf, refusal}
 use Rattle.questions.specs.declared.row.Row.{Row}
 use Rattle.questions_places.specs.declared.place.Shape.{Shape}
 use Rattle.questions.specs.Row.{rowOf}
 use Rattle.questions_places.specs.Place.{COMMON-SECTION, DATA-SECTION, fieldsAt, shapeOf, headingPlace, unitPlace}
 use Rattle.questions_places.specs.Place.{fieldOf, byteOf}
-use Rattle.questions.specs.Ask.{firstOf, refusal, sectionIn, noSection, noLine, noColumn, sectionRefusals, valueRefusal}
+use Rattle.questions.specs.Ask.{sectionIn, noSection, noLine, noColumn, sectionRefusals, valueRefusal}
 use Rattle.questions.specs.Ask.{valueBy, valueOf, columnRefusal, headingBy, headingOf, unitBy, unitOf}
 use Rattle.inside.specs.Inside.{Opens, isSaid, ValueAnswered, HeadingAnswered, UnitAnswered}
 use Rattle.questions.proofs.Refusals.{section-none}
@@ -121,7 +124,7 @@ module _ (s : List ℕ) (accepted : Accepted s) (n : ℕ) (b : Bool) (a : ℕ) (
   unfolding shapeOf
   shape-columns =
       let f : fieldsAt s at ≡ fs = rw at-named (row-fields s accepted n (sectionOf b) a o) in
-      rw (f, le-leb (countN1 fs) 18 (begun .columns-to))
+      rw (f, le-leb (countN1 fs) MOST-COLUMNS (begun .columns-to))
 
   pub shape-lines : shapeOf s (sectionNo b) at .lines ≡ linesOf b fs
   unfolding shapeOf
@@ -129,9 +132,9 @@ module _ (s : List ℕ) (accepted : Accepted s) (n : ℕ) (b : Bool) (a : ℕ) (
       let f : fieldsAt s at ≡ fs = rw at-named (row-fields s accepted n (sectionOf b) a o) in
       rw f (by-section b (begun .lines-to))
     where
-      by-section : (b : Bool) → linesOf b fs ≤ 20000
-          → cond (eqb (sectionNo b) COMMON-SECTION) 1 (cond (leb (countN2 fs) 20000) (countN2 fs) 0) ≡ linesOf b fs
-      by-section true h = rw (le-leb (countN2 fs) 20000 h)
+      by-section : (b : Bool) → linesOf b fs ≤ MOST-LINES
+          → cond (eqb (sectionNo b) COMMON-SECTION) 1 (upTo MOST-LINES (countN2 fs)) ≡ linesOf b fs
+      by-section true h = rw (le-leb (countN2 fs) MOST-LINES h)
       by-section false h = refl
 
   section-there : firstOf (sectionRefusals s (judgeOf s) x at) ≡ 0

@@ -10,7 +10,7 @@ use lib.ListN.{getD}
 use borrow.Author.Tests.{eqb-true, leb-true, ltb-true}
 use Rattle.laws.specs.Turns.{go}
 use Rattle.laws.proofs.Booleans.{and-left, and-right, or-other, either-as}
-use Rattle.columns.specs.Fields.{fieldsOf}
+use Rattle.columns.specs.Fields.{fieldsOf, n1}
 use Rattle.record.specs.Identifier.{ENTRY, SUBENT, NOSUBENT, BIB, NOBIB, ENDBIB, COMMON, NOCOMMON, ENDCOMMON, DATA}
 use Rattle.record.specs.Identifier.{NODATA, ENDDATA, ENDSUBENT, ENDENTRY, OTHER, identifierOf, isEnd}
 use Rattle.record.specs.System.{subentryOf}
@@ -22,7 +22,6 @@ use Rattle.rules_state.specs.declared.state.Track.{Track}
 use Rattle.rules_state.specs.State.{Context, HEADINGS, UNITS}
 use Rattle.rules_state.specs.Role.{TEXT, NOT-DUE, isSystem, opensSubentry, isHeading, isUnit, isValue, bibRole, allRead}
 use Rattle.rules_state.specs.Role.{tableRole, dataRole, roleIn}
-use Rattle.rules_system.specs.Every.{n1}
 use Rattle.rules_system.specs.System.{numberDue}
 use Rattle.rules.proofs.DueRecords.{fine-due, fine-number}
 use Rattle.rules_state.proofs.EitherWay.{either-way}

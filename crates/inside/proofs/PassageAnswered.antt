@@ -18,13 +18,14 @@ use Rattle.columns.specs.declared.columns.RecordNo.{RecordNo}
 use Rattle.record.proofs.EqualColumns.{equal-both, equal-taken}
 use Rattle.rules_section.specs.Text.{placeAt}
 use Rattle.entry.specs.Verdict.{judgeOf, Accepted}
+use Rattle.entry.specs.Answer.{firstOf, refusal}
 use Rattle.questions.specs.declared.row.Row.{Row}
 use Rattle.questions_places.specs.declared.passage.Passage.{Passage}
 use Rattle.questions.specs.Row.{rowOf}
 use Rattle.questions_places.specs.Place.{firstByte}
 use Rattle.questions_places.specs.Passage.{textRecord, textAt, hasKeyword, isKeyword, begins, beginsWith}
 use Rattle.questions_places.specs.Passage.{firstText, passageUnder, passageOf}
-use Rattle.questions.specs.Ask.{firstOf, refusal, noSection, noPassage, sectionRefusals, passageRefusal, passageBy}
+use Rattle.questions.specs.Ask.{noSection, noPassage, sectionRefusals, passageRefusal, passageBy}
 use Rattle.questions.specs.Ask.{passageAnswer}
 use Rattle.questions.proofs.Refusals.{section-none}
 use Rattle.questions.proofs.RowChanges.{bib}

@@ -13,7 +13,7 @@ use borrow.Author.Tests.{eqb-true}
 use Rattle.laws.specs.Blocks.{blockAt}
 use Rattle.laws.proofs.Booleans.{either-as}
 use Rattle.columns.specs.Columns.{recordOf}
-use Rattle.columns.specs.Fields.{fieldsOf}
+use Rattle.columns.specs.Fields.{fieldsOf, n1}
 use Rattle.record.specs.Identifier.{SUBENT, NOSUBENT, BIB, COMMON, DATA, ENTRY, NOBIB, ENDBIB, NOCOMMON, ENDCOMMON}
 use Rattle.record.specs.Identifier.{NODATA, ENDDATA, ENDSUBENT, ENDENTRY, OTHER, identifierOf, isEnd}
 use Rattle.record.specs.System.{subentryOf}
@@ -24,19 +24,19 @@ use Rattle.rules_state.specs.declared.state.Phase.the-variants.{AfterCommon, In
 use Rattle.rules_state.specs.declared.state.Track.{Track}
 use Rattle.rules_state.specs.State.{Context, HEADINGS, UNITS}
 use Rattle.rules_state.specs.Role.{opensSubentry, bibRole, allRead, tableRole, dataRole, roleIn}
-use Rattle.rules_system.specs.Every.{n1}
 use Rattle.rules_state.proofs.EitherWay.{either-way}
 use Rattle.entry_next.specs.Due.{phaseAfter}
 use Rattle.entry.specs.Verdict.{Accepted}
 use Rattle.entry.specs.Contexts.{contextAt, roleAt}
 use Rattle.entry.proofs.Contexts.{records-at}
-use Rattle.questions.specs.Row.{rowOf}
+use Rattle.questions.specs.Row.{rowAt, rowOf}
 use Rattle.questions_places.specs.Place.{fieldsAt, identifierAt}
 use Rattle.questions.proofs.RowChanges.{Section, bib, common, table, opener, named, level, first-stays, first-set}
 use Rattle.questions.proofs.RowChanges.{section-stays, section-set}
+use Rattle.questions.proofs.RowNoted.{found-row}
 use Rattle.inside.proofs.Contexts.{Walked, walked}
 use Rattle.inside.proofs.Nesting.{rank, Unnumbered, unnumbered-turn, key, Nested, nested-turn}
-use Rattle.inside.proofs.RowWalked.{rowAt, found-row, number-of, row-next, fields-at}
+use Rattle.inside.proofs.RowWalked.{number-of, row-next, fields-at}
 
 -- ---- where sections and subentries open
 

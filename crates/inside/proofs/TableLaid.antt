@@ -14,7 +14,7 @@ use Rattle.columns.specs.Columns.{recordsFor}
 use Rattle.columns.specs.Fields.{fieldsOf}
 use Rattle.record.specs.Identifier.{COMMON, DATA}
 use Rattle.rules_state.specs.declared.state.Phase.{Phase}
-use Rattle.rules_state.specs.State.{Context}
+use Rattle.rules_state.specs.State.{Context, MOST-COLUMNS, MOST-LINES}
 use Rattle.rules_system.specs.System.{countN1, countN2}
 use Rattle.rules.proofs.DueRecords.{fine-common, fine-data}
 use Rattle.entry_next.specs.Due.{phaseAfter}
@@ -115,11 +115,11 @@ abbrev pub linesOf : Bool → List (List ℕ) → ℕ
 linesOf true fs = countN2 fs
 linesOf false fs = 1
 
-opened-data : (c : Context) (fs : List (List ℕ)) (r : List ℕ) → countN1 fs ≤ 18 → countN2 fs ≤ 20000
+opened-data : (c : Context) (fs : List (List ℕ)) (r : List ℕ) → countN1 fs ≤ MOST-COLUMNS → countN2 fs ≤ MOST-LINES
     → Laid true (c .track .subentry .number) (countN1 fs) (countN2 fs) 0 0 (contextAfter c DATA fs r)
 unfolding contextAfter phaseAfter trackAfter afterSystem
 opened-data c fs r a b =
-    rw (le-leb (countN1 fs) 18 a, le-leb (countN2 fs) 20000 b)
+    rw (le-leb (countN1 fs) MOST-COLUMNS a, le-leb (countN2 fs) MOST-LINES b)
     (record {
       phase = refl;
       subentry = refl;
@@ -130,11 +130,11 @@ opened-data c fs r a b =
       rest = omega arith;
     })
 
-opened-common : (c : Context) (fs : List (List ℕ)) (r : List ℕ) → countN1 fs ≤ 18
+opened-common : (c : Context) (fs : List (List ℕ)) (r : List ℕ) → countN1 fs ≤ MOST-COLUMNS
     → Laid false (c .track .subentry .number) (countN1 fs) 1 0 0 (contextAfter c COMMON fs r)
 unfolding contextAfter phaseAfter trackAfter afterSystem
 opened-common c fs r a =
-    rw (le-leb (countN1 fs) 18 a)
+    rw (le-leb (countN1 fs) MOST-COLUMNS a)
     (record {
       phase = refl;
       subentry = refl;
@@ -148,9 +148,9 @@ opened-common c fs r a =
 -- what a section's own record announces, and where the walk stands behind it
 pub record Opened (b : Bool) (s : List ℕ) (i : ℕ) : Type 0 where
   pub columns-from : 1 ≤ countN1 (fieldsOf (blockAt 81 s i))
-  pub columns-to : countN1 (fieldsOf (blockAt 81 s i)) ≤ 18
+  pub columns-to : countN1 (fieldsOf (blockAt 81 s i)) ≤ MOST-COLUMNS
   pub lines-from : 1 ≤ linesOf b (fieldsOf (blockAt 81 s i))
-  pub lines-to : linesOf b (fieldsOf (blockAt 81 s i)) ≤ 20000
+  pub lines-to : linesOf b (fieldsOf (blockAt 81 s i)) ≤ MOST-LINES
   pub laid :
       Laid b (contextAt s i .track .subentry .number) (countN1 (fieldsOf (blockAt 81 s i)))
       (linesOf b (fieldsOf (blockAt 81 s i))) 0 0 (contextAt s (suc i))

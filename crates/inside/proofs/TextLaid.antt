@@ -35,12 +35,13 @@ use Rattle.entry.proofs.Numbered.{whole-records}
 use Rattle.entry.specs.Contexts.{behind, contextAt, roleAt}
 use Rattle.entry.proofs.Contexts.{records-at}
 use Rattle.questions.specs.declared.row.Row.{Row}
-use Rattle.questions.specs.Row.{NONE, notedAs, rowOf}
+use Rattle.questions.specs.Row.{NONE, notedAs, rowAt, rowOf}
 use Rattle.questions_places.specs.Passage.{textRecords}
 use Rattle.questions.proofs.RowChanges.{Section, bib, common, table, opener, named, section-stays, section-set}
+use Rattle.questions.proofs.RowNoted.{found-row}
 use Rattle.inside.specs.Inside.{TextOf}
 use Rattle.inside.proofs.Contexts.{walked}
-use Rattle.inside.proofs.RowWalked.{rowAt, found-row, number-of, row-next}
+use Rattle.inside.proofs.RowWalked.{number-of, row-next}
 use Rattle.inside.proofs.RowFound.{Opening, row-fields}
 
 -- ---- one record

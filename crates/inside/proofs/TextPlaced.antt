@@ -13,8 +13,8 @@ use Rattle.laws.proofs.Booleans.{differ, either-as}
 use Rattle.columns.specs.Fields.{fieldsOf}
 use Rattle.record.specs.Identifier.{BIB, ENDBIB, OTHER, identifierOf}
 use Rattle.rules_state.specs.State.{Context}
-use Rattle.rules_state.specs.Role.{TEXT, NOT-DUE, only, bibRole, roleIn, inBib}
-use Rattle.rules_state.proofs.RolePlaces.{text-in-bib}
+use Rattle.rules_state.specs.Role.{TEXT, NOT-DUE, only, bibRole, roleIn}
+use Rattle.rules_state.proofs.RolePlaces.{inBib, text-in-bib}
 use Rattle.entry_next.specs.Due.{phaseAfter}
 use Rattle.entry_next.specs.Next.{contextAfter}
 use Rattle.entry_next.proofs.Following.{bib-led, one-of}

@@ -22,10 +22,11 @@ use Rattle.rules_state.specs.declared.fault.Fault.the-variants.{Fine}
 use Rattle.rules_state.specs.declared.state.Track.{Track}
 use Rattle.rules_state.specs.State.{Seen, Context}
 use Rattle.rules_state.specs.Role.{TEXT}
-use Rattle.rules_state.specs.Fault.{when, leftmost}
 use Rattle.rules_section.specs.Text.{placeAt, placesOf, pointersOf, keywordFault, rule10, pointerRepeated, rule11Text}
 use Rattle.rules.specs.Order.{faultOf}
-use Rattle.rules.proofs.WithoutFault.{none-found}
+use Rattle.rules.specs.Clean.{Clean}
+use Rattle.rules.proofs.NoColumns.{when-none}
+use Rattle.rules.proofs.Clean.{fine-clean}
 use Rattle.entry_next.specs.Parts.{partAfter, bibChange, underChange, seenAfter}
 use Rattle.entry_next.specs.Next.{contextAfter}
 use Rattle.entry.specs.Verdict.{roleOf, Accepted}
@@ -62,17 +63,14 @@ bib-emptied c r role = rw role
 
 -- ---- rules 10 and 11 on a record without fault
 
-none-when : (t : Bool) (k : ℕ) → leftmost (when t (suc k)) ≡ 0 → t ≡ false
-none-when true k e = absurd (omega arith)
-none-when false k e = refl
-
 module _ (t : Track) (seen : Seen) (role : ℕ) (fs : List (List ℕ)) (r : List ℕ)
     (fine : faultOf t seen role fs r ≡ Fine) (text : role ≡ TEXT) (f : List ℕ) (own : getD fs 0 [] ≡ f) where
+  clean : Clean t seen role fs r
+  clean = fine-clean t seen role fs r fine
+
   fine-10 : keywordFault (seen .bib) t f ≡ false
   unfolding rule10
-  fine-10 =
-      let found = none-found t seen role fs r fine .1 .1 .1 .1 .1 .1 .1 .1 .0 in
-      none-when (keywordFault (seen .bib) t f) 0 (rw (text, own) at found)
+  fine-10 = when-none (keywordFault (seen .bib) t f) 1 (rw own at (clean .ten (eq-eqb role TEXT text)))
 
   -- 10: its keyword is none of the section so far
   fine-keyword : blankTo 10 f ≡ false → anyOf (equalTo 10 f) (placesOf (seen .bib)) ≡ false
@@ -93,10 +91,10 @@ module _ (t : Track) (seen : Seen) (role : ℕ) (fs : List (List ℕ)) (r : List
       → anyOf (eqb (pointerOf f)) (pointersOf (seen .under)) ≡ false
   unfolding rule11Text
   fine-pointer e p =
-      let found = none-found t seen role fs r fine .1 .1 .1 .1 .1 .1 .1 .1 .1 .0 in
       let none =
       or-right (badPointer f) (pointerRepeated (seen .under) f)
-      (none-when (badPointer f || pointerRepeated (seen .under) f) 10 (rw (text, own) at found)) in
+      (when-none (badPointer f || pointerRepeated (seen .under) f) 11
+      (rw own at (clean .eleven-text (eq-eqb role TEXT text)))) in
       rw (p, e) at none
 
 -- ---- in an accepted entry

@@ -7,8 +7,6 @@ pub mod Blocks
 pub mod Agree
 pub mod Copies
 pub mod Replacing
-pub mod Pasting
-pub mod Seeking
 pub mod Bits
 pub mod Promise
 pub mod Booleans

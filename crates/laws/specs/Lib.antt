@@ -6,5 +6,3 @@ pub mod Walk
 pub mod Blocks
 pub mod Copies
 pub mod Replacing
-pub mod Seeking
-pub mod Pasting

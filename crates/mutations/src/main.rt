@@ -4,6 +4,7 @@ ghost use Prim.Native.Nat.{_<_};
 ghost use lib.ListN.{length};
 use entry::verdict::Verdict;
 use entry::verdict::judge;
+use program_text::say_line;
 use std::num::wrapping_add_u32;
 
 // How many cases got each refusal number, and the checksum.
@@ -86,23 +87,16 @@ fn cut_each(entry: &[u8], tally: Tally) -> Tally {
     after
 }
 
-fn put_line(number: u64, count: u32) {
-    io::print_decimal(1, number);
-    io::write_all(1, b" ");
-    io::print_decimal(1, count as u64);
-    io::write_all(1, b"\n");
-}
-
 fn put_tally(tally: Tally) {
     let counts = tally.counts;
     let mut i: usize = 0;
     while i < 17 {
-        put_line(i as u64, counts[i]);
+        let count = counts[i] as u64;
+        say_line(b"", &[i as u64, count]);
         i += 1;
     }
-    io::write_all(1, b"checksum ");
-    io::print_decimal(1, tally.sum as u64);
-    io::write_all(1, b"\n");
+    let sum = tally.sum as u64;
+    say_line(b"checksum ", &[sum]);
 }
 
 fn run(entry: &mut [u8]) {

@@ -12,14 +12,15 @@ use lib.Dec.{eqb}
 use lib.Pow.{pow-add}
 use lib.IntN.{ℤ, pos, negsuc, _+ℤ_, +ℤ-idr, +ℤ-comm, +ℤ-invl}
 use Rattle.number.specs.declared.value.Decimal.{Decimal}
-use Rattle.number.specs.Value.{decimal, zeroDecimal, SameSize, Normal, Value, Trimmed, trimFrom, trim, valueOf}
+use Rattle.number.specs.declared.value.Trim.{Trim}
+use Rattle.number.specs.Value.{decimal, zeroDecimal, SameSize, Normal, Value, trimFrom, trim, valueOf}
 use Rattle.number.proofs.Sums.{plus-swap, plus-plus, plus-cancel}
 use Rattle.number.proofs.Tens.{ten-suc, ten-pos, ten-cancel}
 
 -- ---- last zeros
 
 -- r is n without its last zeros, of which k were dropped besides z
-pub record Bare (n z : ℕ) (r : Trimmed) : Type 0 where
+pub record Bare (n z : ℕ) (r : Trim) : Type 0 where
   pub k : ℕ
   pub zeros : r .zeros ≡ z + k
   pub whole : n ≡ r .number * 10 ^ k

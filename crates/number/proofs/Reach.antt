@@ -22,7 +22,7 @@ blanks-more : (k : ℕ) → blanks k ++ (32 ∷ []) ≡ blanks (suc k)
 blanks-more zero = refl
 blanks-more (suc k) = rw (blanks-more k) refl
 
-text-append : (a b : List ℕ) → text (a ++ b) ≡ text a ++ text b
+pub text-append : (a b : List ℕ) → text (a ++ b) ≡ text a ++ text b
 text-append [] b = refl
 text-append (d ∷ a) b = rw (text-append a b) refl
 

@@ -7,9 +7,8 @@ use native.Mathlib.Nat.{add-comm, mul-pos, mul-assoc, one-mul, mul-le-mul-right}
 use native.Mathlib.Omega.{arith}
 use borrow.Author.Tests.{ne-eqb}
 use lib.IntN.{ℤ, pos, _+ℤ_}
-use Rattle.number.specs.declared.walk.Trim.{Trim}
+use Rattle.number.specs.declared.value.Trim.{Trim}
 use Rattle.number.specs.Value.{decimal, trim, valueOf}
-use Rattle.number.specs.Walk.{Trims}
 use Rattle.number.proofs.Tens.{ten-more, ten-pos, ten-lt}
 use Rattle.number.proofs.Equation.{not-zero, trim-bare, bare-one}
 
@@ -25,7 +24,7 @@ module _ (n v z : ℕ) (h : 0 < v) (e : n ≡ v * 10 ^ z) where
       let g : v ≡ v / 10 * 10 = omega arith in
       e ∙ ap (λ (x : ℕ). x * 10 ^ z) g ∙ mul-assoc (v / 10) 10 (10 ^ z) ∙ ap (λ (x : ℕ). v / 10 * x) (sym (ten-more z))
 
-  pub trimmed : (v % 10 ≡ 0 → ⊥) → Trims (trim n) (record { number = v; zeros = z })
+  pub trimmed : (v % 10 ≡ 0 → ⊥) → record { number = v; zeros = z } ≡ trim n
   trimmed b =
       let g : 0 < n = rw e (mul-pos h (ten-pos z)) in
       let t = trim-bare n g in
@@ -33,7 +32,8 @@ module _ (n v z : ℕ) (h : 0 < v) (e : n ≡ v * 10 ^ z) where
       bare-one {p = pos z} {q = pos (t .k)}
       (record { m = z; n = t .k; powers = ap pos (add-comm z (t .k)); numbers = sym e ∙ t .whole }) b (t .bare) in
       let k : z ≡ t .k = cc in
-      record { number = x; zeros = omega (arith, t .zeros) }
+      let e : z ≡ trim n .zeros = omega (arith, t .zeros) in
+      rw (x, e) refl
 
 -- a number that fits 64 bits has fewer than 20 last zeros
 pub zeros-few : (n : ℕ) → 0 < n → n < 2 ^ 64 → trim n .zeros < 20
@@ -44,7 +44,7 @@ zeros-few n h l =
     omega (arith, t .zeros)
 
 -- the value, with the power as the code makes it
-pub made-value : (g : Bool) (n : ℕ) (p q : ℤ) (r : Trim) → Trims (trim n) r → (n ≡ 0 → ⊥) → q ≡ p +ℤ pos (r .zeros)
+pub made-value : (g : Bool) (n : ℕ) (p q : ℤ) (r : Trim) → r ≡ trim n → (n ≡ 0 → ⊥) → q ≡ p +ℤ pos (r .zeros)
     → decimal g (r .number) q ≡ valueOf g n p
 unfolding valueOf
-made-value g n p q r t h e = rw (ne-eqb n 0 h, e, t .number, t .zeros) refl
+made-value g n p q r t h e = rw (ne-eqb n 0 h, e, t) refl

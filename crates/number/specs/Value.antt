@@ -16,6 +16,7 @@ use lib.Signed.{_≤ℤ_, _<ℤ_}
 use Rattle.number.specs.declared.value.Decimal.{Decimal}
 use Rattle.number.specs.declared.value.Reading.{Reading}
 use Rattle.number.specs.declared.value.Reading.the-variants.{Blank, Number, Refused}
+use Rattle.number.specs.declared.value.Trim.{Trim}
 use Rattle.number.specs.Grammar.{blanks, num, minus, below, Tail, plain, power, Field, Spells}
 
 abbrev pub decimal : Bool → ℕ → ℤ → Decimal
@@ -76,18 +77,14 @@ pub data Says (l : List ℕ) : Reading → Type 0 where
 
 -- ---- how it is worked out
 
--- a number without its last zeros, and how many those were
-pub record Trimmed : Type 0 where
-  pub number : ℕ
-  pub zeros : ℕ
-
--- `ends` says whether the number ends in a zero; a number has fewer zeros than it is large
-unfoldable pub trimFrom : ℕ → Bool → ℕ → ℕ → Trimmed
+-- a number without its last zeros, and how many those were; `ends` says whether the number ends in a zero. A number
+-- has fewer zeros than it is large.
+unfoldable pub trimFrom : ℕ → Bool → ℕ → ℕ → Trim
 trimFrom zero ends c z = record { number = c; zeros = z }
 trimFrom (suc n) false c z = record { number = c; zeros = z }
 trimFrom (suc n) true c z = trimFrom n (eqb (c / 10 % 10) 0) (c / 10) (z + 1)
 
-unfoldable pub trim : ℕ → Trimmed
+unfoldable pub trim : ℕ → Trim
 trim c = trimFrom c (eqb (c % 10) 0) c 0
 
 -- the last zeros go to the power

@@ -7,10 +7,8 @@ use lib.Dec.{eqb, leb}
 use lib.ListN.{length, getD, drop}
 use Rattle.number.specs.declared.value.Reading.{Reading}
 use Rattle.number.specs.declared.value.Reading.the-variants.{Refused}
-use Rattle.number.specs.declared.walk.Trim.{Trim}
 use Rattle.number.specs.declared.walk.Front.{Front}
 use Rattle.number.specs.declared.walk.Exponent.{Exponent}
-use Rattle.number.specs.Value.{Trimmed}
 use Rattle.number.specs.Reading.{Mantissa, mantissa, Scan, Lead, Fraction, Gap, scanOf, said, finish, readField}
 
 -- what is read from column i on, where the reading stands at t
@@ -74,9 +72,3 @@ raised r m = cond (r .formed) (said m (r .below) (r .size)) (Refused 15)
 pub record Raises (s : List ℕ) (i : ℕ) (t : Mantissa → Scan) (r : Exponent) : Type 0 where
   pub reads : (m : Mantissa) → readFrom (t m) i s ≡ raised r m
   pub small : r .size < 10 ^ 8
-
--- ---- the value
-
-pub record Trims (t : Trimmed) (r : Trim) : Type 0 where
-  pub number : r .number ≡ t .number
-  pub zeros : r .zeros ≡ t .zeros

@@ -4,19 +4,14 @@ ghost use mathlib.Core.Path.{_≡_};
 ghost use Prim.Native.Nat.{_+_, _*_, _<_, _≤_, _^_};
 ghost use lib.IntN.{pos, _-ℤ_};
 ghost use lib.ListN.{length};
-ghost use Rattle.number.specs.Value.{signedBy, trim, valueOf};
+ghost use Rattle.number.specs.Value.{signedBy, valueOf};
 ghost use Rattle.number.specs.Reading.{Signed, Whole, Point, Gap, Mark, MarkGap, PowerSign, Power, readField};
 ghost use Rattle.number.specs.Walk.{digital, pastSign, badFront, badExponent};
-ghost use Rattle.number.specs.Walk.{Inside, Trims, Raises, Points, Passes, Leads};
+ghost use Rattle.number.specs.Walk.{Inside, Raises, Points, Passes, Leads};
 use crate::signed::difference;
 use crate::value::Decimal;
 use crate::value::Reading;
-
-// A number without its last zeros, and how many those were.
-pub(crate) struct Trim {
-    pub(crate) number: u64,
-    pub(crate) zeros: u32,
-}
+use crate::value::without_zeros;
 
 // The digits read so far, how many of them stand behind the point, and the column that comes next.
 pub(crate) struct Front {
@@ -43,22 +38,6 @@ fn is_digit(b: u8) -> bool
 }
 
 // ---- the value
-
-fn without_zeros(n: u64) -> Trim
-    requires { ⌜ 0 < n ⌝ }
-    ensures { λ r. ⌜ Trims (trim n) r ⌝ }
-{
-    let mut number = n;
-    let mut zeros: u32 = 0;
-    while number % 10 == 0 {
-        number = number / 10;
-        zeros += 1;
-    }
-    Trim {
-        number: number,
-        zeros: zeros,
-    }
-}
 
 fn value(negative: bool, number: u64, places: u32, below: bool, size: u32) -> Decimal
     requires { ⌜ (places ≤ 11) × (size < 10 ^ 8) ⌝ }

@@ -1,6 +1,5 @@
 pub mod Refusals
 pub mod Parts
 pub mod Rows
-pub mod Judged
 pub mod RowChanges
-pub mod NumberedRow
+pub mod RowNoted

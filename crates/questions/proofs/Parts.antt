@@ -1,6 +1,6 @@
 -- A part that is handed back lies in the entry, and the place of a value has a number of 32 bits.
 -- Assumes nothing.
-use Prim.Native.Nat.{ℕ, _+_, _-_, _*_, _/_, _≤_}
+use Prim.Native.Nat.{ℕ, _+_, _-_, _*_, _≤_}
 use mathlib.Core.Path.{_≡_, refl}
 use mathlib.Core.Bool.{Bool, true, false, cond}
 use mathlib.Core.List.{List}
@@ -9,26 +9,28 @@ use native.Mathlib.Nat.{mul-le-mul}
 use lib.Dec.{eqb, leb}
 use lib.ListN.{length}
 use borrow.Author.Tests.{leb-true}
-use Rattle.columns.specs.Columns.{placeOf, InTable}
+use Rattle.columns.specs.Columns.{recordsFor, placeOf, InTable}
+use Rattle.rules_state.specs.State.{MOST-RECORDS, MOST-COLUMNS, MOST-LINES}
 use Rattle.columns.specs.declared.columns.RecordNo.{RecordNo}
 use Rattle.record.specs.Word.{pointerOf}
 use Rattle.columns.specs.declared.columns.Place.{Place}
 use Rattle.columns.specs.declared.columns.LineNo.{LineNo}
 use Rattle.entry.specs.declared.verdict.Verdict.{Verdict}
+use Rattle.entry.specs.Answer.{answerOf, answerFor}
 use Rattle.questions.specs.declared.row.Row.{Row}
 use Rattle.questions_places.specs.declared.place.Shape.{Shape}
 use Rattle.questions_places.specs.Place.{shapeOf, headingPlace, unitPlace, fieldOf, firstByte, byteOf}
 use Rattle.questions_places.specs.Passage.{passageOf}
-use Rattle.questions.specs.Ask.{sectionIn, columnRefusal, passageRefusal, answer, answerFor, noPart, partFrom}
+use Rattle.questions.specs.Ask.{sectionIn, columnRefusal, passageRefusal, noPart, partFrom}
 use Rattle.questions.specs.Ask.{partWith, Lies, headingBy, unitBy, passageBy, Inside}
 
 module _ (s : List ℕ) (v : Verdict) (number from bytes pointer : ℕ) where
-  from-lies : Lies s (partFrom s (answer 0) from bytes pointer)
+  from-lies : Lies s (partFrom s (answerOf 0) from bytes pointer)
   from-lies = by-test (leb (from + bytes) (length s)) refl
     where
       by-test : (t : Bool) → leb (from + bytes) (length s) ≡ t
           → Lies s
-          (cond t (record { answer = answer 0; first = from; length = bytes; pointer = pointer }) (noPart (answer 0)))
+          (cond t (record { answer = answerOf 0; first = from; length = bytes; pointer = pointer }) (noPart (answerOf 0)))
       by-test true e = record { within = leb-true (from + bytes) (length s) e }
       by-test false e = record { within = omega arith }
 
@@ -36,7 +38,7 @@ module _ (s : List ℕ) (v : Verdict) (number from bytes pointer : ℕ) where
   part-lies = by-test (eqb number 0)
     where
       by-test : (t : Bool)
-          → Lies s (cond t (partFrom s (answer 0) from bytes pointer) (noPart (answerFor v number)))
+          → Lies s (cond t (partFrom s (answerOf 0) from bytes pointer) (noPart (answerFor v number)))
       by-test true = from-lies
       by-test false = record { within = omega arith }
 
@@ -71,13 +73,13 @@ module _ (s : List ℕ) (v : Verdict) (x : Row) where
       part-lies s v (passageRefusal s v x p) (firstByte (p .first)) (p .records * 81) pointer
 
 -- the record of a value is one of 32 bits
-pub value-placed : (section : RecordNo) (shape : Shape) (line : LineNo) (column : ℕ) → section .0 ≤ 20000
-    → shape .columns ≤ 18 → shape .lines ≤ 20000 → Inside shape line column
+pub value-placed : (section : RecordNo) (shape : Shape) (line : LineNo) (column : ℕ) → section .0 ≤ MOST-RECORDS
+    → shape .columns ≤ MOST-COLUMNS → shape .lines ≤ MOST-LINES → Inside shape line column
     → InTable section (shape .columns) line column
 unfolding placeOf
 value-placed section shape line column a b c i =
-    let k : (shape .columns + 5) / 6 ≤ 3 = omega arith in
-    let l : line .0 - 1 ≤ 20000 = omega arith in
+    let k : recordsFor (shape .columns) ≤ 3 = omega arith in
+    let l : line .0 - 1 ≤ MOST-LINES = omega arith in
     let m = mul-le-mul l k in
     record { line-from = i .line-from; column-from = i .column-from; number = omega arith }
 

@@ -10,9 +10,9 @@ use Rattle.columns.specs.Columns.{recordOf}
 use Rattle.record.specs.Identifier.{BIB, COMMON, DATA}
 use Rattle.record.specs.System.{subentryOf}
 use Rattle.columns.specs.declared.columns.RecordNo.{RecordNo}
+use Rattle.columns.specs.Fields.{n1}
 use Rattle.rules_state.specs.declared.state.Track.{Track}
 use Rattle.rules_state.specs.Role.{opensSubentry}
-use Rattle.rules_system.specs.Every.{n1}
 use Rattle.questions.specs.declared.row.Row.{Row}
 use Rattle.questions.specs.Row.{withFirst, withBib, withCommon, withData, noted, subentryIn, notedAs}
 

@@ -21,11 +21,12 @@ use Rattle.number.specs.Reading.{readField}
 use Rattle.number.specs.declared.value.Reading.{Reading}
 use Rattle.number.specs.declared.value.Reading.the-variants.{Blank}
 use Rattle.entry.specs.declared.verdict.Verdict.{Verdict}
+use Rattle.entry.specs.declared.answer.Answer.{Answer}
 use Rattle.entry.specs.Verdict.{judgeOf}
+use Rattle.entry.specs.Answer.{Refusal, refusal, firstOf, isRefused, answerOf, answerFor}
 use Rattle.questions.specs.declared.row.Row.{Row}
 use Rattle.questions_places.specs.declared.place.Shape.{Shape}
 use Rattle.questions_places.specs.declared.passage.Passage.{Passage}
-use Rattle.questions.specs.declared.ask.Answer.{Answer}
 use Rattle.questions.specs.declared.ask.ValueAnswer.{ValueAnswer}
 use Rattle.questions.specs.declared.ask.PartAnswer.{PartAnswer}
 use Rattle.questions.specs.Row.{NONE, rowOf}
@@ -36,23 +37,6 @@ use Rattle.questions_places.specs.Passage.{passageOf}
 -- An answer comes from the verdict on the entry and the row of the subentry (`..By`), and both from the entry alone.
 
 -- ---- refusals, in their order
-
--- a number, and whether it is given
-pub record Refusal : Type 0 where
-  pub number : ℕ
-  pub given : Bool
-
-abbrev pub refusal : ℕ → Bool → Refusal
-refusal number given = record { number = number; given = given }
-
--- the number of the first that is given, 0 where none is
-abbrev pub firstOf : List Refusal → ℕ
-firstOf [] = 0
-firstOf (x ∷ xs) = cond (x .given) (x .number) (firstOf xs)
-
--- "31 entry refused"
-abbrev pub isRefused : Verdict → Bool
-isRefused v = not (eqb (v .refusal) 0)
 
 -- "32 no such subentry, or NOSUBENT": its first record is no SUBENT
 abbrev pub isSubent : List ℕ → Row → Bool
@@ -82,18 +66,6 @@ noColumn shape column = not (within 1 (shape .columns) column)
 -- "36 no passage with that keyword place (ten bytes) and pointer byte"
 abbrev pub noPassage : Passage → Bool
 noPassage p = eqb (p .records) 0
-
--- ---- what stands beside a number
-
-abbrev pub answer : ℕ → Answer
-answer number = record { number = number; refusal = 0; «record» = NONE; column = 0 }
-
--- "31 entry refused (its refusal, record and column beside it, zeros with any other answer)"
-abbrev pub answerFor : Verdict → ℕ → Answer
-answerFor v number =
-    cond (eqb number 31)
-    (record { number = 31; refusal = v .refusal; «record» = v .«record»; column = v .column })
-    (answer number)
 
 -- a line and a column that a table has
 pub record Inside (shape : Shape) (line : LineNo) (column : ℕ) : Type 0 where
@@ -141,7 +113,7 @@ partFrom s a from bytes pointer =
 -- "A refused part is empty, its pointer blank"
 abbrev pub partWith : List ℕ → Verdict → ℕ → ℕ → ℕ → ℕ → PartAnswer
 partWith s v number from bytes pointer =
-    cond (eqb number 0) (partFrom s (answer 0) from bytes pointer) (noPart (answerFor v number))
+    cond (eqb number 0) (partFrom s (answerOf 0) from bytes pointer) (noPart (answerFor v number))
 
 -- it lies in the entry
 pub record Lies (s : List ℕ) (p : PartAnswer) : Type 0 where

@@ -1,3 +1,2 @@
 pub mod Row
-pub mod Numbers
 pub mod Ask

@@ -1,24 +1,20 @@
--- Where a subentry stands in an entry: its row, which the judge's own walk over the records notes on its way.
-use Prim.Native.Nat.{ℕ, _/_, _≤_}
+-- Where a subentry stands in an entry: its row, noted record by record on the way over an accepted entry.
+use Prim.Native.Nat.{ℕ, zero, suc, _/_, _≤_}
 use mathlib.Core.Bool.{cond}
 use mathlib.Core.List.{List}
 use lib.Dec.{eqb}
 use lib.ListN.{length}
-use Rattle.laws.specs.Turns.{Turn, go, out}
-use Rattle.laws.specs.Walk.{walk}
-use Rattle.laws.specs.Blocks.{blocks}
-use Rattle.laws.specs.Seeking.{Noted, noting}
+use Rattle.laws.specs.Blocks.{blockAt}
 use Rattle.columns.specs.Columns.{recordOf}
-use Rattle.columns.specs.Fields.{fieldsOf}
+use Rattle.columns.specs.Fields.{fieldsOf, n1}
 use Rattle.record.specs.Identifier.{BIB, COMMON, DATA}
 use Rattle.record.specs.System.{subentryOf}
 use Rattle.columns.specs.declared.columns.RecordNo.{RecordNo}
 use Rattle.rules_state.specs.declared.state.Track.{Track}
-use Rattle.rules_state.specs.State.{Context, startContext, MOST-RECORDS}
+use Rattle.rules_state.specs.State.{Context, MOST-RECORDS}
 use Rattle.rules_state.specs.Role.{opensSubentry}
-use Rattle.rules_system.specs.Every.{n1}
-use Rattle.entry.specs.declared.verdict.Verdict.{Verdict}
-use Rattle.entry.specs.Verdict.{roleOf, refused, turnOf, endOf, lengthGood}
+use Rattle.entry.specs.Verdict.{roleOf, judgeOf}
+use Rattle.entry.specs.Contexts.{contextAt}
 use Rattle.questions.specs.declared.row.Row.{Row}
 use Rattle.questions.specs.declared.row.Located.{Located}
 
@@ -56,42 +52,35 @@ noted x role at =
     (cond (eqb role COMMON) (withCommon x at)
     (cond (eqb role DATA) (withData x at) x)))
 
+-- a record of the subentry with a number
+abbrev pub notedIn : Row → ℕ → ℕ → RecordNo → Row
+notedIn x number role at = cond (eqb number (x .number)) (noted x role at) x
+
 -- the number of the subentry that a record belongs to; SUBENT and NOSUBENT say it themselves
 unfoldable pub subentryIn : Track → ℕ → List (List ℕ) → ℕ
 subentryIn t role fs = cond (opensSubentry role) (subentryOf (n1 fs)) (t .subentry .number)
 
 unfoldable pub notedAs : Track → ℕ → List (List ℕ) → Row → Row
-notedAs t role fs x =
-    cond (eqb (subentryIn t role fs) (x .number)) (noted x role (recordOf (t .records))) x
+notedAs t role fs x = notedIn x (subentryIn t role fs) role (recordOf (t .records))
 
-abbrev pub noteOf : Context → ℕ → List ℕ → Row → Row
-noteOf c i r x = notedAs (c .track) (roleOf c r) (fieldsOf r) x
+abbrev pub noteOf : Context → List ℕ → Row → Row
+noteOf c r x = notedAs (c .track) (roleOf c r) (fieldsOf r) x
 
 -- ---- all records
 
--- the verdict comes with the row; where a record is refused the row is empty
-abbrev pub leaving : {C : Type 0} → ℕ → Turn (Noted C Row) Verdict → Turn (Noted C Row) Located
-leaving number (go m) = go m
-leaving number (out v) = out (record { verdict = v; row = emptyRow number })
+-- the row, as it is before the record with the index i
+unfoldable pub rowAt : List ℕ → ℕ → ℕ → Row
+rowAt s number zero = emptyRow number
+rowAt s number (suc i) = noteOf (contextAt s i) (blockAt 81 s i) (rowAt s number i)
 
-unfoldable pub locating : Noted Context Row → ℕ → List ℕ → Turn (Noted Context Row) Located
-locating m i r = leaving (m .note .number) (noting turnOf noteOf m i r)
+-- the row of the subentry with this number, as it is behind the last record of an accepted entry; empty in a refused
+-- one
+unfoldable pub rowOf : List ℕ → ℕ → Row
+rowOf s number = cond (eqb (judgeOf s .refusal) 0) (rowAt s number (length s / 81)) (emptyRow number)
 
-abbrev pub located : Noted Context Row → Located
-located m = record { verdict = endOf (m .context); row = m .note }
-
-abbrev pub startRow : ℕ → Noted Context Row
-startRow number = record { context = startContext; note = emptyRow number }
-
--- the verdict on the entry and the row of the subentry with this number, found in one walk. That the verdict is
--- `judgeOf` is the law `judged`.
-unfoldable pub locate : List ℕ → ℕ → Located
-locate s number =
-    cond (lengthGood (length s)) (walk locating located (startRow number) 0 (blocks 81 (length s / 81) s))
-    (record { verdict = refused 1 NONE 0; row = emptyRow number })
-
-abbrev pub rowOf : List ℕ → ℕ → Row
-rowOf s number = locate s number .row
+-- beside it the verdict on the entry
+abbrev pub locate : List ℕ → ℕ → Located
+locate s number = record { verdict = judgeOf s; row = rowOf s number }
 
 -- each record of a row is one of an entry's 20,000 at most
 pub record Met (x : Row) : Type 0 where

@@ -3,9 +3,10 @@
 ghost use mathlib.Core.Path.{_≡_};
 ghost use Prim.Native.Nat.{ℕ, _+_, _≤_};
 ghost use Rattle.columns.specs.Text.{within};
+ghost use Rattle.entry.specs.Answer.{firstOf, answerOf};
 ghost use Rattle.questions.specs.Row.{Met};
-ghost use Rattle.questions.specs.Ask.{firstOf, isSubent, sectionIn, sectionRefusals, answer as answerOf};
-ghost use Rattle.questions.specs.Ask.{answerFor, valueRefusal, valueBy, valueOf, noPart, partFrom, Lies, bytesIn};
+ghost use Rattle.questions.specs.Ask.{isSubent, sectionIn, sectionRefusals};
+ghost use Rattle.questions.specs.Ask.{valueRefusal, valueBy, valueOf, noPart, partFrom, Lies, bytesIn};
 ghost use Rattle.questions.specs.Ask.{columnRefusal, headingBy, headingOf, unitBy, unitOf, passageRefusal};
 ghost use Rattle.questions.specs.Ask.{passageBy, passageAnswer};
 use crate::row::Row;
@@ -14,6 +15,9 @@ use columns::columns::LineNo;
 use columns::columns::Place;
 use columns::columns::RecordNo;
 use columns::columns::place_of;
+use entry::answer::Answer;
+use entry::answer::answer_for;
+use entry::answer::answer_of;
 use entry::verdict::Verdict;
 use number::read::read_field;
 use number::value::Reading;
@@ -31,15 +35,9 @@ use questions_places::place::shape_of;
 use questions_places::place::unit_place;
 use record::identifier::SUBENT;
 use record::identifier::identifier_of;
+use record::word::is_within;
 
-// 0 answered, else 31 to 36; beside 31 the entry's own refusal with its record and column, zeros with any other.
-pub struct Answer {
-    pub number: u8,
-    pub refusal: u8,
-    pub record: RecordNo,
-    pub column: u8,
-}
-
+// The number of each answer is 0 or 31 to 36.
 pub struct ValueAnswer {
     pub answer: Answer,
     pub value: Reading,
@@ -51,33 +49,6 @@ pub struct PartAnswer {
     pub first: usize,
     pub length: usize,
     pub pointer: u8,
-}
-
-fn answer_of(number: u8) -> Answer
-    ensures { λ r. ⌜ r ≡ answerOf number ⌝ }
-{
-    Answer {
-        number,
-        refusal: 0,
-        record: RecordNo(0),
-        column: 0,
-    }
-}
-
-// What stands beside a number.
-fn answer_for(v: Verdict, number: u8) -> Answer
-    ensures { λ r. ⌜ r ≡ answerFor v number ⌝ }
-{
-    if number == 31 {
-        let record = v.record;
-        return Answer {
-            number: 31,
-            refusal: v.refusal,
-            record,
-            column: v.column,
-        };
-    }
-    answer_of(number)
 }
 
 fn no_part(answer: Answer) -> PartAnswer
@@ -164,10 +135,7 @@ fn section_refusal(entry: &[u8], v: Verdict, row: Row, at: RecordNo) -> u8
 fn is_counted(most: u32, n: u32) -> bool
     ensures { λ r. ⌜ r ≡ within 1 most n ⌝ }
 {
-    if n < 1 {
-        return false;
-    }
-    n <= most
+    is_within(1, most as u64, n as u64)
 }
 
 fn value_refusal(

@@ -1,2 +1,3 @@
+// Questions to an entry: values, headings, units and passages.
 pub mod ask;
 pub mod row;

@@ -9,11 +9,11 @@ use lib.Dec.{eqb, ltb}
 use lib.ListN.{getD}
 use Rattle.laws.specs.Search.{first}
 use Rattle.columns.specs.Text.{isBlank}
+use Rattle.record.specs.System.{upTo}
 use Rattle.record.specs.Word.{blankTo, equalTo, pointerOf}
 use Rattle.columns.specs.declared.columns.RecordNo.{RecordNo}
 use Rattle.rules_state.specs.State.{MOST-RECORDS}
 use Rattle.rules_system.specs.System.{countN2}
-use Rattle.entry_next.specs.Counted.{upTo}
 use Rattle.questions_places.specs.declared.passage.Passage.{Passage}
 use Rattle.questions_places.specs.Place.{fieldsAt}
 

@@ -9,11 +9,11 @@ use Rattle.laws.specs.Blocks.{blockAt}
 use Rattle.columns.specs.Columns.{recordsFor}
 use Rattle.columns.specs.Fields.{fieldsOf}
 use Rattle.record.specs.Identifier.{identifierOf}
+use Rattle.record.specs.System.{upTo}
 use Rattle.columns.specs.declared.columns.RecordNo.{RecordNo}
 use Rattle.columns.specs.declared.columns.Place.{Place}
 use Rattle.rules_state.specs.State.{MOST-RECORDS, MOST-COLUMNS, MOST-LINES}
 use Rattle.rules_system.specs.System.{countN1, countN2}
-use Rattle.entry_next.specs.Counted.{upTo}
 use Rattle.questions_places.specs.declared.place.Shape.{Shape}
 
 -- ---- a record by its number

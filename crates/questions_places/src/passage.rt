@@ -4,9 +4,9 @@ ghost use Prim.Native.Nat.{ℕ, _+_, _≤_, _<_};
 ghost use Rattle.rules_state.specs.State.{MOST-RECORDS};
 ghost use Rattle.questions_places.specs.Passage.{textAt, isKeyword, begins, beginsWith, sought, firstText, Span};
 ghost use Rattle.questions_places.specs.Passage.{passageUnder, passageOf};
-use crate::place::count_to;
 use crate::place::fields_at;
 use columns::columns::RecordNo;
+use record::system::count_to;
 use record::word::is_keyword_blank;
 use record::word::same_keyword;
 use rules_state::state::MOST_RECORDS;
@@ -159,8 +159,7 @@ pub fn passage_of(entry: &[u8], bib: RecordNo, keyword: [u8; 10], pointer: u8) -
 {
     let fs = fields_at(entry, bib);
     let n2 = fs[2];
-    let most = MOST_RECORDS as u64;
-    let n = count_to(most, n2);
+    let n = count_to(MOST_RECORDS, n2);
     let k = first_text(entry, bib, KEYWORD, keyword, pointer, 0, n);
     if k < n {
         return passage_under(entry, bib, keyword, pointer, k, n);

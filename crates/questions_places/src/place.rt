@@ -3,16 +3,14 @@ ghost use mathlib.Core.Path.{_≡_};
 ghost use Prim.Native.Nat.{ℕ, _≤_};
 ghost use lib.ListN.{getD};
 ghost use mathlib.Core.List.{[]};
-ghost use Rattle.record.specs.System.{countOf, numberOf};
-ghost use Rattle.entry_next.specs.Counted.{upTo};
+ghost use Rattle.rules_state.specs.State.{MOST-COLUMNS, MOST-LINES};
 ghost use Rattle.questions_places.specs.Place.{hasRecord, fieldsAt, shapeOf, headingPlace, unitPlace, fieldOf};
 ghost use Rattle.questions_places.specs.Place.{firstByte, byteOf, InSection};
 use columns::columns::Place;
 use columns::columns::RecordNo;
 use columns::columns::records_for;
 use columns::fields::fields;
-use record::system::count_of;
-use record::system::number_of;
+use record::system::count_to;
 use rules_system::system::MOST_COLUMNS;
 use rules_system::system::MOST_LINES;
 
@@ -52,33 +50,20 @@ pub fn fields_at(entry: &[u8], at: RecordNo) -> [[u8; 11]; 6]
     fields(&entry[from..past])
 }
 
-// A count, 0 where it is more than `most`.
-pub fn count_to(most: u64, f: [u8; 11]) -> u32
-    requires { ⌜ most ≤ 20000 ⌝ }
-    ensures { λ r. ⌜ r ≡ upTo most (numberOf (countOf f)) ⌝ }
-    ensures { λ r. ⌜ r ≤ most ⌝ }
-{
-    let n = number_of(count_of(f));
-    if n <= most {
-        return n as u32;
-    }
-    0
-}
-
 // The shape that the record of a section announces.
 pub fn shape_of(entry: &[u8], section: u32, at: RecordNo) -> Shape
     ensures { λ r. ⌜ r ≡ shapeOf (now (entry .entry)) section at ⌝ }
-    ensures { λ r. ⌜ r .columns ≤ 18 ⌝ }
-    ensures { λ r. ⌜ r .lines ≤ 20000 ⌝ }
+    ensures { λ r. ⌜ r .columns ≤ MOST-COLUMNS ⌝ }
+    ensures { λ r. ⌜ r .lines ≤ MOST-LINES ⌝ }
 {
     let fs = fields_at(entry, at);
     let n1 = fs[1];
-    let columns = count_to(MOST_COLUMNS, n1);
+    let columns = count_to(MOST_COLUMNS as u32, n1);
     if section == COMMON_SECTION {
         return Shape { columns, lines: 1 };
     }
     let n2 = fs[2];
-    let lines = count_to(MOST_LINES, n2);
+    let lines = count_to(MOST_LINES as u32, n2);
     Shape { columns, lines }
 }
 
@@ -98,7 +83,7 @@ pub fn heading_place(section: RecordNo, column: u32) -> Place
 // The unit of a column.
 pub fn unit_place(section: RecordNo, columns: u32, column: u32) -> Place
     requires { ⌜ InSection section column ⌝ }
-    requires { ⌜ columns ≤ 18 ⌝ }
+    requires { ⌜ columns ≤ MOST-COLUMNS ⌝ }
     ensures { λ r. ⌜ r ≡ unitPlace section columns column ⌝ }
     ensures { λ r. ⌜ r .field ≤ 5 ⌝ }
 {

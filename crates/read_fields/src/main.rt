@@ -1,12 +1,13 @@
 // Reads number fields from standard input, a line each, and says what each reads to: `145 e-3` is 145 times ten to the
 // power -3.
-ghost use Prim.Native.Nat.{_≤_};
-ghost use lib.ListN.{length};
+use bytes::scan::find;
 use libc::STDIN_FILENO;
 use libc::STDOUT_FILENO;
 use number::read::read_number;
 use number::value::Decimal;
 use number::value::Reading;
+use program_text::say;
+use program_text::say_power;
 
 // A byte as a person can read it.
 fn shown(b: u8) -> u8 {
@@ -28,17 +29,6 @@ fn show_columns(s: &[u8]) {
     }
 }
 
-fn show_power(p: i32) {
-    if p < 0 {
-        let q = p as i64;
-        let size = 0 - q;
-        io::write_all(STDOUT_FILENO, b"-");
-        io::print_decimal(STDOUT_FILENO, size as u64);
-    } else {
-        io::print_decimal(STDOUT_FILENO, p as u64);
-    }
-}
-
 fn show_value(v: Decimal) {
     let negative = v.negative;
     let coefficient = v.coefficient;
@@ -48,7 +38,7 @@ fn show_value(v: Decimal) {
     }
     io::print_decimal(STDOUT_FILENO, coefficient);
     io::write_all(STDOUT_FILENO, b" e");
-    show_power(power);
+    say_power(power);
 }
 
 fn show_reading(r: Reading) {
@@ -58,8 +48,7 @@ fn show_reading(r: Reading) {
         }
         Reading::Number(v) => show_value(v),
         Reading::Refused(n) => {
-            io::write_all(STDOUT_FILENO, b"refused ");
-            io::print_decimal(STDOUT_FILENO, n as u64);
+            say(b"refused ", n as u64);
         }
     }
 }
@@ -72,25 +61,10 @@ fn show_line(s: &[u8]) {
     io::write_all(STDOUT_FILENO, b"\n");
 }
 
-// Where the line ends that begins at `from`.
-fn line_end(s: &[u8], from: usize) -> usize
-    requires { ⌜ from ≤ length (now s) ⌝ }
-    ensures { λ r. ⌜ (from ≤ r) × (r ≤ length (now (s .entry))) ⌝ }
-{
-    let mut i = from;
-    while i < s.len() {
-        if s[i] == 10 {
-            return i;
-        }
-        i += 1;
-    }
-    i
-}
-
 fn show_lines(s: &[u8]) {
     let mut from = 0;
     while from < s.len() {
-        let end = line_end(s, from);
+        let end = find(s, from, s.len(), b'\n');
         show_line(&s[from..end]);
         from = end + 1;
     }

@@ -18,7 +18,7 @@ permitted-first r = refl
 
 pub identifier-upto : (f : List ℕ) → identifierOf f ≤ OTHER
 unfolding identifierOf
-identifier-upto f = first-to (isName f) 0 14
+identifier-upto f = first-to (isName f) 0 OTHER
 
 module _ (optional : Bool) (used : ℕ) (fields : List (List ℕ)) where
   pub values-fault : valuesOf optional used fields .fault ≡ firstField (valueFault optional used) fields

@@ -12,13 +12,13 @@ use Rattle.laws.specs.Members.{joinOf}
 use Rattle.laws.specs.Search.{first}
 use Rattle.laws.proofs.Table.{at}
 use Rattle.record.specs.Word.{equalTo}
-use Rattle.record.specs.Identifier.{names, nameAt, nameTable, NamesLent, isEnd}
+use Rattle.record.specs.Identifier.{OTHER, names, nameAt, nameTable, NamesLent, isEnd}
 
--- the one test, computed for all 154 entries
+-- the one test, computed for all entries
 right : ℕ → ℕ → Bool
 right p x = eqb x (getD (nameAt (p / 11)) (p % 11) 0)
 
-pub name-at : (k i : ℕ) → k < 14 → i < 11 → getD nameTable (11 * k + i) 0 ≡ getD (nameAt k) i 0
+pub name-at : (k i : ℕ) → k < OTHER → i < 11 → getD nameTable (11 * k + i) 0 ≡ getD (nameAt k) i 0
 unfolding nameTable joinOf right
 name-at k i h l =
     let q : (11 * k + i) / 11 ≡ k = omega arith in
@@ -27,11 +27,11 @@ name-at k i h l =
     = eqb→eq _ _ (at right nameTable tt (11 * k + i) (omega arith)) in
     rw (q, m) at e
 
-pub name-read : {t : List ℕ} → NamesLent t → (k i : ℕ) → k < 14 → i < 11
+pub name-read : {t : List ℕ} → NamesLent t → (k i : ℕ) → k < OTHER → i < 11
     → getD t (11 * k + i) 0 ≡ getD (nameAt k) i 0
 name-read lent k i h l = ap (λ (t : List ℕ). getD t (11 * k + i) 0) (lent .same) ∙ name-at k i h l
 
-pub name-begins : {t : List ℕ} → NamesLent t → (k : ℕ) → k < 14 → getD t (11 * k) 0 ≡ getD (nameAt k) 0 0
+pub name-begins : {t : List ℕ} → NamesLent t → (k : ℕ) → k < OTHER → getD t (11 * k) 0 ≡ getD (nameAt k) 0 0
 name-begins lent k h = rw (add-zero (11 * k)) at (name-read lent k 0 h (omega arith))
 
 -- ---- the names that begin with END
@@ -48,7 +48,7 @@ pub end-letters : (k : ℕ)
 unfolding isEnd equalTo first
 end-letters k = three (eqb (getD (nameAt k) 0 0) 69) (eqb (getD (nameAt k) 1 0) 78) (eqb (getD (nameAt k) 2 0) 68)
 
--- there is no name behind the fourteenth
-pub no-end : (k : ℕ) → 14 ≤ k → isEnd k ≡ false
+-- there is no name behind the last
+pub no-end : (k : ℕ) → OTHER ≤ k → isEnd k ≡ false
 unfolding isEnd equalTo first
 no-end k h = let z : getD names k [] ≡ [] = List·getD-eq-default names [] h in rw z refl

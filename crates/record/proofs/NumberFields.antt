@@ -72,11 +72,11 @@ module _ (f : List ℕ) (good : noValue true (formAt f) ≡ false) where
   pub read-permitted : (i : ℕ) → i < length f → isPermitted (getD f i 0) ≡ true
   read-permitted i h = letters i h .0
 
--- the second letter of each name, computed for all fourteen
+-- the second letter of each name, computed for all of them
 second : ℕ → ℕ → Bool
 second p x = cond (eqb (p % 11) 1) (nameLetter x) true
 
-name-second : (k : ℕ) → k < 14 → nameLetter (getD (nameAt k) 1 0) ≡ true
+name-second : (k : ℕ) → k < OTHER → nameLetter (getD (nameAt k) 1 0) ≡ true
 unfolding second nameLetter nameTable joinOf
 name-second k h =
     let m : (11 * k + 1) % 11 ≡ 1 = omega arith in
@@ -97,9 +97,9 @@ name-letter f k h =
 
 pub read-identifier : (f : List ℕ) → 1 < length f → noValue true (formAt f) ≡ false → identifierOf f ≡ OTHER
 unfolding identifierOf
-read-identifier f long good = pass-first (isName f) 0 14 (λ k a b. none k b (isName f k) refl)
+read-identifier f long good = pass-first (isName f) 0 OTHER (λ k a b. none k b (isName f k) refl)
   where
-    none : (k : ℕ) → k < 14 → (t : Bool) → isName f k ≡ t → isName f k ≡ false
+    none : (k : ℕ) → k < OTHER → (t : Bool) → isName f k ≡ t → isName f k ≡ false
     none k h true e =
         let a : nameLetter (getD f 1 0) ≡ true = rw (name-letter f k e) (name-second k h) in
         let b : nameLetter (getD f 1 0) ≡ false = letters f good 1 long .1 in

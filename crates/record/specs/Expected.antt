@@ -33,9 +33,12 @@ inDigits (suc w) n = (48 + n / 10 ^ w % 10) ∷ inDigits w n
 unfoldable pub identificationFor : List ℕ → ℕ → List ℕ
 identificationFor accession number = accession ++ inDigits 3 number
 
--- the accession in ENTRY's N1; the accession and the number in SUBENT's
+-- the accession in ENTRY's N1; in SUBENT's and NOSUBENT's the accession, and the accession with the number
 abbrev pub entryAccession : List ℕ → List ℕ
 entryAccession f = columnsAt 6 5 f
+
+abbrev pub subentAccession : List ℕ → List ℕ
+subentAccession f = columnsAt 3 5 f
 
 abbrev pub subentIdentification : List ℕ → List ℕ
 subentIdentification f = columnsAt 3 8 f

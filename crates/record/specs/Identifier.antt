@@ -72,7 +72,7 @@ nameAt k = getD names k [] ++ replicate (11 - length (getD names k [])) 32
 
 -- the names as they are lent to a function: eleven columns each, one behind the other
 unfoldable pub nameTable : List ℕ
-nameTable = joinOf nameAt 0 14
+nameTable = joinOf nameAt 0 OTHER
 
 pub record NamesLent (t : List ℕ) : Type 0 where
   pub same : t ≡ nameTable
@@ -83,7 +83,7 @@ unfoldable pub isName : List ℕ → ℕ → Bool
 isName f k = equalTo 11 f (nameAt k)
 
 unfoldable pub identifierOf : List ℕ → ℕ
-identifierOf f = first (isName f) 0 14
+identifierOf f = first (isName f) 0 OTHER
 
 -- "one beginning with END"
 unfoldable pub isEnd : ℕ → Bool

@@ -2,7 +2,7 @@
 use Prim.Native.Nat.{ℕ, zero, suc, _+_, _*_, _-_}
 use mathlib.Core.Bool.{Bool, true, false, cond, not, _&&_, _||_}
 use mathlib.Core.List.{List}
-use lib.Dec.{eqb}
+use lib.Dec.{eqb, leb}
 use lib.ListN.{getD}
 use Rattle.laws.specs.Search.{first}
 use Rattle.columns.specs.Text.{within, isDigit, isCapital}
@@ -50,6 +50,10 @@ isCount Bad = false
 abbrev pub numberOf : Count → ℕ
 numberOf (Number n) = n
 numberOf Bad = 0
+
+-- a number up to a limit, 0 past it
+abbrev pub upTo : ℕ → ℕ → ℕ
+upTo most n = cond (leb n most) n 0
 
 -- ---- "Date: 3 blanks and YYYYMMDD, month 01-12, day 01-31."
 

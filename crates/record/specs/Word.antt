@@ -78,3 +78,8 @@ headingFault used k f = cond (ltb k used) (not (isWord 10 f)) (filled f)
 
 unfoldable pub unitFault : ℕ → ℕ → List ℕ → Bool
 unitFault used k f = cond (ltb k used) (not (isUnit f)) (filled f)
+
+-- the three by number, as one search asks for them
+abbrev pub faultIn : ℕ → ℕ → ℕ → List ℕ → Bool
+faultIn what used k f =
+    cond (eqb what 0) (pointerFault used k f) (cond (eqb what 1) (headingFault used k f) (unitFault used k f))

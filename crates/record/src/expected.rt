@@ -4,7 +4,7 @@ ghost use Prim.Native.Nat.{ℕ};
 ghost use Rattle.columns.specs.Columns.{Whole};
 ghost use Rattle.record.specs.Word.{equalTo};
 ghost use Rattle.record.specs.Expected.{accessionOf, identificationOf, sequenceOf, inDigits};
-ghost use Rattle.record.specs.Expected.{identificationFor, entryAccession, subentIdentification};
+ghost use Rattle.record.specs.Expected.{identificationFor, entryAccession, subentAccession, subentIdentification};
 use crate::word::equal_to;
 
 // Columns 67 to 71.
@@ -53,7 +53,7 @@ pub fn five_digits(n: u32) -> [u8; 5]
 }
 
 // A subentry number in three digits.
-pub fn three_digits(n: u32) -> [u8; 3]
+fn three_digits(n: u32) -> [u8; 3]
     ensures { λ r. ⌜ r ≡ inDigits 3 n ⌝ }
 {
     let c = (48 + n / 100 % 10) as u8;
@@ -77,7 +77,14 @@ pub fn entry_accession(f: [u8; 11]) -> [u8; 5]
     [f[6], f[7], f[8], f[9], f[10]]
 }
 
-// The accession and the number in the N1 of SUBENT or NOSUBENT.
+// The accession in the N1 of SUBENT or NOSUBENT.
+pub fn subent_accession(f: [u8; 11]) -> [u8; 5]
+    ensures { λ r. ⌜ r ≡ subentAccession f ⌝ }
+{
+    [f[3], f[4], f[5], f[6], f[7]]
+}
+
+// The accession and the number in it.
 pub fn subent_identification(f: [u8; 11]) -> [u8; 8]
     ensures { λ r. ⌜ r ≡ subentIdentification f ⌝ }
 {

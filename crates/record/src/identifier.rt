@@ -1,7 +1,7 @@
 // The fourteen system identifiers.
 ghost use mathlib.Core.Path.{_≡_};
 ghost use Prim.Native.Nat.{ℕ, _<_};
-ghost use Rattle.record.specs.Identifier.{nameTable, NamesLent, isName, identifierOf, isEnd};
+ghost use Rattle.record.specs.Identifier.{OTHER, nameTable, NamesLent, isName, identifierOf, isEnd};
 
 pub const ENTRY: usize = 0;
 
@@ -33,8 +33,8 @@ pub const ENDENTRY: usize = 13;
 
 pub const OTHER: usize = 14;
 
-// Fourteen names of eleven columns.
-pub type Names = [u8; 154];
+// Eleven columns for each name.
+pub type Names = [u8; 11 * OTHER];
 
 const NAMES: Names = *b"\
     ENTRY      \
@@ -62,7 +62,7 @@ pub fn names() -> Names
 // Whether a field is the name at `k`.
 fn is_name(t: &Names, f: [u8; 11], k: usize) -> bool
     requires { ⌜ NamesLent (now t) ⌝ }
-    requires { ⌜ k < 14 ⌝ }
+    requires { ⌜ k < OTHER ⌝ }
     ensures { λ r. ⌜ r ≡ isName f k ⌝ }
 {
     let mut i = 0;
@@ -81,13 +81,13 @@ pub fn identifier_of(t: &Names, f: [u8; 11]) -> usize
     ensures { λ r. ⌜ r ≡ identifierOf f ⌝ }
 {
     let mut k = 0;
-    while k < 14 {
+    while k < OTHER {
         if is_name(t, f, k) {
             return k;
         }
         k += 1;
     }
-    14
+    OTHER
 }
 
 // Whether the name at `k` begins with END.
@@ -95,7 +95,7 @@ pub fn is_end(t: &Names, k: usize) -> bool
     requires { ⌜ NamesLent (now t) ⌝ }
     ensures { λ r. ⌜ r ≡ isEnd k ⌝ }
 {
-    if 14 <= k {
+    if OTHER <= k {
         return false;
     }
     let at = 11 * k;

@@ -2,11 +2,12 @@
 ghost use mathlib.Core.Path.{_≡_};
 ghost use Prim.Native.Nat.{ℕ, _+_, _*_, _^_, _≤_};
 ghost use mathlib.Core.Bool.{_||_};
-ghost use Rattle.columns.specs.Text.{within, isCapital, isDigit};
-ghost use Rattle.record.specs.System.{digitOf, digitsIn, numberIn, countOf, isCount, numberOf};
+ghost use Rattle.columns.specs.Text.{isCapital, isDigit};
+ghost use Rattle.record.specs.System.{digitOf, digitsIn, numberIn, countOf, isCount, numberOf, upTo};
 ghost use Rattle.record.specs.System.{isDate, isAccession, isEntryN1, isSubentN1, subentryOf};
 use crate::word::blank_to;
 use crate::word::filled_from;
+use crate::word::is_from;
 use crate::word::is_within;
 
 // A whole number written as blanks, then digits up to the last column; or a field that is none.
@@ -43,7 +44,7 @@ fn digits_in(f: [u8; 11], from: usize, n: usize) -> bool
     let end = from + n;
     let mut i = from;
     while i < end {
-        if !is_within(b'0', b'9', f[i]) {
+        if !is_from(b'0', b'9', f[i]) {
             return false;
         }
         i += 1;
@@ -95,14 +96,17 @@ pub fn count_of(f: [u8; 11]) -> Count
     Count::Number(number)
 }
 
-// Whether `1 <= n <= high`.
-fn is_up_to(high: u64, n: u64) -> bool
-    ensures { λ r. ⌜ r ≡ within 1 high n ⌝ }
+// A count, 0 where it is more than `most`.
+pub fn count_to(most: u32, f: [u8; 11]) -> u32
+    ensures { λ r. ⌜ r ≡ upTo most (numberOf (countOf f)) ⌝ }
+    ensures { λ r. ⌜ r ≤ most ⌝ }
 {
-    if n < 1 {
-        return false;
+    let n = number_of(count_of(f));
+    let wide = most as u64;
+    if n <= wide {
+        return n as u32;
     }
-    n <= high
+    0
 }
 
 // Whether a field is a date: three blanks and YYYYMMDD.
@@ -116,11 +120,11 @@ pub fn is_date(f: [u8; 11]) -> bool
         return false;
     }
     let month = number_in(f, 7, 2);
-    if !is_up_to(12, month) {
+    if !is_within(1, 12, month) {
         return false;
     }
     let day = number_in(f, 9, 2);
-    is_up_to(31, day)
+    is_within(1, 31, day)
 }
 
 // Whether the five columns from `at` are an accession.
@@ -138,10 +142,10 @@ fn is_accession(f: [u8; 11], at: usize) -> bool
 fn is_capital_or_digit(b: u8) -> bool
     ensures { λ r. ⌜ r ≡ isCapital b || isDigit b ⌝ }
 {
-    if is_within(b'A', b'Z', b) {
+    if is_from(b'A', b'Z', b) {
         return true;
     }
-    is_within(b'0', b'9', b)
+    is_from(b'0', b'9', b)
 }
 
 // Whether a field is ENTRY's N1.

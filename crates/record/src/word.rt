@@ -6,7 +6,14 @@ ghost use Rattle.columns.specs.Text.{within};
 ghost use Rattle.columns.specs.Fields.{firstField};
 ghost use Rattle.record.specs.Word.{blankTo, equalTo, wordEnd, filledFrom, isWord, isPointer};
 ghost use Rattle.record.specs.Word.{fourAt, eightAt};
-ghost use Rattle.record.specs.Word.{badPointer, isUnit, pointerFault, headingFault, unitFault};
+ghost use Rattle.record.specs.Word.{badPointer, isUnit, pointerFault, headingFault, unitFault, faultIn};
+
+// What the six fields of a record are to be: fields with pointers, headings, units.
+const POINTERS: u32 = 0;
+
+const HEADINGS: u32 = 1;
+
+const UNITS: u32 = 2;
 
 // The first filled one of the columns of a field from `from` up to `w`, or `w`.
 pub(crate) fn filled_from(f: [u8; 11], from: usize, w: usize) -> usize
@@ -34,7 +41,7 @@ pub(crate) fn blank_to(f: [u8; 11], w: usize) -> bool
 }
 
 // Whether a field is blank.
-pub fn is_blank(f: [u8; 11]) -> bool
+fn is_blank(f: [u8; 11]) -> bool
     ensures { λ r. ⌜ r ≡ blankTo 11 f ⌝ }
 {
     blank_to(f, 11)
@@ -134,24 +141,31 @@ pub fn is_word(f: [u8; 11]) -> bool
     filled_from(f, end, 10) == 10
 }
 
-// Whether `low <= b <= high`.
-pub(crate) fn is_within(low: u8, high: u8, b: u8) -> bool
-    ensures { λ r. ⌜ r ≡ within low high b ⌝ }
+// Whether `low <= n <= high`.
+pub fn is_within(low: u64, high: u64, n: u64) -> bool
+    ensures { λ r. ⌜ r ≡ within low high n ⌝ }
 {
-    if low <= b {
-        return b <= high;
+    if low <= n {
+        return n <= high;
     }
     false
+}
+
+// Whether a byte is one of the characters from `low` to `high`.
+pub(crate) fn is_from(low: u8, high: u8, b: u8) -> bool
+    ensures { λ r. ⌜ r ≡ within low high b ⌝ }
+{
+    is_within(low as u64, high as u64, b as u64)
 }
 
 // Whether a byte is a pointer.
 fn is_pointer(b: u8) -> bool
     ensures { λ r. ⌜ r ≡ isPointer b ⌝ }
 {
-    if is_within(b'1', b'9', b) {
+    if is_from(b'1', b'9', b) {
         return true;
     }
-    is_within(b'A', b'Z', b)
+    is_from(b'A', b'Z', b)
 }
 
 // Whether the eleventh column is neither a pointer nor blank.
@@ -205,47 +219,51 @@ fn is_unit_fault(used: usize, k: usize, f: [u8; 11]) -> bool
     !is_blank(f)
 }
 
-// The first used field with a bad pointer, or 6.
-pub fn pointer_fault(fields: [[u8; 11]; 6], used: usize) -> usize
-    ensures { λ r. ⌜ r ≡ firstField (pointerFault used) fields ⌝ }
+// Whether the field `k` is not what it is to be.
+fn is_fault(what: u32, used: usize, k: usize, f: [u8; 11]) -> bool
+    ensures { λ r. ⌜ r ≡ faultIn what used k f ⌝ }
+{
+    if what == POINTERS {
+        return is_pointer_fault(used, k, f);
+    }
+    if what == HEADINGS {
+        return is_heading_fault(used, k, f);
+    }
+    is_unit_fault(used, k, f)
+}
+
+// The first field that is not what it is to be, or 6.
+fn first_fault(what: u32, fields: [[u8; 11]; 6], used: usize) -> usize
+    ensures { λ r. ⌜ r ≡ firstField (faultIn what used) fields ⌝ }
 {
     let mut k = 0;
     while k < 6 {
         let f = fields[k];
-        if is_pointer_fault(used, k, f) {
+        if is_fault(what, used, k, f) {
             return k;
         }
         k += 1;
     }
     6
+}
+
+// The first used field with a bad pointer, or 6.
+pub fn pointer_fault(fields: [[u8; 11]; 6], used: usize) -> usize
+    ensures { λ r. ⌜ r ≡ firstField (pointerFault used) fields ⌝ }
+{
+    first_fault(POINTERS, fields, used)
 }
 
 // The first field of a heading record that is no word, or unused and filled, or 6.
 pub fn heading_fault(fields: [[u8; 11]; 6], used: usize) -> usize
     ensures { λ r. ⌜ r ≡ firstField (headingFault used) fields ⌝ }
 {
-    let mut k = 0;
-    while k < 6 {
-        let f = fields[k];
-        if is_heading_fault(used, k, f) {
-            return k;
-        }
-        k += 1;
-    }
-    6
+    first_fault(HEADINGS, fields, used)
 }
 
 // The first field of a unit record that is no unit, or unused and filled, or 6.
 pub fn unit_fault(fields: [[u8; 11]; 6], used: usize) -> usize
     ensures { λ r. ⌜ r ≡ firstField (unitFault used) fields ⌝ }
 {
-    let mut k = 0;
-    while k < 6 {
-        let f = fields[k];
-        if is_unit_fault(used, k, f) {
-            return k;
-        }
-        k += 1;
-    }
-    6
+    first_fault(UNITS, fields, used)
 }

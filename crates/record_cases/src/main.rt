@@ -16,6 +16,7 @@ use columns::columns::records_for;
 use columns::fields::fields;
 use number::form::kinds;
 use number::form::nexts;
+use program_text::say;
 use record::expected::entry_accession;
 use record::expected::five_digits;
 use record::expected::identification;
@@ -40,11 +41,6 @@ use record::word::is_keyword_blank;
 use record::word::is_word;
 use record::word::pointer_fault;
 use record::word::unit_fault;
-
-fn say(word: &[u8], n: u64) {
-    io::write_all(1, word);
-    io::print_decimal(1, n);
-}
 
 fn say_whether(word: &[u8], is: bool) {
     if is {

@@ -1,3 +1,7 @@
+pub mod NoColumns
+pub mod Rising
 pub mod Least
+pub mod ByKind
+pub mod Clean
 pub mod WithoutFault
 pub mod DueRecords

@@ -2,65 +2,32 @@
 -- record goes by what it reads to: one that reads alike, with permitted characters, is judged alike.
 -- Assumes nothing.
 use mathlib.Core.Path.{_≡_, refl, sym, ap, _∙_}
-use mathlib.Core.Bool.{Bool, true, false, cond, not, _||_}
-use mathlib.Core.List.{List, [], _∷_, _++_}
+use mathlib.Core.Bool.{Bool, true, false, not}
+use mathlib.Core.List.{List, []}
 use Prim.Native.Nat.{ℕ, zero, suc, _+_, _<_, _≤_}
 use native.Mathlib.Omega.{arith}
-use borrow.Author.Tests.{eqb-true, not-false, ltb-false}
-use lib.Dec.{eqb, ltb}
+use borrow.Author.Tests.{eqb-true, not-false}
 use lib.ListN.{length, drop, getD, List·getD-eq-default}
 use lib.Seq.{drop-drop, getD-drop}
-use Rattle.laws.specs.Search.{first}
-use Rattle.laws.specs.Walk.{All}
-use Rattle.laws.proofs.Search.{first-pass, first-to, either}
+use Rattle.laws.proofs.Search.{either}
 use Rattle.number.specs.Reading.{readField}
 use Rattle.columns.specs.Columns.{hasLineFeed}
 use Rattle.columns.specs.Class.{isPermitted, notPermitted}
 use Rattle.columns.specs.Fields.{inField, fieldsOf}
 use Rattle.record.specs.Numbers.{formAt, noValue, valueFault}
-use Rattle.rules_state.specs.declared.fault.Fault.the-variants.{Fine, At}
+use Rattle.rules_state.specs.declared.fault.Fault.the-variants.{Fine}
 use Rattle.rules_state.specs.declared.state.Track.{Track}
 use Rattle.rules_state.specs.State.{Seen, used}
 use Rattle.rules_state.specs.Role.{COMMON-VALUE, DATA-VALUE, isValue}
-use Rattle.rules_state.specs.Fault.{on, when, columnsFrom, columnsWhere, fieldColumn, leftmost, Finding}
-use Rattle.rules_state.specs.Fault.{firstFault}
+use Rattle.rules_state.specs.Fault.{when, columnsFrom, columnsWhere, fieldColumn, firstFault}
 use Rattle.rules_system.specs.Every.{rule2, rule3, rule5, rule6, expectedIdentification}
 use Rattle.rules_section.specs.Values.{optional, lineBlank, rule15}
 use Rattle.rules.specs.Order.{findings, faultOf}
-use Rattle.rules_state.proofs.Leftmost.{leftmost-where}
+use Rattle.rules.specs.Clean.{Clean}
 use Rattle.record.proofs.Readings.{fault-reads, fault-same, first-fault-same}
-
--- ---- no column at fault
-
--- where no rule is broken, none has found a column
-pub fine-none : (fs : List Finding) → firstFault fs ≡ Fine → All (λ f. leftmost (f .columns) ≡ 0) fs
-unfolding firstFault
-fine-none [] e = tt
-fine-none (f ∷ fs) e = by-column (eqb (leftmost (f .columns)) 0) refl e (fine-none fs)
-  where
-    by-column : (t : Bool) → eqb (leftmost (f .columns)) 0 ≡ t
-        → cond t (firstFault fs) (At (f .number) (leftmost (f .columns))) ≡ Fine
-        → (firstFault fs ≡ Fine → All (λ f. leftmost (f .columns) ≡ 0) fs)
-        → (leftmost (f .columns) ≡ 0) × All (λ f. leftmost (f .columns) ≡ 0) fs
-    by-column true q h rest = (eqb-true (leftmost (f .columns)) 0 q, rest h)
-    by-column false q h rest = let z : _≡_ {A = ℕ} 0 1 = cc in absurd (omega arith)
-
--- and none of the places meets the test
-pub where-none : (test : ℕ → Bool) (column : ℕ → ℕ) (n : ℕ) → ((k : ℕ) → 0 < column k)
-    → leftmost (columnsWhere test column n) ≡ 0 → (k : ℕ) → k < n → test k ≡ false
-where-none test column n above e k h =
-    by-test (ltb (first test 0 n) n) refl (sym (leftmost-where test column n) ∙ e)
-  where
-    by-test : (t : Bool) → ltb (first test 0 n) n ≡ t → cond t (column (first test 0 n)) 0 ≡ 0 → test k ≡ false
-    by-test true q z = let a : 0 < column (first test 0 n) = above (first test 0 n) in absurd (omega arith)
-    by-test false q z =
-        let a : n ≤ first test 0 n = ltb-false (first test 0 n) n q in
-        let b : first test 0 n ≤ 0 + n = first-to test 0 n in
-        first-pass test 0 n (omega arith) k (omega arith) (omega arith)
-
-when-none : (t : Bool) (k : ℕ) (ks : List ℕ) → leftmost (when t (suc k) ++ ks) ≡ 0 → leftmost ks ≡ 0
-when-none true k ks e = absurd (omega arith)
-when-none false k ks e = e
+use Rattle.rules.proofs.NoColumns.{when-none, append-none, where-none}
+use Rattle.rules.proofs.ByKind.{of-values}
+use Rattle.rules.proofs.Clean.{fine-clean}
 
 -- the columns go by the test alone
 where-same : (f g : ℕ → Bool) (column : ℕ → ℕ) (i n : ℕ) → ((k : ℕ) → i ≤ k → k < i + n → f k ≡ g k)
@@ -77,47 +44,31 @@ there r n x e =
 
 module _ (track : Track) (seen : Seen) (role : ℕ) (fs : List (List ℕ)) (r : List ℕ)
     (fine : faultOf track seen role fs r ≡ Fine) where
-  pub none-found : All (λ f. leftmost (f .columns) ≡ 0) (findings track seen role fs r)
-  unfolding faultOf
-  none-found = fine-none (findings track seen role fs r) fine
+  clean : Clean track seen role fs r
+  clean = fine-clean track seen role fs r fine
 
   -- 2: byte 81 is a line feed, so it is there
   pub fine-long : 80 < length r
   unfolding rule2
-  fine-long = by-test (hasLineFeed r) refl (none-found .0)
-    where
-      by-test : (t : Bool) → hasLineFeed r ≡ t → leftmost (when (not t) 81) ≡ 0 → 80 < length r
-      by-test true q e = there r 80 9 (eqb-true (getD r 80 0) 10 q)
-      by-test false q e = absurd (omega arith)
+  fine-long =
+      there r 80 9
+      (eqb-true (getD r 80 0) 10 (not-false (hasLineFeed r) (when-none (not (hasLineFeed r)) 81 (clean .every .two))))
 
   -- 3: every character is permitted
   pub fine-permitted : (i : ℕ) → i < 80 → isPermitted (getD r i 0) ≡ true
   unfolding rule3
   fine-permitted i h =
-      not-false (isPermitted (getD r i 0))
-      (where-none (notPermitted r) (λ k. k + 1) 80 (λ k. omega arith) (none-found .1 .0) i h)
+      not-false (isPermitted (getD r i 0)) (where-none (notPermitted r) (λ k. k + 1) 80 (clean .every .three) i h)
 
   -- 15: on a value record every field is blank or a number
   pub fine-reads : isValue role ≡ true → (k : ℕ) → k < 6 → noValue true (formAt (getD fs k [])) ≡ false
   unfolding rule15
   fine-reads e k h =
-      let found : leftmost (on (isValue role) (rule15 track role fs)) ≡ 0 =
-      none-found .1 .1 .1 .1 .1 .1 .1 .1 .1 .1 .1 .1 .1 .0 in
-      let here : leftmost (rule15 track role fs) ≡ 0 = rw e at found in
+      let (line, fields) = append-none (when (lineBlank track role fs) 1) _ (clean .fifteen e) in
       fault-reads (optional role) (used track) k (getD fs k [])
-      (where-none (inField (valueFault (optional role) (used track)) fs) fieldColumn 6 (λ k. omega arith)
-      (when-none (lineBlank track role fs) 0 _ here) k h)
+      (where-none (inField (valueFault (optional role) (used track)) fs) fieldColumn 6 fields k h)
 
 -- ---- judged alike
-
--- what holds of both roles of a value record holds of each
-pub of-values : (P : ℕ → Type 0) → P COMMON-VALUE → P DATA-VALUE → (role : ℕ) → isValue role ≡ true → P role
-of-values P in-common in-data role e = by-test (eqb role COMMON-VALUE) refl (optional role) refl e
-  where
-    by-test : (t : Bool) → eqb role COMMON-VALUE ≡ t → (u : Bool) → eqb role DATA-VALUE ≡ u → (t || u) ≡ true → P role
-    by-test true p u q h = let z : role ≡ COMMON-VALUE = eqb-true role COMMON-VALUE p in rw z in-common
-    by-test false p true q h = let z : role ≡ DATA-VALUE = eqb-true role DATA-VALUE q in rw z in-data
-    by-test false p false q h = let z : _≡_ {A = ℕ} 0 1 = cc in absurd (omega arith)
 
 -- two records of permitted characters
 pub permitted-alike : (r t : List ℕ) → ((i : ℕ) → i < 80 → isPermitted (getD r i 0) ≡ true)

@@ -14,8 +14,9 @@ use Rattle.columns.specs.Columns.{Whole}
 use Rattle.record.specs.declared.numbers.Values.{Values}
 use Rattle.rules_state.specs.declared.fault.Fault.{Fault}
 use Rattle.rules_state.specs.declared.state.Track.{Track}
-use Rattle.rules_state.specs.declared.state.Ranges.{Ranges}
-use Rattle.rules_state.specs.State.{Seen, Stands}
+use Rattle.rules_state.specs.declared.ranging.Ranges.{Ranges}
+use Rattle.rules_state.specs.State.{Seen}
+use Rattle.rules_state.specs.Ranging.{Stands}
 use Rattle.rules_state.specs.Role.{TEXT, DATA-HEADING, isSystem, opensSubentry, isHeading, isUnit, isValue}
 use Rattle.rules_state.specs.Fault.{on, leftmost, Finding, finding, firstFault}
 use Rattle.rules_system.specs.Every.{rule2, rule3, rule4, rule5, rule6}

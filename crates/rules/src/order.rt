@@ -1,24 +1,31 @@
 // The fault of a record: the first by the order of the table.
 ghost use mathlib.Core.Path.{_≡_};
 ghost use Prim.Native.Nat.{ℕ, _+_, _-_, _*_, _≤_, _<_};
+ghost use mathlib.Core.Bool.{cond};
+ghost use lib.Dec.{eqb};
 ghost use lib.ListN.{length, getD, drop};
 ghost use Rattle.columns.specs.Columns.{Whole};
 ghost use Rattle.columns.specs.Class.{ClassesLent};
 ghost use Rattle.record.specs.Identifier.{NamesLent};
 ghost use Rattle.number.specs.Form.{Tables};
-ghost use Rattle.rules_state.specs.State.{Stands, seenOf};
-ghost use Rattle.rules_state.specs.Fault.{firstFault};
+ghost use Rattle.rules_state.specs.Ranging.{Stands, bytesOf, seenOf};
+ghost use Rattle.rules_state.specs.Role.{TEXT, isHeading};
+ghost use Rattle.rules_state.specs.Fault.{leftmost, on, firstFault};
+ghost use Rattle.rules_section.specs.Text.{rule11Text};
+ghost use Rattle.rules_section.specs.Headings.{rule11Heading};
 ghost use Rattle.rules.specs.Order.{findings, faultOf, Judged};
 use record::identifier::Names;
 use record::numbers::Values;
-use rules_section::headings::rule11;
+use rules_section::headings::rule11_heading;
 use rules_section::headings::rule12;
 use rules_section::headings::rule13;
 use rules_section::headings::rule14;
 use rules_section::text::rule10;
+use rules_section::text::rule11_text;
 use rules_section::values::rule15;
 use rules_state::fault::Fault;
-use rules_state::state::Ranges;
+use rules_state::ranging::Ranges;
+use rules_state::role::TEXT;
 use rules_state::state::Track;
 use rules_system::every::rule2;
 use rules_system::every::rule3;
@@ -28,6 +35,19 @@ use rules_system::every::rule6;
 use rules_system::system::rule7;
 use rules_system::system::rule8;
 use rules_system::system::rule9;
+
+// Rule 11 is made on text records and on heading records.
+fn rule11(track: Track, ranges: Ranges, before: &[u8], role: usize, fs: [[u8; 11]; 6]) -> u8
+    requires { ⌜ Stands track ranges (now before) ⌝ }
+    ensures { λ r. ⌜ r
+        ≡ leftmost (cond (eqb role TEXT) (rule11Text (bytesOf (now (before .entry)) (ranges .under)) fs)
+        (on (isHeading role) (rule11Heading track fs))) ⌝ }
+{
+    if role == TEXT {
+        return rule11_text(track, ranges, before, fs);
+    }
+    rule11_heading(track, role, fs)
+}
 
 // From rule 10 on.
 fn section_fault<'a>(

@@ -8,57 +8,33 @@ ghost use lib.ListN.{length, getD};
 ghost use Rattle.laws.specs.Members.{anyOf};
 ghost use Rattle.laws.specs.Search.{first};
 ghost use Rattle.columns.specs.Columns.{Whole};
-ghost use Rattle.rules_state.specs.State.{Stands, used, bytesOf, seenOf};
-ghost use Rattle.rules_state.specs.Role.{TEXT, DATA-HEADING, isHeading, isUnit};
-ghost use Rattle.rules_state.specs.Fault.{leftmost, on, fieldColumn, pointerColumn, columnAt};
-ghost use Rattle.rules_section.specs.Text.{rule11Text};
+ghost use Rattle.rules_state.specs.State.{used};
+ghost use Rattle.rules_state.specs.Ranging.{Stands, bytesOf, seenOf};
+ghost use Rattle.rules_state.specs.Role.{DATA-HEADING, isHeading, isUnit};
+ghost use Rattle.rules_state.specs.Fault.{leftmost, on};
 ghost use Rattle.rules_section.specs.Headings.{rule11Heading, rule12Heading, rule12Unit, headingsIn, Earlier, earlier};
 ghost use Rattle.rules_section.specs.Headings.{partOf, headingsOf, Left, FAR, Near};
 ghost use Rattle.rules_section.specs.Headings.{placeOf, equalHeading, isFound, headingRepeated, rule13};
 ghost use Rattle.rules_section.specs.Headings.{headingPointers, pointersFor, pointerLost, lostAt, rule14};
 use crate::text::pointer_in;
-use crate::text::text_pointer;
 use columns::fields::field;
 use record::word::heading_fault;
 use record::word::pointer_fault;
 use record::word::same_heading;
 use record::word::unit_fault;
+use rules_state::fault::field_column;
+use rules_state::fault::pointer_column;
+use rules_state::ranging::Ranges;
+use rules_state::ranging::part;
 use rules_state::role::DATA_HEADING;
-use rules_state::role::TEXT;
 use rules_state::role::is_heading;
 use rules_state::role::is_unit;
-use rules_state::state::Ranges;
 use rules_state::state::Track;
-use rules_state::state::part;
 
 // A section and a column of it, both from 1, or nothing.
 pub enum Found {
     At(usize, usize),
     Nothing,
-}
-
-// The first column of the field k of n, 0 where k is not below n.
-pub fn field_column(k: usize, n: usize) -> u8
-    requires { ⌜ n ≤ 6 ⌝ }
-    ensures { λ r. ⌜ r ≡ columnAt fieldColumn k n ⌝ }
-{
-    if k < n {
-        let column = (k * 11 + 1) as u8;
-        return column;
-    }
-    0
-}
-
-// Its eleventh.
-fn pointer_column(k: usize, n: usize) -> u8
-    requires { ⌜ n ≤ 6 ⌝ }
-    ensures { λ r. ⌜ r ≡ columnAt pointerColumn k n ⌝ }
-{
-    if k < n {
-        let column = (k * 11 + 11) as u8;
-        return column;
-    }
-    0
 }
 
 // The headings of a part of heading records, six to a record.
@@ -266,15 +242,10 @@ fn lost_at(
     n
 }
 
-pub fn rule11(track: Track, ranges: Ranges, before: &[u8], role: usize, fs: [[u8; 11]; 6]) -> u8
-    requires { ⌜ Stands track ranges (now before) ⌝ }
-    ensures { λ r. ⌜ r
-        ≡ leftmost (cond (eqb role TEXT) (rule11Text (bytesOf (now (before .entry)) (ranges .under)) fs)
-        (on (isHeading role) (rule11Heading track fs))) ⌝ }
+// Rule 11 on a heading record.
+pub fn rule11_heading(track: Track, role: usize, fs: [[u8; 11]; 6]) -> u8
+    ensures { λ r. ⌜ r ≡ leftmost (on (isHeading role) (rule11Heading track fs)) ⌝ }
 {
-    if role == TEXT {
-        return text_pointer(track, ranges, before, fs);
-    }
     if !is_heading(role) {
         return 0;
     }

@@ -6,7 +6,7 @@ ghost use lib.Dec.{eqb};
 ghost use lib.ListN.{length, getD};
 ghost use Rattle.laws.specs.Members.{anyOf};
 ghost use Rattle.record.specs.Word.{equalTo};
-ghost use Rattle.rules_state.specs.State.{Stands, bytesOf};
+ghost use Rattle.rules_state.specs.Ranging.{Stands, bytesOf};
 ghost use Rattle.rules_state.specs.Role.{TEXT};
 ghost use Rattle.rules_state.specs.Fault.{leftmost, on};
 ghost use Rattle.rules_section.specs.Text.{placesOf, eightsOf, pointersOf, keywordFault, rule10, pointerRepeated};
@@ -17,10 +17,10 @@ use record::word::eight_columns;
 use record::word::is_keyword_blank;
 use record::word::is_word;
 use record::word::same_keyword;
+use rules_state::ranging::Ranges;
+use rules_state::ranging::part;
 use rules_state::role::TEXT;
-use rules_state::state::Ranges;
 use rules_state::state::Track;
-use rules_state::state::part;
 
 // Whether one of the records of a part has columns 3 to 10 of that number. One test a record and no array: about twice
 // as fast as comparing ten columns.
@@ -127,7 +127,7 @@ pub fn rule10(track: Track, ranges: Ranges, before: &[u8], role: usize, fs: [[u8
 }
 
 // Rule 11 on a text record.
-pub fn text_pointer(track: Track, ranges: Ranges, before: &[u8], fs: [[u8; 11]; 6]) -> u8
+pub fn rule11_text(track: Track, ranges: Ranges, before: &[u8], fs: [[u8; 11]; 6]) -> u8
     requires { ⌜ Stands track ranges (now before) ⌝ }
     ensures { λ r. ⌜ r ≡ leftmost (rule11Text (bytesOf (now (before .entry)) (ranges .under)) fs) ⌝ }
 {

@@ -15,8 +15,35 @@ use Rattle.rules_state.specs.declared.state.Track.{Track}
 use Rattle.rules_state.specs.State.{HEADINGS, UNITS}
 use Rattle.rules_state.specs.Role.{TEXT, COMMON-HEADING, COMMON-UNIT, COMMON-VALUE, DATA-HEADING, DATA-UNIT, DATA-VALUE}
 use Rattle.rules_state.specs.Role.{NOT-DUE, isHeading, only, either, bibRole, tableRole, dataRole, allRead, nextRole}
-use Rattle.rules_state.specs.Role.{roleIn, inBib, inTable}
+use Rattle.rules_state.specs.Role.{roleIn}
 use Rattle.rules_state.proofs.EitherWay.{either-way, no}
+
+-- inside BIB; inside COMMON or DATA
+abbrev pub inBib : Phase → Bool
+inBib Start = false
+inBib Opened = false
+inBib InSubentry = false
+inBib InBib = true
+inBib AfterBib = false
+inBib InCommon = false
+inBib AfterCommon = false
+inBib InData = false
+inBib AfterData = false
+inBib Between = false
+inBib Done = false
+
+abbrev pub inTable : Phase → Bool
+inTable Start = false
+inTable Opened = false
+inTable InSubentry = false
+inTable InBib = false
+inTable AfterBib = false
+inTable InCommon = true
+inTable AfterCommon = false
+inTable InData = true
+inTable AfterData = false
+inTable Between = false
+inTable Done = false
 
 -- neither of two: a test that fails on both
 neither : (f : ℕ → Bool) (b : Bool) (x y : ℕ) → f x ≡ false → f y ≡ false → f (cond b x y) ≡ false
@@ -24,13 +51,13 @@ neither f b x y p q = either-way (λ (k : ℕ). f k ≡ false) b x y p q
 
 -- a kind of record that is no system record, and due
 record Inner (f : ℕ → Bool) : Type 0 where
-  system : (k : ℕ) → k < 14 → f k ≡ false
+  system : (k : ℕ) → k < OTHER → f k ≡ false
   due : f NOT-DUE ≡ false
 
-only-not : (f : ℕ → Bool) → Inner f → (a k : ℕ) → a < 14 → f (only a k) ≡ false
+only-not : (f : ℕ → Bool) → Inner f → (a k : ℕ) → a < OTHER → f (only a k) ≡ false
 only-not f o a k h = neither f (eqb k a) a NOT-DUE (o .system a h) (o .due)
 
-either-not : (f : ℕ → Bool) → Inner f → (a b k : ℕ) → a < 14 → b < 14 → f (either a b k) ≡ false
+either-not : (f : ℕ → Bool) → Inner f → (a b k : ℕ) → a < OTHER → b < OTHER → f (either a b k) ≡ false
 either-not f o a b k h i = neither f (eqb k a) a (only b k) (o .system a h) (only-not f o b k i)
 
 data-not : (f : ℕ → Bool) → Inner f → (t : Track) (k : ℕ) → f (dataRole t k) ≡ false
@@ -86,7 +113,7 @@ pub record Heading (p : Phase) (t : Track) : Type 0 where
   pub table : inTable p ≡ true
   pub row : eqb (t .table .row) HEADINGS ≡ true
 
-heading-row : (end heading unit value : ℕ) → end < 14 → isHeading unit ≡ false → isHeading value ≡ false
+heading-row : (end heading unit value : ℕ) → end < OTHER → isHeading unit ≡ false → isHeading value ≡ false
     → (t : Track) (k : ℕ) → isHeading (tableRole end heading unit value t k) ≡ true
     → eqb (t .table .row) HEADINGS ≡ true
 unfolding tableRole

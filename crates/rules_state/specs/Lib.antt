@@ -1,3 +1,4 @@
 pub mod State
+pub mod Ranging
 pub mod Role
 pub mod Fault

@@ -1,7 +1,7 @@
 -- What a record is: its role, from what is due and from the system identifier in its columns 1 to 11. A record that
 -- is not due has the role NOT-DUE, which is refusal 4. Only here does the phase count; a rule goes by the role.
-use Prim.Native.Nat.{ℕ}
-use mathlib.Core.Bool.{Bool, true, false, cond, _||_}
+use Prim.Native.Nat.{ℕ, _+_}
+use mathlib.Core.Bool.{Bool, cond, _||_}
 use lib.Dec.{eqb, ltb}
 use Rattle.record.specs.Identifier.{ENTRY, SUBENT, NOSUBENT, BIB, NOBIB, ENDBIB, COMMON, NOCOMMON, ENDCOMMON, DATA}
 use Rattle.record.specs.Identifier.{NODATA, ENDDATA, ENDSUBENT, ENDENTRY, OTHER, isEnd}
@@ -14,28 +14,28 @@ use Rattle.rules_state.specs.State.{HEADINGS, UNITS}
 -- ---- the roles: a system record has its identifier's number; the records inside sections have these
 
 abbrev pub TEXT : ℕ
-TEXT = 15
+TEXT = OTHER + 1
 
 abbrev pub COMMON-HEADING : ℕ
-COMMON-HEADING = 16
+COMMON-HEADING = OTHER + 2
 
 abbrev pub COMMON-UNIT : ℕ
-COMMON-UNIT = 17
+COMMON-UNIT = OTHER + 3
 
 abbrev pub COMMON-VALUE : ℕ
-COMMON-VALUE = 18
+COMMON-VALUE = OTHER + 4
 
 abbrev pub DATA-HEADING : ℕ
-DATA-HEADING = 19
+DATA-HEADING = OTHER + 5
 
 abbrev pub DATA-UNIT : ℕ
-DATA-UNIT = 20
+DATA-UNIT = OTHER + 6
 
 abbrev pub DATA-VALUE : ℕ
-DATA-VALUE = 21
+DATA-VALUE = OTHER + 7
 
 abbrev pub NOT-DUE : ℕ
-NOT-DUE = 22
+NOT-DUE = OTHER + 8
 
 -- ---- kinds of roles
 
@@ -109,30 +109,3 @@ roleIn InData t k = tableRole ENDDATA DATA-HEADING DATA-UNIT DATA-VALUE t k
 roleIn AfterData t k = only ENDSUBENT k
 roleIn Between t k = nextRole k
 roleIn Done t k = NOT-DUE
-
--- inside BIB; inside COMMON or DATA
-abbrev pub inBib : Phase → Bool
-inBib Start = false
-inBib Opened = false
-inBib InSubentry = false
-inBib InBib = true
-inBib AfterBib = false
-inBib InCommon = false
-inBib AfterCommon = false
-inBib InData = false
-inBib AfterData = false
-inBib Between = false
-inBib Done = false
-
-abbrev pub inTable : Phase → Bool
-inTable Start = false
-inTable Opened = false
-inTable InSubentry = false
-inTable InBib = false
-inTable AfterBib = false
-inTable InCommon = true
-inTable AfterCommon = false
-inTable InData = true
-inTable AfterData = false
-inTable Between = false
-inTable Done = false

@@ -1,11 +1,11 @@
 -- Where judging stands between two records: a phase of the nesting, a track of plain numbers, and the parts of the
--- entry that a rule may look back at. No rule sees anything else of what stands before its record.
-use mathlib.Core.Path.{_≡_}
+-- entry that a rule may look back at. No rule sees anything else of what stands before its record. What the code keeps in
+-- place of the parts is in `Ranging`.
 use mathlib.Core.Bool.{Bool, true, cond}
 use mathlib.Core.List.{List, []}
-use Prim.Native.Nat.{ℕ, _+_, _*_, _-_, _≤_}
+use Prim.Native.Nat.{ℕ, _+_}
 use lib.Dec.{leb}
-use lib.ListN.{length, take, drop, replicate}
+use lib.ListN.{replicate}
 use Rattle.rules_state.specs.declared.state.Phase.{Phase}
 use Rattle.rules_state.specs.declared.state.Phase.the-variants.{Start}
 use Rattle.rules_state.specs.declared.state.Totals.{Totals}
@@ -13,8 +13,6 @@ use Rattle.rules_state.specs.declared.state.Subentry.{Subentry}
 use Rattle.rules_state.specs.declared.state.Bib.{Bib}
 use Rattle.rules_state.specs.declared.state.Table.{Table}
 use Rattle.rules_state.specs.declared.state.Track.{Track}
-use Rattle.rules_state.specs.declared.state.Range.{Range}
-use Rattle.rules_state.specs.declared.state.Ranges.{Ranges}
 
 -- ---- limits
 
@@ -36,18 +34,26 @@ LAST-SUBENTRY = 998
 
 -- ---- the context of a record
 
--- the records of this BIB so far, and of them those under the keyword in hand; the records of the BIB of 001; the
--- heading records of the COMMON of 001, of this subentry's COMMON, and of the section in hand so far
+-- what a rule may look back at, each part as the bytes of its records
 pub record Seen : Type 0 where
+  -- the text records of this subentry's BIB so far
   pub bib : List ℕ
+  -- of them those under the keyword in hand, from the record with the keyword on
   pub under : List ℕ
+  -- the text records of the BIB of 001, from the end of 001 on
   pub bib001 : List ℕ
+  -- the heading records of the COMMON of 001, from the end of 001 on
   pub common001 : List ℕ
+  -- the heading records of this subentry's COMMON, from its ENDCOMMON on
   pub common : List ℕ
+  -- the heading records of the COMMON or DATA in hand so far
   pub table : List ℕ
 
+-- where judging stands before a record
 pub record Context : Type 0 where
+  -- what is due: the place in the nesting
   pub phase : Phase
+  -- what is counted and announced; each field is said in src/state.rt
   pub track : Track
   pub seen : Seen
 
@@ -189,56 +195,3 @@ used t = cond (leb (t .table .rest) 6) (t .table .rest) 6
 -- the record in hand is the last of its row
 abbrev pub rowEnds : Track → Bool
 rowEnds t = leb (t .table .rest) 6
-
--- ---- the parts by the numbers of their records
-
--- the bytes of the records of a range
-abbrev pub bytesOf : List ℕ → Range → List ℕ
-bytesOf before g = take (g .past .0 * 81 - g .from .0 * 81) (drop (g .from .0 * 81) before)
-
-abbrev pub seenOf : List ℕ → Ranges → Seen
-seenOf before g =
-    record {
-      bib = bytesOf before (g .bib);
-      under = bytesOf before (g .under);
-      bib001 = bytesOf before (g .bib001);
-      common001 = bytesOf before (g .common001);
-      common = bytesOf before (g .common);
-      table = bytesOf before (g .table);
-    }
-
--- a range whose records lie among the bytes before the record in hand
-pub record Lent (before : List ℕ) (g : Range) : Type 0 where
-  pub ordered : g .from .0 ≤ g .past .0
-  pub within : g .past .0 * 81 ≤ length before
-
--- a range of records among the first n
-pub record Placed (g : Range) (n : ℕ) : Type 0 where
-  pub ordered : g .from .0 ≤ g .past .0
-  pub below : g .past .0 ≤ n
-
--- what was counted is no more than the records allow
-pub record Bounded (t : Track) : Type 0 where
-  pub records : t .records .0 ≤ MOST-RECORDS
-  pub subentries : t .totals .subentries ≤ t .records .0
-  pub keywords : t .totals .keywords ≤ t .records .0
-  pub lines : t .totals .lines ≤ t .records .0
-  pub numbers : t .totals .numbers ≤ t .records .0 * 6
-  pub subentry : t .subentry .records ≤ t .records .0
-  pub section : t .section ≤ t .records .0
-  pub met : t .bib .met ≤ t .records .0
-  pub line : t .table .line .0 ≤ t .records .0
-
-pub record AllPlaced (g : Ranges) (n : ℕ) : Type 0 where
-  pub bib : Placed (g .bib) n
-  pub under : Placed (g .under) n
-  pub bib001 : Placed (g .bib001) n
-  pub common001 : Placed (g .common001) n
-  pub common : Placed (g .common) n
-  pub table : Placed (g .table) n
-
--- a track and ranges before a record: `before` is all that stands before it
-pub record Stands (t : Track) (g : Ranges) (before : List ℕ) : Type 0 where
-  pub bounded : Bounded t
-  pub long : length before ≡ t .records .0 * 81
-  pub placed : AllPlaced g (t .records .0)

@@ -27,21 +27,21 @@ use record::identifier::SUBENT;
 use record::identifier::is_end;
 
 // The roles of the records inside sections; a system record has its identifier's number.
-pub const TEXT: usize = 15;
+pub const TEXT: usize = OTHER + 1;
 
-pub const COMMON_HEADING: usize = 16;
+pub const COMMON_HEADING: usize = OTHER + 2;
 
-pub const COMMON_UNIT: usize = 17;
+pub const COMMON_UNIT: usize = OTHER + 3;
 
-pub const COMMON_VALUE: usize = 18;
+pub const COMMON_VALUE: usize = OTHER + 4;
 
-pub const DATA_HEADING: usize = 19;
+pub const DATA_HEADING: usize = OTHER + 5;
 
-pub const DATA_UNIT: usize = 20;
+pub const DATA_UNIT: usize = OTHER + 6;
 
-pub const DATA_VALUE: usize = 21;
+pub const DATA_VALUE: usize = OTHER + 7;
 
-pub const NOT_DUE: usize = 22;
+pub const NOT_DUE: usize = OTHER + 8;
 
 // One of the fourteen system identifiers.
 pub fn is_system(role: usize) -> bool

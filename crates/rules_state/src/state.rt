@@ -1,13 +1,12 @@
-// The state between two records: a phase of the nesting, a track of plain numbers, and the records that a rule may
-// look back at.
+// The state between two records: a phase of the nesting and a track of plain numbers.
 ghost use mathlib.Core.Path.{_≡_};
 ghost use Prim.Native.Nat.{ℕ, _+_, _*_, _≤_, _<_};
 ghost use Rattle.rules_state.specs.State.{MOST-RECORDS, startTrack, withAccession, withTotals, withSubentry};
 ghost use Rattle.rules_state.specs.State.{withSection, withBib, withTable};
-ghost use Rattle.rules_state.specs.State.{counted, used, rowEnds, bytesOf, Bounded, Lent};
+ghost use Rattle.rules_state.specs.State.{counted, used, rowEnds};
+ghost use Rattle.rules_state.specs.Ranging.{Bounded};
 use columns::columns::Index;
 use columns::columns::LineNo;
-use columns::columns::offset_of;
 
 // What is due next.
 pub enum Phase {
@@ -32,58 +31,46 @@ pub struct Totals {
     pub numbers: u32,
 }
 
-// The subentry in hand: its number, and how many records stand behind its SUBENT.
+// The subentry in hand.
 pub struct Subentry {
     pub number: u32,
+    // How many records stand between its SUBENT and the record in hand.
     pub records: u32,
 }
 
-// What BIB announces, and the keywords met.
+// The BIB in hand: the keywords and records that it announces, and the keywords met.
 pub struct Bib {
     pub keywords: u64,
     pub records: u64,
     pub met: u32,
 }
 
-// What COMMON or DATA announces, its columns and its last line; and where the record in hand stands: in the headings,
-// the units or a line, with the columns that are left for it and those behind it in the row, and whether the line is
-// blank so far.
+// The COMMON or DATA in hand, and where the record in hand stands in it.
 pub struct Table {
+    // The columns that it announces, and the number of its last line.
     pub columns: u32,
     pub last: LineNo,
+    // HEADINGS, UNITS or VALUES, and among the values the line.
     pub row: u32,
     pub line: LineNo,
+    // How many columns of the row are left, those of the record in hand among them.
     pub rest: u32,
+    // Whether the line is blank so far.
     pub blank: bool,
 }
 
-// How many records stand before the record in hand, in the entry and in the section behind its system record; the
-// accession of ENTRY.
+// What is counted and announced before the record in hand.
 pub struct Track {
+    // How many records stand before it in the entry.
     pub records: Index,
+    // The accession of ENTRY.
     pub accession: [u8; 5],
     pub totals: Totals,
     pub subentry: Subentry,
+    // How many records stand between it and the system record that opens its section.
     pub section: u32,
     pub bib: Bib,
     pub table: Table,
-}
-
-// Records from one index up to another, that one not among them.
-pub struct Range {
-    pub from: Index,
-    pub past: Index,
-}
-
-// The records that a rule may look back at: this BIB so far, those under the keyword in hand, the BIB of 001; the
-// heading records of the COMMON of 001, of this COMMON, of the section in hand.
-pub struct Ranges {
-    pub bib: Range,
-    pub under: Range,
-    pub bib001: Range,
-    pub common001: Range,
-    pub common: Range,
-    pub table: Range,
 }
 
 // The rows of a table: headings, units, and the lines.
@@ -221,16 +208,4 @@ impl Track {
         let t = self.table;
         t.rest <= 6
     }
-}
-
-// The bytes of the records of a range.
-pub fn part<'a>(before: &'a [u8], range: Range) -> &'a [u8]
-    requires { ⌜ Lent (now before) range ⌝ }
-    ensures { λ r. ⌜ now r ≡ bytesOf (now (before .entry)) range ⌝ }
-{
-    let from = range.from;
-    let past = range.past;
-    let start = offset_of(from);
-    let end = offset_of(past);
-    &before[start..end]
 }

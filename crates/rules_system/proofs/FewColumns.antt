@@ -2,18 +2,14 @@
 -- Assumes nothing.
 use Prim.Native.Nat.{ℕ}
 use mathlib.Core.Path.{_≡_}
-use mathlib.Core.Bool.{Bool, true, false, _&&_}
-use native.Mathlib.Omega.{arith}
+use mathlib.Core.Bool.{true}
 use borrow.Author.Tests.{leb-true}
 use lib.Dec.{leb}
+use Rattle.laws.proofs.Booleans.{and-right}
 use Rattle.rules_state.specs.State.{MOST-COLUMNS}
 use Rattle.rules_system.specs.System.{Few, limitN1, meets}
-
-second : (a b : Bool) → (a && b) ≡ true → b ≡ true
-second true b e = e
-second false b e = let z : _≡_ {A = ℕ} 0 1 = cc in absurd (omega arith)
 
 pub few-columns : (role n : ℕ) → meets (limitN1 role) n ≡ true → Few role n
 unfolding limitN1
 few-columns role n e =
-    record { columns = λ common. leb-true n MOST-COLUMNS (second (leb 1 n) (leb n MOST-COLUMNS) (rw common at e)) }
+    record { columns = λ common. leb-true n MOST-COLUMNS (and-right (leb 1 n) (leb n MOST-COLUMNS) (rw common at e)) }

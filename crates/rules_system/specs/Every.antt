@@ -1,11 +1,11 @@
 -- The rules for every record: refusals 2 to 6.
 use Prim.Native.Nat.{ℕ, _+_}
 use mathlib.Core.Bool.{cond, not, _||_}
-use mathlib.Core.List.{List, []}
+use mathlib.Core.List.{List}
 use lib.Dec.{eqb}
-use lib.ListN.{getD}
 use Rattle.columns.specs.Columns.{hasLineFeed}
 use Rattle.columns.specs.Class.{notPermitted}
+use Rattle.columns.specs.Fields.{n1}
 use Rattle.record.specs.Identifier.{ENTRY, ENDSUBENT, ENDENTRY}
 use Rattle.record.specs.Word.{equalTo}
 use Rattle.record.specs.Expected.{identificationOf, sequenceOf, inDigits, identificationFor, entryAccession}
@@ -13,13 +13,6 @@ use Rattle.record.specs.Expected.{subentIdentification}
 use Rattle.rules_state.specs.declared.state.Track.{Track}
 use Rattle.rules_state.specs.Role.{NOT-DUE, opensSubentry}
 use Rattle.rules_state.specs.Fault.{when, columnsWhere}
-
--- "N1 is columns 12-22, N2 23-33."
-abbrev pub n1 : List (List ℕ) → List ℕ
-n1 fs = getD fs 1 []
-
-abbrev pub n2 : List (List ℕ) → List ℕ
-n2 fs = getD fs 2 []
 
 -- 2, "byte 81 not a line feed", column 81
 unfoldable pub rule2 : List ℕ → List ℕ

@@ -5,17 +5,18 @@ use mathlib.Core.Bool.{Bool, true, cond, not, _&&_, _||_}
 use mathlib.Core.List.{List, _++_}
 use lib.Dec.{eqb, ltb, leb}
 use Rattle.columns.specs.Text.{within}
-use Rattle.columns.specs.Columns.{columnsAt, recordsFor}
+use Rattle.columns.specs.Columns.{recordsFor}
+use Rattle.columns.specs.Fields.{n1, n2}
 use Rattle.record.specs.Word.{equalTo}
 use Rattle.record.specs.Identifier.{ENTRY, BIB, ENDBIB, COMMON, ENDSUBENT, ENDENTRY, isEnd}
 use Rattle.record.specs.System.{countOf, isCount, numberOf, isDate, isEntryN1, isSubentN1, subentryOf}
+use Rattle.record.specs.Expected.{subentAccession}
 use Rattle.rules_state.specs.declared.state.Track.{Track}
 use Rattle.rules_system.specs.declared.system.Limit.{Limit}
 use Rattle.rules_system.specs.declared.system.Limit.the-variants.{AtLeast, Between}
 use Rattle.rules_state.specs.State.{MOST-COLUMNS, MOST-LINES, LAST-SUBENTRY}
 use Rattle.rules_state.specs.Role.{opensSubentry, opensSection}
 use Rattle.rules_state.specs.Fault.{on, when}
-use Rattle.rules_system.specs.Every.{n1, n2}
 
 -- ---- the table of N1 and N2, each by its form
 
@@ -117,7 +118,7 @@ numberDue t number =
 
 -- the accession in N1 of SUBENT and NOSUBENT
 abbrev pub accessionN1 : List (List ℕ) → List ℕ
-accessionN1 fs = columnsAt 3 5 (n1 fs)
+accessionN1 fs = subentAccession (n1 fs)
 
 -- 9, "SUBENT/NOSUBENT: other accession, first not 001, not rising, 000 or 999", column 12
 unfoldable pub rule9 : Track → List (List ℕ) → List ℕ

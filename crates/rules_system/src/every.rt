@@ -4,7 +4,7 @@ ghost use Prim.Native.Nat.{ℕ, _+_, _-_, _*_, _≤_, _<_};
 ghost use lib.ListN.{length, getD};
 ghost use Rattle.columns.specs.Columns.{Whole};
 ghost use Rattle.columns.specs.Class.{ClassesLent};
-ghost use Rattle.rules_state.specs.State.{Bounded};
+ghost use Rattle.rules_state.specs.Ranging.{Bounded};
 ghost use Rattle.rules_state.specs.Fault.{leftmost};
 ghost use Rattle.rules_system.specs.Every.{rule2, rule3, rule4, expectedIdentification, rule5, expectedSequence, rule6};
 use columns::class::permitted_to;

@@ -8,9 +8,9 @@ ghost use Rattle.rules_state.specs.Fault.{leftmost, on};
 ghost use Rattle.rules_system.specs.System.{formN1, formN2, inForm, rule7, limitN1, limitN2, Few, meets};
 ghost use Rattle.rules_system.specs.System.{announcedFault, trueCount, keywordsTrue};
 ghost use Rattle.rules_system.specs.System.{countTrue, rule8, numberDue, rule9};
-ghost use Rattle.columns.specs.Text.{within};
-ghost use Rattle.columns.specs.Columns.{columnsAt};
+use columns::columns::records_for;
 use record::expected::same_five;
+use record::expected::subent_accession;
 use record::identifier::BIB;
 use record::identifier::COMMON;
 use record::identifier::ENDBIB;
@@ -26,6 +26,7 @@ use record::system::is_entry_n1;
 use record::system::is_subent_n1;
 use record::system::number_of;
 use record::system::subentry_of;
+use record::word::is_within;
 use rules_state::role::is_system;
 use rules_state::role::opens_section;
 use rules_state::role::opens_subentry;
@@ -142,7 +143,7 @@ fn limit_n2(role: usize, n: u64) -> Limit
         return Limit::AtLeast(n);
     }
     if role == COMMON {
-        let k = (n + 5) / 6;
+        let k = records_for(n as u32) as u64;
         let records = 3 * k;
         return Limit::Between(records, records);
     }
@@ -158,15 +159,6 @@ fn meets(limit: Limit, n: u64) -> bool
     }
 }
 
-fn is_within(least: u64, greatest: u64, n: u64) -> bool
-    ensures { λ r. ⌜ r ≡ within least greatest n ⌝ }
-{
-    if least <= n {
-        return n <= greatest;
-    }
-    false
-}
-
 // Of a record that opens a section.
 fn announced(role: usize, a: u64, b: u64) -> u8
     ensures { λ r. ⌜ r ≡ leftmost (announcedFault role a b) ⌝ }
@@ -178,13 +170,6 @@ fn announced(role: usize, a: u64, b: u64) -> u8
         return 23;
     }
     0
-}
-
-// The accession in N1 of SUBENT and NOSUBENT.
-fn subent_accession(f: [u8; 11]) -> [u8; 5]
-    ensures { λ r. ⌜ r ≡ columnsAt 3 5 f ⌝ }
-{
-    [f[3], f[4], f[5], f[6], f[7]]
 }
 
 // The count that an END record must give.
@@ -268,14 +253,16 @@ pub fn rule9(track: Track, role: usize, fs: [[u8; 11]; 6]) -> u8
     if !opens_subentry(role) {
         return 0;
     }
+    // Both the accession and the number stand in N1.
+    let column = 12;
     let f = fs[1];
     let own = subent_accession(f);
     let accession = track.accession;
     if !same_five(own, accession) {
-        return 12;
+        return column;
     }
     if number_due(track, subentry_of(f)) {
         return 0;
     }
-    12
+    column
 }

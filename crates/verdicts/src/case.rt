@@ -1,7 +1,7 @@
 // The bytes of a case, and what a line changes in them.
 ghost use Prim.Native.Nat.{_≤_};
-use crate::text::byte_at;
-use crate::text::number;
+use program_text::byte_at;
+use program_text::number_in;
 use std::num::wrapping_add_usize;
 use std::num::wrapping_sub_usize;
 
@@ -16,13 +16,13 @@ fn put(space: &mut [u8], at: usize, byte: u8) {
 
 // How many bytes stand before a column of the nth record.
 fn place(nth: usize, column: usize) -> usize
-    requires { ⌜ nth ≤ 9999999 ⌝ }
-    requires { ⌜ column ≤ 9999999 ⌝ }
+    requires { ⌜ nth ≤ 999999999 ⌝ }
+    requires { ⌜ column ≤ 999999999 ⌝ }
 {
     wrapping_sub_usize(nth * RECORD + column, RECORD + 1)
 }
 
-fn byte_of(n: usize) -> u8 {
+fn byte_of(n: u32) -> u8 {
     (n % 256) as u8
 }
 
@@ -101,13 +101,13 @@ fn put_unknown(line: &[u8]) {
 
 // Makes the change that a line of this kind asks for, and hands back the case's length.
 pub(crate) fn change(kind: u8, line: &[u8], case: &mut [u8], length: usize) -> usize {
-    let record = number(line, 1, 6);
-    let column = number(line, 7, 10);
+    let record = number_in(line, 1, 6) as usize;
+    let column = number_in(line, 7, 10) as usize;
     let start = place(record, 1);
     let at = place(record, column);
     match kind {
         b'=' => put_text(line, 11, case, at),
-        b'@' => put(case, at, byte_of(number(line, 11, 14))),
+        b'@' => put(case, at, byte_of(number_in(line, 11, 14))),
         b'-' => {
             return leave_out(case, start, length);
         }
@@ -117,7 +117,7 @@ pub(crate) fn change(kind: u8, line: &[u8], case: &mut [u8], length: usize) -> u
             return grown;
         }
         b'<' => {
-            return resize(case, length, number(line, 1, 8));
+            return resize(case, length, number_in(line, 1, 8) as usize);
         }
         b'#' | b' ' => {}
         _ => put_unknown(line),

@@ -12,18 +12,17 @@
 //     ! TITLE              judges the case, writes TITLE and the seven numbers, and begins again from the whole entry
 //     # ..                 a comment
 mod case;
-mod text;
 
+ghost use Prim.Native.Nat.{_≤_};
 ghost use mathlib.Core.Path.{_≡_};
 ghost use lib.ListN.{length};
+use bytes::scan::find;
 use case::begin;
 use case::change;
 use case::put_record;
-use entry::verdict::Verdict;
 use entry::verdict::judge;
-use text::byte_at;
-use text::least;
-use text::line_end;
+use program_text::byte_at;
+use program_verdict::say_verdict;
 
 // How many bytes the whole entry has, and the case.
 struct Lengths {
@@ -31,26 +30,11 @@ struct Lengths {
     case: usize,
 }
 
-fn wide(n: u32) -> u64 {
-    n as u64
-}
-
-fn put_number(n: u64) {
-    io::write_all(1, b" ");
-    io::print_decimal(1, n);
-}
-
-fn put_verdict(v: Verdict) {
-    let at = v.record;
-    let totals = v.totals;
-    put_number(v.refusal as u64);
-    put_number(wide(at.0));
-    put_number(v.column as u64);
-    put_number(wide(totals.subentries));
-    put_number(wide(totals.keywords));
-    put_number(wide(totals.lines));
-    put_number(wide(totals.numbers));
-    io::write_all(1, b"\n");
+fn least(a: usize, b: usize) -> usize
+    ensures { λ r. ⌜ r ≤ a ⌝ }
+    ensures { λ r. ⌜ r ≤ b ⌝ }
+{
+    if a < b { a } else { b }
 }
 
 // Writes the title, which follows `! ` in the line, and the verdict on the first `used` bytes.
@@ -58,8 +42,7 @@ fn show(line: &[u8], case: &[u8], used: usize) {
     let from = least(2, line.len());
     let length = least(used, case.len());
     io::write_all(1, &line[from..]);
-    io::write_all(1, b":");
-    put_verdict(judge(&case[0..length]));
+    say_verdict(b": ", judge(&case[0..length]));
 }
 
 impl Lengths {
@@ -96,7 +79,7 @@ fn run(text: &[u8], whole: &mut [u8], case: &mut [u8]) {
     let mut lengths = Lengths { whole: 0, case: 0 };
     let mut at = 0;
     while at < text.len() {
-        let end = line_end(text, at);
+        let end = find(text, at, text.len(), b'\n');
         lengths = lengths.after(&text[at..end], whole, case);
         if end == text.len() {
             return;

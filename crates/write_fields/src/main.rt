@@ -2,9 +2,11 @@
 ghost use Prim.Native.Nat.{_<_};
 use canonical::write::Written;
 use canonical::write::write_number;
+use check::same;
 use number::read::read_number;
 use number::value::Decimal;
 use number::value::Reading;
+use program_text::say_line;
 
 // How many were written and refused, how many read back to the same field, and a checksum of fields and coefficients.
 struct Tally {
@@ -26,15 +28,6 @@ fn field_sum(sum: u64, field: [u8; 11]) -> u64 {
     s
 }
 
-fn same(a: [u8; 11], b: [u8; 11]) -> u64 {
-    for i in 0usize..11 {
-        if a[i] != b[i] {
-            return 0;
-        }
-    }
-    1
-}
-
 // What was read is written again; `before` is the field that it was read from.
 fn again(t: Tally, before: [u8; 11], negative: bool, coefficient: u64, power: i32) -> Tally {
     let mut field = [35u8; 11];
@@ -42,7 +35,7 @@ fn again(t: Tally, before: [u8; 11], negative: bool, coefficient: u64, power: i3
     Tally {
         wrote: t.wrote,
         refused: t.refused,
-        again: std::num::wrapping_add_u64(t.again, same(field, before)),
+        again: std::num::wrapping_add_u64(t.again, same(&field, &before) as u64),
         sum: mixed(t.sum, coefficient),
     }
 }
@@ -225,37 +218,20 @@ fn start() -> Tally {
     }
 }
 
-fn line(text: &[u8]) {
-    io::write_all(1, text);
-    io::write_all(1, &[10u8]);
-}
-
-fn number(n: u64) {
-    io::print_decimal(1, n);
-    io::write_all(1, &[32u8]);
-}
-
 fn report(t: Tally) {
-    let wrote = t.wrote;
-    let refused = t.refused;
-    let again = t.again;
-    let sum = t.sum;
-    number(wrote);
-    number(refused);
-    number(again);
-    io::print_decimal(1, sum % 1000003);
-    io::write_all(1, &[10u8]);
+    let all = [t.wrote, t.refused, t.again, t.sum % 1000003];
+    say_line(b"", &all);
 }
 
 // The field that is written, or the number of the refusal.
 fn show(negative: bool, coefficient: u64, power: i32) {
     let mut field = [35u8; 11];
     match write_number(negative, coefficient, power, &mut field) {
-        Written::Done => line(&field),
-        Written::Refused(n) => {
-            io::print_decimal(1, n as u64);
-            io::write_all(1, &[10u8]);
+        Written::Done => {
+            io::write_all(1, &field);
+            io::write_all(1, b"\n");
         }
+        Written::Refused(n) => say_line(b"", &[n as u64]),
     }
 }
 

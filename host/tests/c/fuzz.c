@@ -95,33 +95,61 @@ static size_t mutate(size_t n) {
 
 static uint64_t refusals[64], asked;
 
+/* the arrays that calls are lent, against a page too, and what stands in them before */
+static Buffer lent;
+
+static uint64_t *lend(size_t numbers) {
+    if (!lent.pages) {
+        lent = fenced();
+    }
+    lay(&lent, 8 * numbers);
+    memset(lent.bytes, 0xa5, lent.length);
+    return (uint64_t *)(void *)lent.bytes;
+}
+
+static void untouched(uint64_t word) {
+    for (size_t i = 0; i < lent.length && x4_refusal(word); i++) {
+        check(lent.bytes[i] == 0xa5, "a refused call stores nothing");
+    }
+}
+
 static void told(uint64_t word, uint64_t verdict, const char *numbers) {
     uint32_t n = x4_refusal(word);
     asked++;
     refusals[n]++;
     check(n == 0 || strchr(numbers, (int)n), "a refusal that the question does not have");
-    check((n == 31) == (x4_refusal(verdict) != 0), "31 exactly where the entry is refused");
-    uint64_t beside = x4_bits(word, 8, 32), wanted = n == 31 ? x4_bits(verdict, 8, 32) : 0;
-    check(n == 0 || beside == wanted, "what stands beside the refusal");
+    check((n == 31) == (verdict != 0), "31 exactly where the entry is refused");
+    check(word >> 8 == (n == 31 ? verdict >> 8 : 0), "what stands beside the refusal");
 }
 
 static void part(const Buffer *entry, uint64_t word, uint64_t verdict, const char *numbers, size_t whole) {
+    const uint64_t *p = (const uint64_t *)(void *)lent.bytes;
     told(word, verdict, numbers);
-    if (!x4_refusal(word)) {
-        check(x4_first(word) + x4_length(word) <= entry->length, "a part lies in the entry");
-        check(x4_length(word) > 0 && x4_length(word) % whole == 0, "ten columns, or whole records");
+    untouched(word);
+    if (!word) {
+        check(p[0] + p[1] <= entry->length, "a part lies in the entry");
+        check(p[1] > 0 && p[1] % whole == 0, "ten columns, or whole records");
+        check(p[2] <= 255, "a pointer is a byte");
     }
 }
 
-static void number(uint64_t word) {
+/* a value that was stored: blank, or a number that is written and reads to itself */
+static void value(const uint64_t *stored) {
     static Buffer out;
     if (!out.pages) {
         out = fenced();
     }
-    lay(&out, 11);
-    check(x4_write_number((uint32_t)x4_negative(word), x4_coefficient(word), x4_power(word), out.bytes, 11) == 0,
-          "a number that was read is written");
-    check(x4_read_number(out.bytes, 11) == word, "and reads to itself");
+    uint64_t v[8];
+    memcpy(v, stored, sizeof v);
+    check(v[0] <= 1 && v[1] <= v[0] && !v[4] && !v[5] && !v[6] && !v[7], "eight numbers in their rooms");
+    check(x4_is_number(v) || (!v[2] && !v[3]), "a blank has no digits");
+    if (x4_is_number(v)) {
+        lay(&out, 11);
+        check(x4_write_number((uint32_t)x4_negative(v), x4_coefficient(v), x4_power(v), out.bytes, 11) == 0,
+              "a number that was read is written");
+        uint64_t *again = lend(8);
+        check(x4_read_number(out.bytes, 11, again) == 0 && !memcmp(again, v, sizeof v), "and reads to itself");
+    }
 }
 
 static void questions(const Buffer *entry, Buffer *keyword, uint64_t verdict) {
@@ -132,26 +160,45 @@ static void questions(const Buffer *entry, Buffer *keyword, uint64_t verdict) {
     uint32_t section = below(8) ? 1 + (uint32_t)below(2) : (uint32_t)bits();
     uint32_t line = below(4) ? 1 + (uint32_t)below(3) : (uint32_t)bits();
     uint32_t column = (uint32_t)(below(3) ? 1 + below(3) : below(20));
-    uint64_t word = x4_value(e, n, subentry, section, line, column);
-    check(word == x4_value(e, n, subentry, section, line, column), "the same answer again");
+    uint64_t first[8];
+    uint64_t word = x4_value(e, n, subentry, section, line, column, lend(8));
+    memcpy(first, lent.bytes, sizeof first);
+    check(word == x4_value(e, n, subentry, section, line, column, lend(8)) && !memcmp(first, lent.bytes, sizeof first),
+          "the same answer again");
     told(word, verdict, "\x1f\x20\x21\x22\x23");
-    if (x4_is_number(word)) {
-        number(word);
+    untouched(word);
+    if (!word) {
+        value(first);
     }
-    part(entry, x4_heading(e, n, subentry, section, column), verdict, "\x1f\x20\x21\x23", 10);
-    part(entry, x4_unit(e, n, subentry, section, column), verdict, "\x1f\x20\x21\x23", 10);
+    word = x4_heading(e, n, subentry, section, column, lend(3));
+    part(entry, word, verdict, "\x1f\x20\x21\x23", 10);
+    word = x4_unit(e, n, subentry, section, column, lend(3));
+    part(entry, word, verdict, "\x1f\x20\x21\x23", 10);
     lay(keyword, below(6) ? 10 : below(24));
     for (size_t i = 0; i < keyword->length; i++) {
         keyword->bytes[i] = at + i < n ? e[at + i] : ' ';
     }
     uint8_t pointer = at + 10 < n && below(3) ? e[at + 10] : ' ';
-    word = x4_passage(e, n, subentry, keyword->bytes, keyword->length, pointer);
+    const uint64_t *p = lend(3);
+    word = x4_passage(e, n, subentry, keyword->bytes, keyword->length, pointer, lend(3));
     part(entry, word, verdict, "\x1f\x20\x21\x24", RECORD);
-    check(keyword->length == 10 || x4_refusal(word), "a keyword of another length has no passage");
-    check(x4_refusal(word) || x4_pointer(word) == pointer, "the pointer asked for");
+    check(keyword->length == 10 || word, "a keyword of another length has no passage");
+    check(word || p[2] == pointer, "the pointer asked for");
 }
 
-static void copies(const Buffer *entry, Buffer *copy, Buffer *again, uint64_t verdict) {
+/* the verdict on an entry; its totals are no more than its records allow */
+static uint64_t judged(const uint8_t *entry, size_t n, uint64_t totals[4]) {
+    uint64_t word = x4_judge(entry, n, lend(4)), records = n / RECORD;
+    memcpy(totals, lent.bytes, 4 * sizeof *totals);
+    untouched(word);
+    check(x4_refusal(word) <= 16 && x4_refusal(word) == x4_entry_refusal(word), "1 to 16, twice");
+    check(x4_entry_record(word) <= records + 1 && x4_entry_column(word) <= 81 && word >> 48 == 0, "where it is refused");
+    check(word || (totals[0] <= records && totals[1] <= records && totals[2] <= records && totals[3] <= 6 * records),
+          "totals");
+    return word;
+}
+
+static void copies(const Buffer *entry, Buffer *copy, Buffer *again, uint64_t verdict, const uint64_t totals[4]) {
     static uint8_t before[ROOM];
     size_t n = entry->length, room = below(2) ? n + below(100) : below(n + 100);
     lay(copy, room);
@@ -159,13 +206,15 @@ static void copies(const Buffer *entry, Buffer *copy, Buffer *again, uint64_t ve
     memcpy(copy->bytes, before, room);
     uint64_t word = x4_copy(entry->bytes, n, copy->bytes, room);
     told(word, verdict, "\x1f\x25");
-    if (x4_refusal(word)) {
+    if (word) {
         check(x4_refusal(word) == 31 || room < n, "37 where the buffer is shorter");
         check(!memcmp(copy->bytes, before, room), "a refused call stores nothing");
         return;
     }
+    uint64_t copied[4];
     check(!memcmp(copy->bytes + n, before, room - n), "bytes past the entry's length stay");
-    check(x4_judge(copy->bytes, n) == verdict, "the copy has the entry's verdict");
+    check(judged(copy->bytes, n, copied) == verdict && !memcmp(copied, totals, sizeof copied),
+          "the copy has the entry's verdict");
     lay(again, n);
     check(x4_copy(copy->bytes, n, again->bytes, n) == 0 && !memcmp(copy->bytes, again->bytes, n), "it is its own copy");
 }
@@ -175,10 +224,12 @@ static void fields(Buffer *field) {
     for (size_t i = 0; i < field->length; i++) {
         field->bytes[i] = (uint8_t)(below(30) ? "  0123456789+-.E"[below(16)] : bits());
     }
-    uint64_t word = x4_read_number(field->bytes, field->length);
-    check(x4_refusal(word) == 0 || x4_refusal(word) == (field->length == 11 ? 15u : 40u), "15 or 40");
-    if (x4_is_number(word)) {
-        number(word);
+    uint64_t *v = lend(8);
+    uint64_t word = x4_read_number(field->bytes, field->length, v);
+    check(word == 0 || word == (field->length == 11 ? 15u : 40u), "15 or 40");
+    untouched(word);
+    if (!word) {
+        value(v);
     }
     lay(field, below(4) ? 11 : below(20));
     memset(field->bytes, '#', field->length);
@@ -197,6 +248,7 @@ int main(int count, char **words) {
         return 2;
     }
     uint64_t first = strtoull(words[1], NULL, 10), rounds = strtoull(words[2], NULL, 10), accepted = 0;
+    check(x4_version() == X4_VERSION, "another version");
     Buffer entry = fenced(), copy = fenced(), again = fenced(), keyword = fenced(), field = fenced();
     for (seed = first; seed < first + rounds; seed++) {
         state = seed;
@@ -205,13 +257,12 @@ int main(int count, char **words) {
         size_t n = mutate(fread(work, 1, MOST, file));
         fclose(file);
         fill(&entry, work, n);
-        uint64_t verdict = x4_judge(entry.bytes, n);
-        check(x4_refusal(verdict) <= 16, "1 to 16");
-        accepted += x4_refusal(verdict) == 0;
+        uint64_t totals[4], verdict = judged(entry.bytes, n, totals);
+        accepted += verdict == 0;
         for (int i = 0; i < 8; i++) {
             questions(&entry, &keyword, verdict);
         }
-        copies(&entry, &copy, &again, verdict);
+        copies(&entry, &copy, &again, verdict, totals);
         for (int i = 0; i < 8; i++) {
             fields(&field);
         }

@@ -9,16 +9,17 @@ int main(void) {
     char line[64];
     while (fgets(line, sizeof line, stdin)) {
         size_t length = strcspn(line, "\n");
-        uint64_t word = x4_read_number((const uint8_t *)line, length);
-        if (x4_is_blank(word)) {
-            puts("blank");
-        } else if (!x4_is_number(word)) {
+        uint64_t v[8];
+        uint64_t word = x4_read_number((const uint8_t *)line, length, v);
+        if (x4_refusal(word)) {
             printf("refused %" PRIu32 "\n", x4_refusal(word));
+        } else if (!x4_is_number(v)) {
+            puts("blank");
         } else {
             uint8_t out[11];
-            uint32_t done = x4_write_number((uint32_t)x4_negative(word), x4_coefficient(word), x4_power(word), out, 11);
-            printf("%s%" PRIu64 "E%" PRId32 " %" PRIu32 " '%.11s'\n", x4_negative(word) ? "-" : "", x4_coefficient(word),
-                   x4_power(word), done, (const char *)out);
+            uint32_t done = x4_write_number((uint32_t)x4_negative(v), x4_coefficient(v), x4_power(v), out, 11);
+            printf("%s%" PRIu64 "E%" PRId32 " %" PRIu32 " '%.11s'\n", x4_negative(v) ? "-" : "", x4_coefficient(v),
+                   x4_power(v), done, (const char *)out);
         }
     }
     return 0;

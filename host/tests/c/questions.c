@@ -8,15 +8,13 @@
 
 static uint8_t entry[1700000], copy[1700000];
 
-static void part(uint64_t word) {
-    printf("%zu %zu %u\n", x4_first(word), x4_length(word), x4_pointer(word));
-}
+static void part(const uint64_t p[3]) { printf("%" PRIu64 " %" PRIu64 " %" PRIu64 "\n", p[0], p[1], p[2]); }
 
-static void value(uint64_t word) {
-    if (x4_is_blank(word)) {
+static void value(const uint64_t v[8]) {
+    if (!x4_is_number(v)) {
         puts("blank");
     } else {
-        printf("%s%" PRIu64 "E%" PRId32 "\n", x4_negative(word) ? "-" : "", x4_coefficient(word), x4_power(word));
+        printf("%s%" PRIu64 "E%" PRId32 "\n", x4_negative(v) ? "-" : "", x4_coefficient(v), x4_power(v));
     }
 }
 
@@ -33,17 +31,17 @@ static void answer(size_t length, char *line) {
     unsigned a = 0, b = 0, c = 0, d = 0;
     char question[16];
     sscanf(line, "%15s %u %u %u %u", question, &a, &b, &c, &d);
-    uint64_t word = 0;
+    uint64_t word = 0, v[8], p[3];
     if (!strcmp(question, "value")) {
-        word = x4_value(entry, length, a, b, c, d);
+        word = x4_value(entry, length, a, b, c, d, v);
     } else if (!strcmp(question, "heading")) {
-        word = x4_heading(entry, length, a, b, c);
+        word = x4_heading(entry, length, a, b, c, p);
     } else if (!strcmp(question, "unit")) {
-        word = x4_unit(entry, length, a, b, c);
+        word = x4_unit(entry, length, a, b, c, p);
     } else if (!strcmp(question, "passage")) {
         /* behind two numbers and one blank each */
         char *text = strchr(strchr(strchr(line, ' ') + 1, ' ') + 1, ' ') + 1;
-        word = x4_passage(entry, length, a, (const uint8_t *)text, strlen(text), (uint8_t)b);
+        word = x4_passage(entry, length, a, (const uint8_t *)text, strlen(text), (uint8_t)b, p);
     } else {
         memset(copy, '#', sizeof copy);
         word = x4_copy(entry, length, copy, a);
@@ -53,11 +51,11 @@ static void answer(size_t length, char *line) {
         printf("refused %" PRIu32 " %" PRIu32 " %" PRIu32 " %" PRIu32 "\n", x4_refusal(word), x4_entry_refusal(word),
                x4_entry_record(word), x4_entry_column(word));
     } else if (!strcmp(question, "value")) {
-        value(word);
+        value(v);
     } else if (!strcmp(question, "copy")) {
         puts("copied");
     } else {
-        part(word);
+        part(p);
     }
 }
 

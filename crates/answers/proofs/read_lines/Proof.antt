@@ -6,7 +6,6 @@ use Rattle.answers.proofs.read_lines.Statement.{statement}
 use Rattle.answers.proofs.read_lines.Tie as tie
 use Rattle.answers.proofs.read_lines.Reads as reads
 use Rattle.answers.proofs.read_lines.Lts as lts
-use Rattle.answers.proofs.line_end.Reads as line-end-reads
 use Rattle.answers.proofs.read_line.Reads as read-line-reads
 
 abbrev Inv-loop : tie.InvT-loop
@@ -20,8 +19,8 @@ loop-holds : tie.Need-loop-holds Inv-loop μ-loop
 loop-holds c = refl
 
 -- src/main.rt:238:13
-line-end-requires : tie.Need-line-end-requires Inv-loop μ-loop
-line-end-requires c κs = search needs
+find-requires : tie.Need-find-requires Inv-loop μ-loop
+find-requires c κs = search needs
 
 -- src/main.rt:239:39
 sub-read-line : tie.Need-sub-read-line Inv-loop μ-loop
@@ -68,7 +67,7 @@ read-lines-spec =
     Inv-loop
     μ-loop
     loop-holds
-    line-end-requires
+    find-requires
     sub-read-line
     part-read-line-start
     part-read-line-end

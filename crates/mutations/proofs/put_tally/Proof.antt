@@ -5,22 +5,31 @@ use Rattle.mutations.proofs.put_tally.Statement.{statement}
 use Rattle.mutations.proofs.put_tally.Tie as tie
 
 abbrev Inv-loop : tie.InvT-loop
-Inv-loop tally counts i₀ t4 t5 i = i ≤ 17
+Inv-loop tally counts i₀ t6 t7 i = i ≤ 17
 
 abbrev μ-loop : tie.MeasureT-loop
-μ-loop tally counts i₀ t4 t5 i = 17 - i
+μ-loop tally counts i₀ t6 t7 i = 17 - i
 
 loop-holds : tie.Need-loop-holds Inv-loop μ-loop
 loop-holds c = search needs
 
-mul-put-line : tie.Need-mul-put-line Inv-loop μ-loop
-mul-put-line c = search needs
+mul-count : tie.Need-mul-count Inv-loop μ-loop
+mul-count c = search needs
 
-array-read-put-line : tie.Need-array-read-put-line Inv-loop μ-loop
-array-read-put-line c = search needs
+array-read-count : tie.Need-array-read-count Inv-loop μ-loop
+array-read-count c = search needs
 
-put-line-requires : tie.Need-put-line-requires Inv-loop μ-loop
-put-line-requires c κs = search needs
+cast-count : tie.Need-cast-count Inv-loop μ-loop
+cast-count c = search needs
+
+slice-aggregate-say-line : tie.Need-slice-aggregate-say-line Inv-loop μ-loop
+slice-aggregate-say-line c = search needs
+
+slice-aggregate-say-line-2 : tie.Need-slice-aggregate-say-line-2 Inv-loop μ-loop
+slice-aggregate-say-line-2 c = search needs
+
+say-line-requires : tie.Need-say-line-requires Inv-loop μ-loop
+say-line-requires c κs = search needs
 
 add-i : tie.Need-add-i Inv-loop μ-loop
 add-i c = search needs
@@ -31,26 +40,20 @@ loop-less c = search needs
 loop-again : tie.Need-loop-again Inv-loop μ-loop
 loop-again c = search needs
 
-slice-aggregate-write-all : tie.Need-slice-aggregate-write-all Inv-loop μ-loop
-slice-aggregate-write-all c = search needs
+cast-sum : tie.Need-cast-sum Inv-loop μ-loop
+cast-sum c = search needs
 
-write-all-requires : tie.Need-write-all-requires Inv-loop μ-loop
-write-all-requires c κs = search needs
+slice-aggregate-say-line-3 : tie.Need-slice-aggregate-say-line-3 Inv-loop μ-loop
+slice-aggregate-say-line-3 c = search needs
 
-cast-print-decimal : tie.Need-cast-print-decimal Inv-loop μ-loop
-cast-print-decimal c = search needs
+slice-aggregate-say-line-4 : tie.Need-slice-aggregate-say-line-4 Inv-loop μ-loop
+slice-aggregate-say-line-4 c = search needs
 
-print-decimal-requires : tie.Need-print-decimal-requires Inv-loop μ-loop
-print-decimal-requires c κs = search needs
-
-slice-aggregate-write-all-2 : tie.Need-slice-aggregate-write-all-2 Inv-loop μ-loop
-slice-aggregate-write-all-2 c = search needs
-
-write-all-requires-2 : tie.Need-write-all-requires-2 Inv-loop μ-loop
-write-all-requires-2 c κs = search needs
+say-line-requires-2 : tie.Need-say-line-requires-2 Inv-loop μ-loop
+say-line-requires-2 c κs = search needs
 
 returns : tie.Need-returns Inv-loop μ-loop
-returns c = search needs
+returns c = tt
 
 pub put-tally-spec : {M : Type 1} → statement M
 put-tally-spec =
@@ -59,16 +62,17 @@ put-tally-spec =
     Inv-loop
     μ-loop
     loop-holds
-    mul-put-line
-    array-read-put-line
-    put-line-requires
+    mul-count
+    array-read-count
+    cast-count
+    slice-aggregate-say-line
+    slice-aggregate-say-line-2
+    say-line-requires
     add-i
     loop-less
     loop-again
-    slice-aggregate-write-all
-    write-all-requires
-    cast-print-decimal
-    print-decimal-requires
-    slice-aggregate-write-all-2
-    write-all-requires-2
+    cast-sum
+    slice-aggregate-say-line-3
+    slice-aggregate-say-line-4
+    say-line-requires-2
     returns)

@@ -14,8 +14,8 @@ abbrev μ-loop : tie.MeasureT-loop
 loop-holds : tie.Need-loop-holds Inv-loop μ-loop
 loop-holds c = omega arith
 
-line-end-requires : tie.Need-line-end-requires Inv-loop μ-loop
-line-end-requires c κs = search needs
+find-requires : tie.Need-find-requires Inv-loop μ-loop
+find-requires c κs = search needs
 
 sub-show-line : tie.Need-sub-show-line Inv-loop μ-loop
 sub-show-line c = search needs
@@ -36,7 +36,7 @@ loop-less : tie.Need-loop-less Inv-loop μ-loop
 loop-less c = search needs
 
 loop-again : tie.Need-loop-again Inv-loop μ-loop
-loop-again c = omega (arith, c .before .before .line-end .ensures)
+loop-again c = omega (arith, c .before .before .find .ensures)
 
 returns : tie.Need-returns Inv-loop μ-loop
 returns c = tt
@@ -48,7 +48,7 @@ show-lines-spec =
     Inv-loop
     μ-loop
     loop-holds
-    line-end-requires
+    find-requires
     sub-show-line
     part-show-line-start
     part-show-line-end

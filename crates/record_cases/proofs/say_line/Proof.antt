@@ -9,7 +9,6 @@ use Rattle.record_cases.proofs.say_line.Reads as reads
 use Rattle.record_cases.proofs.say_line.Lts as lts
 use Rattle.io.proofs.write_all.Reads as write-all-reads
 use Rattle.columns.proofs.columns.place_of.Reads as place-of-reads
-use Rattle.record_cases.proofs.say.Reads as say-reads
 
 abbrev Inv-loop : tie.InvT-loop
 Inv-loop line column₀ t5 t6 t7 column = (1 ≤ line) × (line ≤ 2) × (1 ≤ column)

@@ -7,22 +7,25 @@ use Rattle.copy.proofs.copy.copy.Reads as reads
 use Rattle.copy.proofs.copy.copy.Lts as lts
 use Rattle.copy.proofs.copy.copy_records.Reads as copy-records-reads
 use Rattle.entry.proofs.verdict.judge.Reads as judge-reads
-use Rattle.copy.proofs.copy.plain.Reads as plain-reads
 
 -- src/copy.rt:156:9
 judge-requires : tie.Need-judge-requires
 judge-requires c κs = search needs
 
 -- src/copy.rt:159:9
+answer-for-requires : tie.Need-answer-for-requires
+answer-for-requires c κs = search needs
+
 returns : tie.Need-returns
 returns c =
-    refused-copied (c .before .before .before .before .before .before .args .entry .now)
+    let p = refused-copied (c .before .before .before .before .before .before .args .entry .now)
     (c .before .before .before .before .before .before .args .out .now) (c .before .before .before .judge .result)
-    (c .before .before .before .judge .ensures) (c .before .if1 .taken)
+    (c .before .before .before .judge .ensures) (c .before .if1 .taken) in
+    (c .answer-for .ensures ∙ p .0, p .1)
 
 -- src/copy.rt:167:9
-plain-requires : tie.Need-plain-requires
-plain-requires c κs = search needs
+answer-of-requires : tie.Need-answer-of-requires
+answer-of-requires c κs = search needs
 
 -- src/copy.rt:167:9
 returns-2 : tie.Need-returns-2
@@ -31,7 +34,7 @@ returns-2 c =
     (c .before .before .before .before .before .before .before .args .out .now)
     (c .before .before .before .before .judge .result) (c .before .before .before .before .judge .ensures)
     (c .before .before .if1 .left) (c .before .if2 .taken) in
-    (c .plain .ensures ∙ p .0, p .1)
+    (c .answer-of .ensures ∙ p .0, p .1)
 
 -- src/copy.rt:169:5
 copy-records-requires : tie.Need-copy-records-requires
@@ -42,8 +45,8 @@ copy-records-requires c κs =
     (c .before .before .if1 .left) (c .before .if2 .left)
 
 -- src/copy.rt:170:5
-plain-requires-2 : tie.Need-plain-requires-2
-plain-requires-2 c κs = search needs
+answer-of-requires-2 : tie.Need-answer-of-requires-2
+answer-of-requires-2 c κs = search needs
 
 -- src/copy.rt:153:1
 same-length : tie.Need-same-length
@@ -59,17 +62,18 @@ returns-3 c =
     (c .before .before .before .before .before .before .before .before .judge .ensures)
     (c .before .before .before .before .before .before .if1 .left)
     (c .before .before .before .before .before .if2 .left) in
-    (c .plain2 .ensures ∙ p .0, c .before .before .before .copy-records .ensures ∙ p .1)
+    (c .answer-of2 .ensures ∙ p .0, c .before .before .before .copy-records .ensures ∙ p .1)
 
 pub copy-spec : {M : Type 1} → statement M
 copy-spec =
     tie.close
     (tie.spec
     judge-requires
+    answer-for-requires
     returns
-    plain-requires
+    answer-of-requires
     returns-2
     copy-records-requires
-    plain-requires-2
+    answer-of-requires-2
     same-length
     returns-3)

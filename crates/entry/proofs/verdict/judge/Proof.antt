@@ -1,4 +1,4 @@
-use Rattle.entry.proofs.Numbered.{numbers-judge}
+use Rattle.entry.proofs.Numbered.{ranges-judge}
 use Rattle.entry.proofs.Stepping.{next-bytes, records-counted}
 use Rattle.laws.proofs.Table.{at}
 use Rattle.laws.proofs.Turns.{run-done, run-next, run-out}
@@ -7,10 +7,11 @@ use native.Mathlib.Nat.{add-sub-cancel-left}
 use Prim.Native.Nat.{_*_, _-_, _/_, _≤_}
 use Rattle.entry.proofs.Numbered.{whole-records}
 use Rattle.entry.proofs.Stepping.{run-start, stands-start}
-use Rattle.entry.specs.Numbers.{finishOf, judgeByNumbers, stepTurn}
+use Rattle.entry.specs.ByRanges.{finishOf, judgeByRanges, stepTurn}
 use Rattle.entry.specs.Verdict.{judgeOf}
 use Rattle.laws.proofs.Turns.{Run}
-use Rattle.rules_state.specs.State.{MOST-RECORDS, Stands}
+use Rattle.rules_state.specs.State.{MOST-RECORDS}
+use Rattle.rules_state.specs.Ranging.{Stands}
 use borrow.Author.Tests.{not-false, not-true}
 use lib.ListN.{length, length-drop, length-take, take}
 use mathlib.Core.Path.{_∙_, _≡_, refl, sym}
@@ -35,7 +36,7 @@ abbrev Inv-loop : tie.InvT-loop
 Inv-loop entry bytes n classes names kinds nexts j₀ i₀ j i =
     (n ≡ length entry / 81) × (length entry ≡ length entry / 81 * 81) × (length entry / 81 ≤ MOST-RECORDS)
     × (j .track .records .0 ≡ i) × Stands (j .track) (j .ranges) (take (i * 81) entry)
-    × Run (stepTurn entry) finishOf (judgeByNumbers entry) j i n
+    × Run (stepTurn entry) finishOf (judgeByRanges entry) j i n
 
 abbrev μ-loop : tie.MeasureT-loop
 μ-loop entry bytes n classes names kinds nexts j₀ i₀ j i = n - i
@@ -180,7 +181,7 @@ returns-2 c =
       c .before .before .found .given .1,
       c .before .before .before .before .before .before .before .before .before .before .before .before .record-of
           .ensures,
-    )) ∙ numbers-judge _
+    )) ∙ ranges-judge _
 
 -- src/verdict.rt:136:9
 add-i : tie.Need-add-i Inv-loop μ-loop
@@ -218,7 +219,7 @@ finish-requires c κs = c .before .loop .inv .4 .bounded
 
 -- src/verdict.rt:99:1
 returns-3 : tie.Need-returns-3 Inv-loop μ-loop
-returns-3 c = c .finish .ensures ∙ run-done (c .before .before .loop .inv .5) (omega arith) ∙ numbers-judge _
+returns-3 c = c .finish .ensures ∙ run-done (c .before .before .loop .inv .5) (omega arith) ∙ ranges-judge _
 
 pub judge-spec : {M : Type 1} → statement M
 judge-spec =

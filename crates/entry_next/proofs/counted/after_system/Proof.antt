@@ -8,9 +8,9 @@ use Rattle.entry_next.proofs.counted.after_system.Lts as lts
 use Rattle.entry_next.proofs.counted.open_bib.Reads as open-bib-reads
 use Rattle.entry_next.proofs.counted.open_subentry.Reads as open-subentry-reads
 use Rattle.entry_next.proofs.counted.open_table.Reads as open-table-reads
-use Rattle.entry_next.proofs.counted.up_to.Reads as up-to-reads
 use Rattle.record.proofs.expected.accession.Reads as accession-reads
 use Rattle.record.proofs.system.count_of.Reads as count-of-reads
+use Rattle.record.proofs.system.count_to.Reads as count-to-reads
 use Rattle.record.proofs.system.number_of.Reads as number-of-reads
 use Rattle.record.proofs.system.subentry_of.Reads as subentry-of-reads
 use Rattle.rules_state.proofs.role.opens_subentry.Reads as opens-subentry-reads
@@ -96,17 +96,13 @@ returns-3 c =
       ← c .before .number-of2 .ensures,
     ) (c .open-bib .ensures)
 
--- src/next.rt:235:53
-count-of-requires-3 : tie.Need-count-of-requires-3
-count-of-requires-3 c κs = search needs
+-- src/counted.rt:126:32
+cast-count-to : tie.Need-cast-count-to
+cast-count-to c = search needs
 
--- src/next.rt:235:43
-number-of-requires-3 : tie.Need-number-of-requires-3
-number-of-requires-3 c κs = search needs
-
--- src/next.rt:235:13
-up-to-requires : tie.Need-up-to-requires
-up-to-requires c κs = search needs
+-- src/counted.rt:126:23
+count-to-requires : tie.Need-count-to-requires
+count-to-requires c κs = search needs
 
 -- src/next.rt:236:9
 open-table-requires : tie.Need-open-table-requires
@@ -117,41 +113,29 @@ returns-4 : tie.Need-returns-4
 unfolding afterSystem
 returns-4 c =
     rw (
-      ne-eqb _ _ (c .before .before .before .before .before .before .before .before .if1 .left),
-      ← c .before .before .before .before .before .before .before .opens-subentry .ensures,
-      c .before .before .before .before .before .before .if2 .left,
-      ne-eqb _ _
-          (c .before .before .before .before .before .if3 .left),
-      eq-eqb _ _
-          (c .before .before .before .before .if4 .taken),
-      ← c .before .before .before .count-of3 .ensures,
-      ← c .before .before .number-of3 .ensures,
-      ← c .before .up-to .ensures,
+      ne-eqb _ _ (c .before .before .before .before .before .before .if1 .left),
+      ← c .before .before .before .before .before .opens-subentry .ensures,
+      c .before .before .before .before .if2 .left,
+      ne-eqb _ _ (c .before .before .before .if3 .left),
+      eq-eqb _ _ (c .before .before .if4 .taken),
+      ← c .before .count-to .ensures .0,
     ) (c .open-table .ensures)
 
--- src/next.rt:239:53
-count-of-requires-4 : tie.Need-count-of-requires-4
-count-of-requires-4 c κs = search needs
+-- src/counted.rt:130:32
+cast-count-to-2 : tie.Need-cast-count-to-2
+cast-count-to-2 c = search needs
 
--- src/next.rt:239:43
-number-of-requires-4 : tie.Need-number-of-requires-4
-number-of-requires-4 c κs = search needs
+-- src/counted.rt:130:23
+count-to-requires-2 : tie.Need-count-to-requires-2
+count-to-requires-2 c κs = search needs
 
--- src/next.rt:239:13
-up-to-requires-2 : tie.Need-up-to-requires-2
-up-to-requires-2 c κs = search needs
+-- src/counted.rt:131:29
+cast-count-to-3 : tie.Need-cast-count-to-3
+cast-count-to-3 c = search needs
 
--- src/next.rt:240:48
-count-of-requires-5 : tie.Need-count-of-requires-5
-count-of-requires-5 c κs = search needs
-
--- src/next.rt:240:38
-number-of-requires-5 : tie.Need-number-of-requires-5
-number-of-requires-5 c κs = search needs
-
--- src/next.rt:240:13
-up-to-requires-3 : tie.Need-up-to-requires-3
-up-to-requires-3 c κs = search needs
+-- src/counted.rt:131:20
+count-to-requires-3 : tie.Need-count-to-requires-3
+count-to-requires-3 c κs = search needs
 
 -- src/next.rt:241:9
 open-table-requires-2 : tie.Need-open-table-requires-2
@@ -162,24 +146,14 @@ returns-5 : tie.Need-returns-5
 unfolding afterSystem
 returns-5 c =
     rw (
-      ne-eqb _ _
-          (c .before .before .before .before .before .before .before .before .before .before .before .before .if1
-          .left),
-      ← c .before .before .before .before .before .before .before .before .before .before .before .opens-subentry
-          .ensures,
-      c .before .before .before .before .before .before .before .before .before .before .if2 .left,
-      ne-eqb _ _
-          (c .before .before .before .before .before .before .before .before .before .if3 .left),
-      ne-eqb _ _
-          (c .before .before .before .before .before .before .before .before .if4 .left),
-      eq-eqb _ _
-          (c .before .before .before .before .before .before .before .if5 .taken),
-      ← c .before .before .before .before .before .before .count-of4 .ensures,
-      ← c .before .before .before .before .before .number-of4 .ensures,
-      ← c .before .before .before .before .up-to2 .ensures,
-      ← c .before .before .before .count-of5 .ensures,
-      ← c .before .before .number-of5 .ensures,
-      ← c .before .up-to3 .ensures,
+      ne-eqb _ _ (c .before .before .before .before .before .before .before .before .if1 .left),
+      ← c .before .before .before .before .before .before .before .opens-subentry .ensures,
+      c .before .before .before .before .before .before .if2 .left,
+      ne-eqb _ _ (c .before .before .before .before .before .if3 .left),
+      ne-eqb _ _ (c .before .before .before .before .if4 .left),
+      eq-eqb _ _ (c .before .before .before .if5 .taken),
+      ← c .before .before .count-to2 .ensures .0,
+      ← c .before .count-to3 .ensures .0,
     ) (c .open-table2 .ensures)
 
 -- src/next.rt:218:1
@@ -215,17 +189,14 @@ after-system-spec =
     number-of-requires-2
     open-bib-requires
     returns-3
-    count-of-requires-3
-    number-of-requires-3
-    up-to-requires
+    cast-count-to
+    count-to-requires
     open-table-requires
     returns-4
-    count-of-requires-4
-    number-of-requires-4
-    up-to-requires-2
-    count-of-requires-5
-    number-of-requires-5
-    up-to-requires-3
+    cast-count-to-2
+    count-to-requires-2
+    cast-count-to-3
+    count-to-requires-3
     open-table-requires-2
     returns-5
     returns-6)

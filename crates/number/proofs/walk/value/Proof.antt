@@ -1,5 +1,5 @@
 use mathlib.Core.Bool.{false, true}
-use mathlib.Core.Path.{refl, sym, _∙_}
+use mathlib.Core.Path.{refl, sym, ap, _∙_}
 use Prim.Native.Nat.{_+_}
 use native.Mathlib.Omega.{arith}
 use borrow.Author.Needs.{needs}
@@ -8,6 +8,7 @@ use Rattle.number.proofs.Difference.{diff-flat}
 use Rattle.number.proofs.Sums.{power-sum}
 use Rattle.number.proofs.Zeros.{made-value, zeros-few}
 use Rattle.number.specs.Value.{valueOf}
+use Rattle.number.specs.declared.value.Trim.{Trim}
 use Rattle.number.proofs.walk.value.Statement.{statement}
 use Rattle.number.proofs.walk.value.Tie as tie
 
@@ -23,7 +24,7 @@ add-difference c = search needs
 
 difference-requires : tie.Need-difference-requires
 difference-requires c κs = let z = zeros-few (c .before .before .before .args .number) (omega arith) (omega arith) in
-    (omega (arith, c .before .without-zeros .ensures .zeros), omega arith)
+    (omega (arith, ap (λ (t : Trim). t .zeros) (c .before .without-zeros .ensures)), omega arith)
 
 returns-2 : tie.Need-returns-2
 returns-2 c =
@@ -34,20 +35,21 @@ returns-2 c =
     let a = args in
     let t = without-zeros-call in
     let z = zeros-few (a .number) (omega arith) (omega arith) in
-    let f = diff-flat (t .result .zeros) (a .size + a .places) (omega (arith, t .ensures .zeros)) (omega arith) in
+    let q = ap (λ (t : Trim). t .zeros) (t .ensures) in
+    let f = diff-flat (t .result .zeros) (a .size + a .places) (omega (arith, q)) (omega arith) in
     made-value (a .negative) (a .number) _ _ (t .result) (t .ensures) (if1 .left)
     (rw (c .difference .ensures, if2 .taken) (f ∙ sym (power-sum true (a .size) (a .places) (t .result .zeros))))
 
 add-difference-2 : tie.Need-add-difference-2
 add-difference-2 c = let z = zeros-few (c .before .before .before .args .number) (omega arith) (omega arith) in
-    omega (arith, c .before .without-zeros .ensures .zeros)
+    omega (arith, ap (λ (t : Trim). t .zeros) (c .before .without-zeros .ensures))
 
 difference-requires-2 : tie.Need-difference-requires-2
 difference-requires-2 c κs =
     let args = c .before .before .before .args in
     let without-zeros-call = c .before .without-zeros in
     let z = zeros-few (args .number) (omega arith) (omega arith) in
-    (omega (arith, without-zeros-call .ensures .zeros), omega arith)
+    (omega (arith, ap (λ (t : Trim). t .zeros) (without-zeros-call .ensures)), omega arith)
 
 returns-3 : tie.Need-returns-3
 returns-3 c =
@@ -58,7 +60,8 @@ returns-3 c =
     let a = args in
     let t = without-zeros-call in
     let z = zeros-few (a .number) (omega arith) (omega arith) in
-    let f = diff-flat (a .size + t .result .zeros) (a .places) (omega (arith, t .ensures .zeros)) (omega arith) in
+    let q = ap (λ (t : Trim). t .zeros) (t .ensures) in
+    let f = diff-flat (a .size + t .result .zeros) (a .places) (omega (arith, q)) (omega arith) in
     made-value (a .negative) (a .number) _ _ (t .result) (t .ensures) (if1 .left)
     (rw (c .difference2 .ensures, if2 .left) (f ∙ sym (power-sum false (a .size) (a .places) (t .result .zeros))))
 

@@ -1,5 +1,4 @@
 use mathlib.Core.Path.{_∙_}
-use Rattle.questions.proofs.Judged.{judged}
 use Rattle.questions.specs.Ask.{headingOf}
 use borrow.Author.Needs.{needs}
 use Rattle.questions.proofs.ask.heading.Statement.{statement}
@@ -20,7 +19,7 @@ heading-by-requires c κs = search needs
 -- src/ask.rt:331:1
 returns : tie.Need-returns
 unfolding headingOf
-returns c = c .heading-by .ensures ∙ rw (c .before .before .before .locate .ensures .0, judged (c .before .before .before .before .before .args .entry .now) (c .before .before .before .before .before .args .number))
+returns c = c .heading-by .ensures ∙ rw (c .before .before .before .locate .ensures .0)
 
 pub heading-spec : {M : Type 1} → statement M
 heading-spec = tie.close (tie.spec locate-requires heading-by-requires returns)

@@ -10,7 +10,7 @@ use Rattle.questions.proofs.ask.part_from.Statement.{statement}
 use Rattle.questions.proofs.ask.part_from.Tie as tie
 use Rattle.questions.proofs.ask.part_from.Reads as reads
 use Rattle.questions.proofs.ask.part_from.Lts as lts
-use Rattle.questions.proofs.ask.answer_of.Reads as answer-of-reads
+use Rattle.entry.proofs.answer.answer_of.Reads as answer-of-reads
 use Rattle.questions.proofs.ask.no_part.Reads as no-part-reads
 
 -- src/ask.rt:94:9

@@ -1,5 +1,4 @@
 use mathlib.Core.Path.{_∙_}
-use Rattle.questions.proofs.Judged.{judged}
 use Rattle.questions.specs.Ask.{passageAnswer}
 use borrow.Author.Needs.{needs}
 use Rattle.questions.proofs.ask.passage.Statement.{statement}
@@ -20,7 +19,7 @@ passage-by-requires c κs = search needs
 -- src/ask.rt:351:1
 returns : tie.Need-returns
 unfolding passageAnswer
-returns c = c .passage-by .ensures ∙ rw (c .before .before .before .locate .ensures .0, judged (c .before .before .before .before .before .args .entry .now) (c .before .before .before .before .before .args .number))
+returns c = c .passage-by .ensures ∙ rw (c .before .before .before .locate .ensures .0)
 
 pub passage-spec : {M : Type 1} → statement M
 passage-spec = tie.close (tie.spec locate-requires passage-by-requires returns)

@@ -1,4 +1,5 @@
-use Rattle.questions.specs.Ask.{noPassage, refusal}
+use Rattle.entry.specs.Answer.{refusal}
+use Rattle.questions.specs.Ask.{noPassage}
 use mathlib.Core.List.{[], _∷_}
 use Rattle.questions.proofs.Refusals.{section-first, section-none}
 use Rattle.questions.specs.Ask.{passageRefusal}

@@ -1,5 +1,4 @@
 use mathlib.Core.Path.{_∙_}
-use Rattle.questions.proofs.Judged.{judged}
 use Rattle.questions.specs.Ask.{unitOf}
 use borrow.Author.Needs.{needs}
 use Rattle.questions.proofs.ask.unit.Statement.{statement}
@@ -20,7 +19,7 @@ unit-by-requires c κs = search needs
 -- src/ask.rt:341:1
 returns : tie.Need-returns
 unfolding unitOf
-returns c = c .unit-by .ensures ∙ rw (c .before .before .before .locate .ensures .0, judged (c .before .before .before .before .before .args .entry .now) (c .before .before .before .before .before .args .number))
+returns c = c .unit-by .ensures ∙ rw (c .before .before .before .locate .ensures .0)
 
 pub unit-spec : {M : Type 1} → statement M
 unit-spec = tie.close (tie.spec locate-requires unit-by-requires returns)

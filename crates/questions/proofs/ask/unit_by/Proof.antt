@@ -10,7 +10,7 @@ use Rattle.questions.proofs.ask.unit_by.Statement.{statement}
 use Rattle.questions.proofs.ask.unit_by.Tie as tie
 use Rattle.questions.proofs.ask.unit_by.Reads as reads
 use Rattle.questions.proofs.ask.unit_by.Lts as lts
-use Rattle.questions.proofs.ask.answer_for.Reads as answer-for-reads
+use Rattle.entry.proofs.answer.answer_for.Reads as answer-for-reads
 use Rattle.questions.proofs.ask.column_refusal.Reads as column-refusal-reads
 use Rattle.questions.proofs.ask.no_part.Reads as no-part-reads
 use Rattle.questions.proofs.ask.part_from.Reads as part-from-reads

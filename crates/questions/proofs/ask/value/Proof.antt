@@ -1,5 +1,4 @@
 use mathlib.Core.Path.{_∙_}
-use Rattle.questions.proofs.Judged.{judged}
 use Rattle.questions.specs.Ask.{valueOf}
 use borrow.Author.Needs.{needs}
 use Rattle.questions.proofs.ask.value.Statement.{statement}
@@ -20,7 +19,7 @@ value-by-requires c κs = search needs
 -- src/ask.rt:321:1
 returns : tie.Need-returns
 unfolding valueOf
-returns c = c .value-by .ensures ∙ rw (c .before .before .before .locate .ensures .0, judged (c .before .before .before .before .before .args .entry .now) (c .before .before .before .before .before .args .number))
+returns c = c .value-by .ensures ∙ rw (c .before .before .before .locate .ensures .0)
 
 pub value-spec : {M : Type 1} → statement M
 value-spec = tie.close (tie.spec locate-requires value-by-requires returns)

@@ -11,8 +11,8 @@ use Rattle.questions.proofs.ask.value_by.Tie as tie
 use Rattle.questions.proofs.ask.value_by.Reads as reads
 use Rattle.questions.proofs.ask.value_by.Lts as lts
 use Rattle.number.proofs.read.read_field.Reads as read-field-reads
-use Rattle.questions.proofs.ask.answer_for.Reads as answer-for-reads
-use Rattle.questions.proofs.ask.answer_of.Reads as answer-of-reads
+use Rattle.entry.proofs.answer.answer_for.Reads as answer-for-reads
+use Rattle.entry.proofs.answer.answer_of.Reads as answer-of-reads
 use Rattle.questions.proofs.ask.section_in.Reads as section-in-reads
 use Rattle.questions.proofs.ask.value_refusal.Reads as value-refusal-reads
 use Rattle.questions_places.proofs.place.field_of.Reads as field-of-reads

@@ -7,7 +7,7 @@ use Rattle.questions_places.proofs.passage.passage_of.Reads as reads
 use Rattle.questions_places.proofs.passage.passage_of.Lts as lts
 use Rattle.questions_places.proofs.passage.first_text.Reads as first-text-reads
 use Rattle.questions_places.proofs.passage.passage_under.Reads as passage-under-reads
-use Rattle.questions_places.proofs.place.count_to.Reads as count-to-reads
+use Rattle.record.proofs.system.count_to.Reads as count-to-reads
 use Rattle.questions_places.proofs.place.fields_at.Reads as fields-at-reads
 
 -- src/passage.rt:136:14
@@ -17,10 +17,6 @@ fields-at-requires c κs = search needs
 -- src/passage.rt:137:14
 array-copy-out-n2 : tie.Need-array-copy-out-n2
 array-copy-out-n2 c = search needs
-
--- src/passage.rt:138:16
-cast-most : tie.Need-cast-most
-cast-most c = search needs
 
 -- src/passage.rt:139:9
 count-to-requires : tie.Need-count-to-requires
@@ -50,7 +46,6 @@ passage-of-spec =
     (tie.spec
     fields-at-requires
     array-copy-out-n2
-    cast-most
     count-to-requires
     first-text-requires
     passage-under-requires

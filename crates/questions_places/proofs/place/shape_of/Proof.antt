@@ -6,7 +6,7 @@ use Rattle.questions_places.proofs.place.shape_of.Statement.{statement}
 use Rattle.questions_places.proofs.place.shape_of.Tie as tie
 use Rattle.questions_places.proofs.place.shape_of.Reads as reads
 use Rattle.questions_places.proofs.place.shape_of.Lts as lts
-use Rattle.questions_places.proofs.place.count_to.Reads as count-to-reads
+use Rattle.record.proofs.system.count_to.Reads as count-to-reads
 use Rattle.questions_places.proofs.place.fields_at.Reads as fields-at-reads
 
 -- src/place.rt:73:14
@@ -17,7 +17,11 @@ fields-at-requires c κs = search needs
 array-copy-out-n1 : tie.Need-array-copy-out-n1
 array-copy-out-n1 c = search needs
 
--- src/place.rt:75:9
+-- src/place.rt:61:28
+cast-count-to : tie.Need-cast-count-to
+cast-count-to c = search needs
+
+-- src/place.rt:61:19
 count-to-requires : tie.Need-count-to-requires
 count-to-requires c κs = search needs
 
@@ -30,7 +34,11 @@ returns c = (rw (← c .before .before .before .fields-at .ensures, eq-eqb _ _ (
 array-copy-out-n2 : tie.Need-array-copy-out-n2
 array-copy-out-n2 c = search needs
 
--- src/place.rt:80:9
+-- src/place.rt:66:26
+cast-count-to-2 : tie.Need-cast-count-to-2
+cast-count-to-2 c = search needs
+
+-- src/place.rt:66:17
 count-to-requires-2 : tie.Need-count-to-requires-2
 count-to-requires-2 c κs = search needs
 
@@ -45,8 +53,10 @@ shape-of-spec =
     (tie.spec
     fields-at-requires
     array-copy-out-n1
+    cast-count-to
     count-to-requires
     returns
     array-copy-out-n2
+    cast-count-to-2
     count-to-requires-2
     returns-2)

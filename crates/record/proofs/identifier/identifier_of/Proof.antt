@@ -1,6 +1,6 @@
 use Prim.Native.Nat.{_-_}
 use Rattle.laws.proofs.Search.{Scan, scan-all, scan-done, scan-found, scan-next}
-use Rattle.record.specs.Identifier.{NamesLent, identifierOf, isName}
+use Rattle.record.specs.Identifier.{NamesLent, OTHER, identifierOf, isName}
 use borrow.Author.Needs.{needs}
 use mathlib.Core.Path.{_∙_, sym}
 use native.Mathlib.Omega.{arith}
@@ -11,15 +11,15 @@ use Rattle.record.proofs.identifier.identifier_of.Lts as lts
 use Rattle.record.proofs.identifier.is_name.Reads as is-name-reads
 
 abbrev Inv-loop : tie.InvT-loop
-Inv-loop t f k₀ k = (NamesLent t) × Scan (isName f) (identifierOf f) k 14
+Inv-loop t f k₀ k = (NamesLent t) × Scan (isName f) (identifierOf f) k OTHER
 
 abbrev μ-loop : tie.MeasureT-loop
-μ-loop t f k₀ k = 14 - k
+μ-loop t f k₀ k = OTHER - k
 
 -- src/identifier.rt:68:5
 loop-holds : tie.Need-loop-holds Inv-loop μ-loop
 unfolding identifierOf
-loop-holds c = (c .pre, scan-all 14)
+loop-holds c = (c .pre, scan-all OTHER)
 
 -- src/identifier.rt:69:12
 is-name-requires : tie.Need-is-name-requires Inv-loop μ-loop

@@ -2,7 +2,7 @@ use Prim.Native.Nat.{_-_, _<_}
 use Rattle.laws.proofs.Search.{Scan, scan-all, scan-next, scan-passed, scan-stopped}
 use Rattle.laws.specs.Search.{first}
 use Rattle.record.proofs.NameTable.{name-read}
-use Rattle.record.specs.Identifier.{NamesLent, isName, nameAt}
+use Rattle.record.specs.Identifier.{NamesLent, OTHER, isName, nameAt}
 use Rattle.record.specs.Word.{differAt, equalTo}
 use borrow.Author.Needs.{needs}
 use borrow.Author.Tests.{eq-eqb, ne-eqb}
@@ -14,7 +14,8 @@ use Rattle.record.proofs.identifier.is_name.Reads as reads
 use Rattle.record.proofs.identifier.is_name.Lts as lts
 
 abbrev Inv-loop : tie.InvT-loop
-Inv-loop t k f i₀ i = (NamesLent t) × (k < 14) × Scan (differAt f (nameAt k)) (first (differAt f (nameAt k)) 0 11) i 11
+Inv-loop t k f i₀ i =
+    (NamesLent t) × (k < OTHER) × Scan (differAt f (nameAt k)) (first (differAt f (nameAt k)) 0 11) i 11
 
 abbrev μ-loop : tie.MeasureT-loop
 μ-loop t k f i₀ i = 11 - i

@@ -10,7 +10,7 @@ use Rattle.record.proofs.system.digits_in.Statement.{statement}
 use Rattle.record.proofs.system.digits_in.Tie as tie
 use Rattle.record.proofs.system.digits_in.Reads as reads
 use Rattle.record.proofs.system.digits_in.Lts as lts
-use Rattle.record.proofs.word.is_within.Reads as is-within-reads
+use Rattle.record.proofs.word.is_from.Reads as is-from-reads
 
 abbrev Inv-loop : tie.InvT-loop
 Inv-loop from n f end i₀ i = (end ≤ 11) × Scan (noDigitAt f) (first (noDigitAt f) from n) i end
@@ -27,19 +27,19 @@ loop-holds : tie.Need-loop-holds Inv-loop μ-loop
 loop-holds c = (search needs, scan-run _)
 
 -- src/system.rt:59:35
-array-read-is-within : tie.Need-array-read-is-within Inv-loop μ-loop
-array-read-is-within c = search needs
+array-read-is-from : tie.Need-array-read-is-from Inv-loop μ-loop
+array-read-is-from c = search needs
 
 -- src/system.rt:59:13
-is-within-requires : tie.Need-is-within-requires Inv-loop μ-loop
-is-within-requires c κs = search needs
+is-from-requires : tie.Need-is-from-requires Inv-loop μ-loop
+is-from-requires c κs = search needs
 
 -- src/system.rt:60:13
 returns : tie.Need-returns Inv-loop μ-loop
 unfolding digitsIn
 returns c =
     scan-stopped (c .before .before .before .loop .inv .1) (omega arith)
-    (ap not (sym (c .before .is-within .ensures)) ∙ c .if1 .taken)
+    (ap not (sym (c .before .is-from .ensures)) ∙ c .if1 .taken)
 
 -- src/system.rt:62:9
 add-i : tie.Need-add-i Inv-loop μ-loop
@@ -54,7 +54,7 @@ loop-again : tie.Need-loop-again Inv-loop μ-loop
 loop-again c = (
   search needs,
   scan-next (c .before .before .before .loop .inv .1) (omega arith)
-      (ap not (sym (c .before .is-within .ensures)) ∙ c .if1 .left),
+      (ap not (sym (c .before .is-from .ensures)) ∙ c .if1 .left),
 )
 
 -- src/system.rt:52:1
@@ -70,8 +70,8 @@ digits-in-spec =
     μ-loop
     add-end
     loop-holds
-    array-read-is-within
-    is-within-requires
+    array-read-is-from
+    is-from-requires
     returns
     add-i
     loop-less

@@ -6,7 +6,7 @@ use Rattle.record.proofs.system.is_date.Tie as tie
 use Rattle.record.proofs.system.is_date.Reads as reads
 use Rattle.record.proofs.system.is_date.Lts as lts
 use Rattle.record.proofs.system.digits_in.Reads as digits-in-reads
-use Rattle.record.proofs.system.is_up_to.Reads as is-up-to-reads
+use Rattle.record.proofs.word.is_within.Reads as is-within-reads
 use Rattle.record.proofs.system.number_in.Reads as number-in-reads
 use Rattle.record.proofs.word.blank_to.Reads as blank-to-reads
 
@@ -41,8 +41,8 @@ number-in-requires : tie.Need-number-in-requires
 number-in-requires c κs = search needs
 
 -- src/system.rt:132:9
-is-up-to-requires : tie.Need-is-up-to-requires
-is-up-to-requires c κs = search needs
+is-within-requires : tie.Need-is-within-requires
+is-within-requires c κs = search needs
 
 -- src/system.rt:133:9
 returns-3 : tie.Need-returns-3
@@ -56,8 +56,8 @@ returns-3 c =
       not-false (c .before .before .before .before .digits-in .result)
           (c .before .before .before .if2 .left),
       ← c .before .before .number-in .ensures .0,
-      ← c .before .is-up-to .ensures,
-      not-true (c .before .is-up-to .result) (c .if3 .taken),
+      ← c .before .is-within .ensures,
+      not-true (c .before .is-within .result) (c .if3 .taken),
     )
 
 -- src/system.rt:135:9
@@ -65,8 +65,8 @@ number-in-requires-2 : tie.Need-number-in-requires-2
 number-in-requires-2 c κs = search needs
 
 -- src/system.rt:136:5
-is-up-to-requires-2 : tie.Need-is-up-to-requires-2
-is-up-to-requires-2 c κs = search needs
+is-within-requires-2 : tie.Need-is-within-requires-2
+is-within-requires-2 c κs = search needs
 
 -- src/system.rt:122:1
 returns-4 : tie.Need-returns-4
@@ -80,11 +80,11 @@ returns-4 c =
       not-false (c .before .before .before .before .before .before .digits-in .result)
           (c .before .before .before .before .before .if2 .left),
       ← c .before .before .before .before .number-in .ensures .0,
-      ← c .before .before .before .is-up-to .ensures,
-      not-false (c .before .before .before .is-up-to .result)
+      ← c .before .before .before .is-within .ensures,
+      not-false (c .before .before .before .is-within .result)
           (c .before .before .if3 .left),
       ← c .before .number-in2 .ensures .0,
-    ) (c .is-up-to2 .ensures)
+    ) (c .is-within2 .ensures)
 
 pub is-date-spec : {M : Type 1} → statement M
 is-date-spec =
@@ -95,8 +95,8 @@ is-date-spec =
     digits-in-requires
     returns-2
     number-in-requires
-    is-up-to-requires
+    is-within-requires
     returns-3
     number-in-requires-2
-    is-up-to-requires-2
+    is-within-requires-2
     returns-4)

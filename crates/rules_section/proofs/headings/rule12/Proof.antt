@@ -7,7 +7,7 @@ use Rattle.rules_section.proofs.headings.rule12.Reads as reads
 use Rattle.rules_section.proofs.headings.rule12.Lts as lts
 use Rattle.record.proofs.word.heading_fault.Reads as heading-fault-reads
 use Rattle.record.proofs.word.unit_fault.Reads as unit-fault-reads
-use Rattle.rules_section.proofs.headings.field_column.Reads as field-column-reads
+use Rattle.rules_state.proofs.fault.field_column.Reads as field-column-reads
 use Rattle.rules_state.proofs.role.is_heading.Reads as is-heading-reads
 use Rattle.rules_state.proofs.role.is_unit.Reads as is-unit-reads
 use Rattle.rules_state.proofs.state.Track.used.Reads as used-reads

@@ -6,11 +6,11 @@ use Rattle.rules_section.proofs.headings.rule13.Statement.{statement}
 use Rattle.rules_section.proofs.headings.rule13.Tie as tie
 use Rattle.rules_section.proofs.headings.rule13.Reads as reads
 use Rattle.rules_section.proofs.headings.rule13.Lts as lts
-use Rattle.rules_section.proofs.headings.field_column.Reads as field-column-reads
+use Rattle.rules_state.proofs.fault.field_column.Reads as field-column-reads
 use Rattle.rules_section.proofs.headings.repeated_at.Reads as repeated-at-reads
 use Rattle.rules_state.proofs.role.is_heading.Reads as is-heading-reads
 use Rattle.rules_state.proofs.state.Track.used.Reads as used-reads
-use Rattle.rules_state.proofs.state.part.Reads as part-reads
+use Rattle.rules_state.proofs.ranging.part.Reads as part-reads
 
 -- src/headings.rt:293:13
 is-heading-requires : tie.Need-is-heading-requires

@@ -6,10 +6,10 @@ use Rattle.rules_section.proofs.headings.rule14.Statement.{statement}
 use Rattle.rules_section.proofs.headings.rule14.Tie as tie
 use Rattle.rules_section.proofs.headings.rule14.Reads as reads
 use Rattle.rules_section.proofs.headings.rule14.Lts as lts
-use Rattle.rules_section.proofs.headings.field_column.Reads as field-column-reads
+use Rattle.rules_state.proofs.fault.field_column.Reads as field-column-reads
 use Rattle.rules_section.proofs.headings.lost_at.Reads as lost-at-reads
 use Rattle.rules_state.proofs.state.Track.used.Reads as used-reads
-use Rattle.rules_state.proofs.state.part.Reads as part-reads
+use Rattle.rules_state.proofs.ranging.part.Reads as part-reads
 
 -- src/headings.rt:316:13
 returns : tie.Need-returns

@@ -6,7 +6,7 @@ use Rattle.rules_section.proofs.text.rule10.Tie as tie
 use Rattle.rules_section.proofs.text.rule10.Reads as reads
 use Rattle.rules_section.proofs.text.rule10.Lts as lts
 use Rattle.rules_section.proofs.text.keyword_fault.Reads as keyword-fault-reads
-use Rattle.rules_state.proofs.state.part.Reads as part-reads
+use Rattle.rules_state.proofs.ranging.part.Reads as part-reads
 
 -- src/text.rt:89:13
 returns : tie.Need-returns

@@ -8,7 +8,7 @@ use Rattle.rules_section.proofs.values.rule15.Statement.{statement}
 use Rattle.rules_section.proofs.values.rule15.Tie as tie
 use Rattle.rules_section.proofs.values.rule15.Reads as reads
 use Rattle.rules_section.proofs.values.rule15.Lts as lts
-use Rattle.rules_section.proofs.headings.field_column.Reads as field-column-reads
+use Rattle.rules_state.proofs.fault.field_column.Reads as field-column-reads
 use Rattle.rules_state.proofs.role.is_value.Reads as is-value-reads
 use Rattle.rules_section.proofs.values.line_blank.Reads as line-blank-reads
 

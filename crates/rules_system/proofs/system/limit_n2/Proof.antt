@@ -5,24 +5,38 @@ use Rattle.rules_system.proofs.system.limit_n2.Statement.{statement}
 use Rattle.rules_system.proofs.system.limit_n2.Tie as tie
 use Rattle.rules_system.proofs.system.limit_n2.Reads as reads
 use Rattle.rules_system.proofs.system.limit_n2.Lts as lts
+use Rattle.columns.proofs.columns.records_for.Reads as records-for-reads
 
 -- src/system.rt:135:9
 returns : tie.Need-returns
 unfolding limitN2
 returns c = rw (eq-eqb _ _ (c .if1 .taken))
 
--- src/system.rt:138:18
-add-k : tie.Need-add-k
-add-k c = let h = c .before .before .pre .columns (c .if2 .taken) in search needs
+-- src/system.rt:141:29
+cast-records-for : tie.Need-cast-records-for
+cast-records-for c = let h = c .before .before .pre .columns (c .if2 .taken) in search needs
+
+-- src/system.rt:141:17
+records-for-requires : tie.Need-records-for-requires
+records-for-requires c κs = search needs
+
+-- src/system.rt:141:17
+cast-k : tie.Need-cast-k
+cast-k c = search needs
 
 -- src/system.rt:139:23
 mul-records : tie.Need-mul-records
-mul-records c = let h = c .before .before .pre .columns (c .if2 .taken) in search needs
+mul-records c = let h = c .before .before .before .pre .columns (c .before .if2 .taken) in search needs
 
 -- src/system.rt:140:9
 returns-2 : tie.Need-returns-2
 unfolding limitN2
-returns-2 c = rw (ne-eqb _ _ (c .before .if1 .left), eq-eqb _ _ (c .if2 .taken))
+returns-2 c =
+    rw (
+      ne-eqb _ _ (c .before .before .if1 .left),
+      eq-eqb _ _ (c .before .if2 .taken),
+      ← c .records-for .ensures,
+    )
 
 -- src/system.rt:130:1
 returns-3 : tie.Need-returns-3
@@ -30,4 +44,5 @@ unfolding limitN2
 returns-3 c = rw (ne-eqb _ _ (c .before .if1 .left), ne-eqb _ _ (c .if2 .left))
 
 pub limit-n2-spec : {M : Type 1} → statement M
-limit-n2-spec = tie.close (tie.spec returns add-k mul-records returns-2 returns-3)
+limit-n2-spec =
+    tie.close (tie.spec returns cast-records-for records-for-requires cast-k mul-records returns-2 returns-3)

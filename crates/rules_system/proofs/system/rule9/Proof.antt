@@ -9,7 +9,7 @@ use Rattle.record.proofs.expected.same_five.Reads as same-five-reads
 use Rattle.record.proofs.system.subentry_of.Reads as subentry-of-reads
 use Rattle.rules_state.proofs.role.opens_subentry.Reads as opens-subentry-reads
 use Rattle.rules_system.proofs.system.number_due.Reads as number-due-reads
-use Rattle.rules_system.proofs.system.subent_accession.Reads as subent-accession-reads
+use Rattle.record.proofs.expected.subent_accession.Reads as subent-accession-reads
 
 -- src/system.rt:263:13
 opens-subentry-requires : tie.Need-opens-subentry-requires

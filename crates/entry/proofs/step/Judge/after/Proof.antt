@@ -1,4 +1,4 @@
-use Rattle.entry.specs.Numbers.{judgeAfter}
+use Rattle.entry.specs.ByRanges.{judgeAfter}
 use borrow.Author.Needs.{needs}
 use Rattle.entry.proofs.step.Judge.after.Statement.{statement}
 use Rattle.entry.proofs.step.Judge.after.Tie as tie
@@ -14,17 +14,11 @@ phase-after-requires c κs = search needs
 
 -- src/step.rt:77:13
 track-after-requires : tie.Need-track-after-requires
-track-after-requires c κs = (
-  c .before .before .before .before .before .pre .0 .stands .bounded,
-  (
-    c .before .before .before .before .before .pre .0 .few,
-    (c .before .before .before .before .before .pre .0 .whole, c .before .before .before .before .before .pre .1),
-  ),
-)
+track-after-requires c κs = search needs
 
 -- src/step.rt:78:13
 ranges-after-requires : tie.Need-ranges-after-requires
-ranges-after-requires c κs = c .before .before .before .before .before .before .pre .0 .few
+ranges-after-requires c κs = search needs
 
 -- src/step.rt:62:5
 returns : tie.Need-returns

@@ -1,4 +1,4 @@
-use Rattle.entry.specs.Numbers.{finishOf}
+use Rattle.entry.specs.ByRanges.{finishOf}
 use borrow.Author.Needs.{needs}
 use Rattle.entry.proofs.step.Judge.finish.Statement.{statement}
 use Rattle.entry.proofs.step.Judge.finish.Tie as tie

@@ -1,4 +1,4 @@
-use Rattle.entry.specs.Numbers.{stepOf}
+use Rattle.entry.specs.ByRanges.{stepOf}
 use Rattle.number.proofs.Bounds.{within}
 use borrow.Author.Needs.{needs}
 use Rattle.entry.proofs.step.Judge.step.Statement.{statement}

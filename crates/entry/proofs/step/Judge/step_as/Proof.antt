@@ -1,5 +1,5 @@
 use Rattle.entry.proofs.Stepping.{stands-after}
-use Rattle.entry.specs.Numbers.{stepAs}
+use Rattle.entry.specs.ByRanges.{stepAs}
 use Rattle.number.proofs.Bounds.{within}
 use borrow.Author.Needs.{needs}
 use Rattle.entry.proofs.step.Judge.step_as.Statement.{statement}
@@ -38,10 +38,9 @@ enum-told c = search needs
 
 -- src/step.rt:121:21
 after-requires : tie.Need-after-requires
-after-requires c κs = (
-  c .before .before .before .before .before .before .before .before .pre .1 .1 .1,
-  c .before .before .before .values .ensures,
-)
+after-requires c κs =
+    let ready = c .before .before .before .before .before .before .before .before .pre .1 .1 .1 in
+    (ready .stands .bounded, (ready .few, (ready .whole, c .before .before .before .values .ensures)))
 
 -- src/step.rt:127:23
 enum-known-found : tie.Need-enum-known-found

@@ -1,0 +1,89 @@
+-- Writing comes to its canonical field, to 41 or to 40, and to nothing else.
+-- Assumes nothing.
+use Prim.Native.Nat.{ℕ}
+use mathlib.Core.Path.{_≡_, refl, sym, _∙_, ap, subst}
+use mathlib.Core.Bool.{Bool, true, false, cond}
+use mathlib.Core.List.{List}
+use native.Mathlib.Omega.{arith}
+use borrow.Author.Tests.{eqb-true, eqb-false, eq-eqb, ne-eqb, leb-true, leb-false}
+use lib.Dec.{eqb, leb}
+use lib.IntN.{ℤ}
+use lib.ListN.{length}
+use Rattle.number.specs.declared.value.Decimal.{Decimal}
+use Rattle.number.specs.declared.value.Reading.the-variants.{Number}
+use Rattle.number.specs.Value.{Normal, Value, Reads, valueOf}
+use Rattle.number.specs.Reading.{readField}
+use Rattle.number.proofs.Laws.{value-found, value-one, reads-exactly}
+use Rattle.canonical.specs.declared.write.Written.{Written}
+use Rattle.canonical.specs.declared.write.Written.the-variants.{Done, Refused}
+use Rattle.canonical.specs.Canonical.{Best}
+use Rattle.canonical.specs.Closed.{canonicalText, canonicalField}
+use Rattle.canonical.specs.Writing.{answered, stored, written, bytes}
+use Rattle.canonical.proofs.Laws.{canonical-best, best-one, none-reads}
+use Rattle.demand2.specs.Writing.{NoneReads, Writes, its-field, no-field, no-room, WrittenSo, WrittenAlone}
+use Rattle.demand2.specs.Writing.{RefusedExactly}
+
+-- ---- a decimal in its normal form
+
+module _ (v : Decimal) (l : List ℕ) where
+  abbrev columns : ℕ
+  columns = length (canonicalText v)
+
+  by-tests : Normal v → (t u : Bool) → eqb (length l) 11 ≡ t → leb columns (length l) ≡ u
+      → Writes v l (cond t (cond u Done (Refused 41)) (Refused 40)) (cond t (cond u (canonicalField (length l) v) l) l)
+  by-tests h true true e d =
+      let w = eqb-true (length l) 11 e in
+      let k = leb-true columns (length l) d in
+      its-field _ w (subst (λ (n : ℕ). Best n v (canonicalField (length l) v)) w (canonical-best (length l) v h k))
+  by-tests h true false e d =
+      let w = eqb-true (length l) 11 e in
+      let k = leb-false columns (length l) d in
+      no-field w (λ m wide r. none-reads 11 v (omega arith) m wide r)
+  by-tests h false u e d =
+      no-room (λ w. let z = sym e ∙ eq-eqb (length l) 11 w in let q : _≡_ {A = ℕ} 0 1 = cc in omega arith)
+
+  writes : Normal v → Writes v l (written l v) (bytes l v)
+  unfolding written bytes answered stored
+  writes h = by-tests h (eqb (length l) 11) (leb columns (length l)) refl refl
+
+  -- ---- no two
+
+  read-back : (m : List ℕ) → Best 11 v m → readField m ≡ Number v
+  read-back m b = reads-exactly m v .1 (b .reads)
+
+  one-way : {r q : Written} {m k : List ℕ} → Writes v l r m → Writes v l q k → (r ≡ q) × (m ≡ k)
+  one-way (its-field x w b) (its-field y z c) = (refl, best-one 11 v x y b c)
+  one-way (its-field x w b) (no-field z none) = absurd (none x (b .wide) (read-back x b))
+  one-way (its-field x w b) (no-room z) = absurd (z w)
+  one-way (no-field w none) (its-field y z c) = absurd (none y (c .wide) (read-back y c))
+  one-way (no-field w none) (no-field z never) = (refl, refl)
+  one-way (no-field w none) (no-room z) = absurd (z w)
+  one-way (no-room w) (its-field y z c) = absurd (w z)
+  one-way (no-room w) (no-field z none) = absurd (w z)
+  one-way (no-room w) (no-room z) = (refl, refl)
+
+  refused-none : {r : Written} {m : List ℕ} → Writes v l r m → r ≡ Refused 41 → NoneReads v
+  refused-none (its-field x w b) e = let z : _≡_ {A = ℕ} 0 1 = cc in absurd (omega arith)
+  refused-none (no-field w none) e = none
+  refused-none (no-room w) e = let z : _≡_ {A = ℕ} 40 41 = cc in absurd (omega arith)
+
+-- ---- any sign, coefficient and power
+
+module _ (negative : Bool) (a : ℕ) (p : ℤ) (v : Decimal) (h : Value negative a p v) where
+  same : v ≡ valueOf negative a p
+  same = value-one h (value-found negative a p)
+
+  so : (l : List ℕ) → Writes v l (written l (valueOf negative a p)) (bytes l (valueOf negative a p))
+  so l = subst (λ (u : Decimal). Writes v l (written l u) (bytes l u)) same (writes v l (h .normal))
+
+pub written-so : WrittenSo
+written-so negative a p v h l = so negative a p v h l
+
+pub written-alone : WrittenAlone
+written-alone negative a p v h l r m x = one-way v l x (so negative a p v h l)
+
+pub refused-exactly : RefusedExactly
+refused-exactly negative a p v h l w = (
+  refused-none v l (so negative a p v h l),
+  λ none. sym (written-alone negative a p v h l (Refused 41) l (no-field w none) .0),
+)

@@ -1,0 +1,1 @@
+// Demand 2: verdicts, totals, and numbers read and written, as a whole.

@@ -1,0 +1,28 @@
+use mathlib.Core.Path.{refl}
+use borrow.Author.Tests.{eq-eqb, ne-eqb}
+use Rattle.exports.specs.Words.{lentAfter}
+use Rattle.exports_questions.specs.Questions.{valueAnswer, valueStored}
+use borrow.Author.Needs.{needs}
+use Rattle.exports_questions.proofs.asking.put_value.Statement.{statement}
+use Rattle.exports_questions.proofs.asking.put_value.Tie as tie
+
+put-reading-requires : tie.Need-put-reading-requires
+put-reading-requires c κs = search needs
+
+returns : tie.Need-returns
+unfolding valueAnswer valueStored lentAfter
+returns c =
+    let e = eq-eqb _ _ (c .before .before .if1 .taken) in
+    (rw e (c .put-reading .ensures .0), rw e (c .put-reading .ensures .1))
+
+answer-word-requires : tie.Need-answer-word-requires
+answer-word-requires c κs = search needs
+
+returns-2 : tie.Need-returns-2
+unfolding valueAnswer valueStored lentAfter
+returns-2 c =
+    let e = ne-eqb _ _ (c .before .if1 .left) in
+    (rw e (c .answer-word .ensures), rw e refl)
+
+pub put-value-spec : {M : Type 1} → statement M
+put-value-spec = tie.close (tie.spec put-reading-requires returns answer-word-requires returns-2)
