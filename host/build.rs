@@ -53,6 +53,7 @@ fn link(archives: &[PathBuf]) {
         copy(archive, &room.join(format!("libx4_{name}.a")));
         println!("cargo::rustc-link-lib=static=x4_{name}");
     }
+    println!("cargo::warning=linked: {} and {}", archives[0].display(), archives[1].display());
     println!("cargo::rustc-link-search=native={}", room.display());
     println!("cargo::rustc-env=X4_LINKED={}", room.display());
     println!("cargo::rustc-cfg=proved");

@@ -1,8 +1,8 @@
-//! Foreign functions: those of the proved archives as C sees them and with Rust's types, and one of C's library.
+//! Foreign functions: those of the proved archives as C sees them and with Rust's types, and two of C's library.
 //!
-//! Nothing checks these declarations against the archives but the version, so they are few and stand together. A `&[u8]`
-//! is a pointer and a length, a lent array of fixed length a pointer; the proofs cover every one that a slice can have, so
-//! the wrappers test nothing. This is the only module of the package that is unsafe.
+//! Nothing checks these declarations against the archives but the version, so they are few and stand together. A
+//! `&[u8]` is a pointer and a length, a lent array of fixed length a pointer; the proofs cover every one that a slice or
+//! an array can have, so the wrappers test nothing. This is the only module of the package that is unsafe.
 
 #[cfg(proved)]
 use crate::{words, Decimal, NoAnswer, Part, Value, Verdict};
@@ -10,6 +10,7 @@ use std::ffi::{c_char, c_double, CStr};
 
 extern "C" {
     fn strtod(text: *const c_char, end: *mut *mut c_char) -> c_double;
+    fn clock_gettime(clock: i32, time: *mut [i64; 2]) -> i32;
 }
 
 #[cfg(proved)]
@@ -131,6 +132,15 @@ pub fn write_number(decimal: Decimal, buffer: &mut [u8]) -> Result<(), NoAnswer>
 pub fn c_read(text: &CStr) -> f64 {
     // SAFETY: the text ends with a zero byte, and no end is asked for.
     unsafe { strtod(text.as_ptr(), std::ptr::null_mut()) }
+}
+
+/// The time that the processor has given to this thread, in nanoseconds: other work on the machine does not move it.
+pub fn processor_time() -> f64 {
+    const CLOCK_THREAD_CPUTIME_ID: i32 = 3;
+    let mut time = [0; 2];
+    // SAFETY: seconds and nanoseconds are two words of 64 bits, as on every 64-bit Linux, and only they are written.
+    unsafe { clock_gettime(CLOCK_THREAD_CPUTIME_ID, &mut time) };
+    time[0] as f64 * 1e9 + time[1] as f64
 }
 
 #[cfg(all(test, proved))]

@@ -9,8 +9,8 @@
 //! | 24-47 | its record |
 //! | 48-63 | zeros |
 //!
-//! A value is kind (0 blank, 1 number), whether it is below zero, coefficient, power of ten in two's complement, and four
-//! zeros; a part is first byte, length and pointer; the totals are subentries, keywords, lines and numbers.
+//! A value is kind (0 blank, 1 number), whether it is below zero, coefficient, power of ten in two's complement, and
+//! four zeros; a part is first byte, length and pointer; the totals are subentries, keywords, lines and numbers.
 
 use crate::{Decimal, NoAnswer, Part, Refusal, Totals, Value, Verdict};
 

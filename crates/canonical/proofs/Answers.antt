@@ -22,10 +22,10 @@ use Rattle.canonical.specs.declared.layout.Size.{Size}
 use Rattle.canonical.specs.declared.layout.Prepared.{Prepared}
 use Rattle.canonical.specs.declared.write.Written.{Written}
 use Rattle.canonical.specs.declared.write.Written.the-variants.{Done, Refused}
-use Rattle.canonical.specs.Closed.{count, plainly, layoutUp, layoutDown, layoutOf, fieldOf, shortest}
+use Rattle.canonical.specs.Closed.{count, plainLayout, layoutUp, layoutDown, layoutOf, laidOut, shortest}
 use Rattle.canonical.specs.Closed.{canonicalText, canonicalField}
 use Rattle.canonical.specs.Storing.{sizeOf, preparedOf, layoutColumns, Sound, fieldText}
-use Rattle.canonical.specs.Writing.{answered, stored, written, bytes, refusal, refusalOf}
+use Rattle.canonical.specs.Writing.{answered, storedField, written, bytes, refusalNumber, writingRefusal}
 use Rattle.number.proofs.Tens.{ten-pos}
 use Rattle.canonical.proofs.Sizes.{more-zeros}
 use Rattle.canonical.proofs.Winner.{above-zero}
@@ -67,7 +67,8 @@ zero-value n p = by (valueOf n 0 p) (value-found n 0 p)
     by : (v : Decimal) → Value n 0 p v → v ≡ zeroDecimal
     by v f = ⊎-elim (λ nz. absurd (never v f nz)) (λ e. e) (f .normal)
 
-pub zero-prepared : (n : Bool) (c : ℕ) (p : ℤ) → c ≡ 0 → prepared false 0 (plainly 1 0 0) ≡ preparedOf (valueOf n c p)
+pub zero-prepared : (n : Bool) (c : ℕ) (p : ℤ) → c ≡ 0
+    → prepared false 0 (plainLayout 1 0 0) ≡ preparedOf (valueOf n c p)
 zero-prepared n c p e =
     ap (λ (l : Layout). prepared false 0 l) (sym zero-layout)
     ∙ ap preparedOf (sym (zero-value n p) ∙ ap (λ (k : ℕ). valueOf n k p) (sym e))
@@ -92,8 +93,9 @@ module _ (l : List ℕ) (n : Bool) (c : ℕ) (p : ℤ) (q : Prepared) (e : q ≡
       text-layout v (value-found n c p .normal)
       ∙ ap (λ (r : Prepared). layoutColumns (r .negative) (r .layout)) (sym e)
 
-  pub refused-wide : length l < layoutColumns (q .negative) (q .layout) → (Refused 41 ≡ answered l v) × (l ≡ stored l v)
-  unfolding answered stored
+  pub refused-wide : length l < layoutColumns (q .negative) (q .layout) → (Refused 41 ≡ answered l v)
+      × (l ≡ storedField l v)
+  unfolding answered storedField
   refused-wide h =
       let t = lt-leb (length (canonicalText v)) (length l) (rw long h) in
       (rw t refl, rw t refl)
@@ -101,14 +103,14 @@ module _ (l : List ℕ) (n : Bool) (c : ℕ) (p : ℤ) (q : Prepared) (e : q ≡
   form : fieldText (length l) (q .negative) (q .coefficient) (q .layout) ≡ canonicalField (length l) v
   unfolding canonicalField canonicalText shortest
   form =
-      ap (λ (k : ℕ). blanks (length l - k) ++ write (fieldOf (q .negative) (q .coefficient) (q .layout))) (sym long)
+      ap (λ (k : ℕ). blanks (length l - k) ++ write (laidOut (q .negative) (q .coefficient) (q .layout))) (sym long)
       ∙ ap (λ (r : Prepared). blanks (length l - length (canonicalText v))
-      ++ write (fieldOf (r .negative) (r .coefficient) (r .layout))) e
+      ++ write (laidOut (r .negative) (r .coefficient) (r .layout))) e
 
   pub done-wide : (m : List ℕ) → layoutColumns (q .negative) (q .layout) ≤ length l
       → m ≡ fieldText (length l) (q .negative) (q .coefficient) (q .layout)
-      → (Done ≡ answered l v) × (m ≡ stored l v)
-  unfolding answered stored
+      → (Done ≡ answered l v) × (m ≡ storedField l v)
+  unfolding answered storedField
   done-wide m h f =
       let t = le-leb (length (canonicalText v)) (length l) (rw long h) in
       (rw t refl, rw t (f ∙ form))
@@ -116,18 +118,18 @@ module _ (l : List ℕ) (n : Bool) (c : ℕ) (p : ℤ) (q : Prepared) (e : q ≡
 -- ---- eleven bytes
 
 -- the answer's number is document 01's
-number-of : (l : List ℕ) (v : Decimal) → refusal (written l v) ≡ refusalOf l v
-unfolding written answered refusalOf
+number-of : (l : List ℕ) (v : Decimal) → refusalNumber (written l v) ≡ writingRefusal l v
+unfolding written answered writingRefusal
 number-of l v = by (eqb (length l) 11) refl (leb (length (canonicalText v)) (length l)) refl
   where
     by : (t : Bool) → eqb (length l) 11 ≡ t → (u : Bool) → leb (length (canonicalText v)) (length l) ≡ u
-        → refusal (cond t (cond u Done (Refused 41)) (Refused 40))
+        → refusalNumber (cond t (cond u Done (Refused 41)) (Refused 40))
         ≡ cond t (cond (leb (length (canonicalText v)) 11) 0 41) 40
     by false e u d = refl
     by true e u d =
         rw (ap (λ (n : ℕ). leb (length (canonicalText v)) n) (sym (eqb-true (length l) 11 e)) ∙ d) (either u)
       where
-        either : (u : Bool) → refusal (cond u Done (Refused 41)) ≡ cond u 0 41
+        either : (u : Bool) → refusalNumber (cond u Done (Refused 41)) ≡ cond u 0 41
         either true = refl
         either false = refl
 
@@ -136,10 +138,10 @@ module _ (l : List ℕ) (v : Decimal) where
   unfolding written bytes
   not-eleven h = let e = ne-eqb (length l) 11 h in (rw e refl, rw e refl)
 
-  pub in-eleven : (r : Written) (m : List ℕ) → length l ≡ 11 → (r ≡ answered l v) × (m ≡ stored l v)
+  pub in-eleven : (r : Written) (m : List ℕ) → length l ≡ 11 → (r ≡ answered l v) × (m ≡ storedField l v)
       → (r ≡ written l v) × (m ≡ bytes l v)
   unfolding written bytes
   in-eleven r m h q = let e = eq-eqb (length l) 11 h in (rw e (q .0), rw e (q .1))
 
-  pub answer-number : (r : Written) → r ≡ written l v → refusal r ≡ refusalOf l v
-  answer-number r e = ap refusal e ∙ number-of l v
+  pub answer-number : (r : Written) → r ≡ written l v → refusalNumber r ≡ writingRefusal l v
+  answer-number r e = ap refusalNumber e ∙ number-of l v

@@ -10,11 +10,11 @@ use borrow.Author.Tests.{ne-eqb}
 use lib.Dec.{eqb}
 use lib.ListN.{length, getD, length-append}
 use Rattle.number.specs.declared.value.Decimal.{Decimal}
-use Rattle.number.specs.Grammar.{blanks, text, Sign, unsigned, signed, signText, openText}
-use Rattle.number.specs.Grammar.{Tail, plain, power, tailText, GoodTail, Field, write, Good}
+use Rattle.number.specs.Grammar.{blanks, digitsText, Sign, unsigned, signed, signText, openText}
+use Rattle.number.specs.Grammar.{Tail, plain, power, tailText, GoodTail, Field, write, GoodField}
 use Rattle.number.specs.Value.{Normal}
 use Rattle.canonical.specs.Canonical.{columns, tailColumns, pastBlanks, oneMore, upToLast, span}
-use Rattle.canonical.specs.Closed.{count, digitsN, shift, layoutOf, signOf, tailOf, fieldOf}
+use Rattle.canonical.specs.Closed.{count, digitsN, shift, layoutOf, signOf, tailOf, laidOut}
 use Rattle.canonical.specs.Closed.{shortest, canonicalText}
 use Rattle.number.proofs.Bounds.{text-length}
 use Rattle.canonical.proofs.Winner.{shortest-fine, text-columns}
@@ -26,7 +26,7 @@ skip zero x = refl
 skip (suc n) x = skip n x
 
 starts : (s : Sign) (w r : List ℕ)
-    → pastBlanks (signText s ++ (text w ++ (46 ∷ r))) ≡ signText s ++ (text w ++ (46 ∷ r))
+    → pastBlanks (signText s ++ (digitsText w ++ (46 ∷ r))) ≡ signText s ++ (digitsText w ++ (46 ∷ r))
 starts unsigned [] r = refl
 starts unsigned (d ∷ w) r = rw (ne-eqb (48 + d) 32 (omega arith)) refl
 starts (signed true) w r = refl
@@ -51,27 +51,27 @@ last-blanks : (k : ℕ) → upToLast (blanks k) ≡ 0
 last-blanks zero = refl
 last-blanks (suc k) = rw (last-blanks k) refl
 
-last-text : (ds : List ℕ) (k : ℕ) → upToLast (text ds ++ blanks k) ≡ length ds
+last-text : (ds : List ℕ) (k : ℕ) → upToLast (digitsText ds ++ blanks k) ≡ length ds
 last-text [] k = last-blanks k
 last-text (d ∷ ds) k = rw (last-text ds k, ne-eqb (48 + d) 32 (omega arith)) (more-filled (length ds))
 
-last-tail : (p : List ℕ) (t : Tail) → GoodTail t → upToLast (text p ++ tailText t) ≡ length p + tailColumns t
+last-tail : (p : List ℕ) (t : Tail) → GoodTail t → upToLast (digitsText p ++ tailText t) ≡ length p + tailColumns t
 last-tail p (plain k) g = last-text p k ∙ omega arith
 last-tail p (power o ds) g =
-    let e : upToLast (text ds) ≡ length ds = rw (← append-nil (text ds)) (last-text ds 0) in
-    let a = ahead (openText o) (text ds) (omega (arith, g .1)) in
-    ahead (text p) (openText o ++ text ds) (omega (arith, g .1)) ∙ omega (arith, text-length p)
+    let e : upToLast (digitsText ds) ≡ length ds = rw (← append-nil (digitsText ds)) (last-text ds 0) in
+    let a = ahead (openText o) (digitsText ds) (omega (arith, g .1)) in
+    ahead (digitsText p) (openText o ++ digitsText ds) (omega (arith, g .1)) ∙ omega (arith, text-length p)
 
-pub columns-span : (f : Field) → Good f → span (write f) ≡ columns f
+pub columns-span : (f : Field) → GoodField f → span (write f) ≡ columns f
 unfolding write columns
 columns-span f h =
-    let r = text (f .part) ++ tailText (f .tail) in
+    let r = digitsText (f .part) ++ tailText (f .tail) in
     let e : upToLast (46 ∷ r) ≡ suc (length (f .part) + tailColumns (f .tail)) =
     ap (λ (n : ℕ). oneMore n false) (last-tail (f .part) (f .tail) (h .tail))
     ∙ more-filled (length (f .part) + tailColumns (f .tail)) in
-    let a = ahead (text (f .whole)) (46 ∷ r) (omega arith) in
-    ap upToLast (skip (f .lead) (signText (f .sign) ++ (text (f .whole) ++ (46 ∷ r))) ∙ starts (f .sign) (f .whole) r)
-    ∙ ahead (signText (f .sign)) (text (f .whole) ++ (46 ∷ r)) (omega arith)
+    let a = ahead (digitsText (f .whole)) (46 ∷ r) (omega arith) in
+    ap upToLast (skip (f .lead) (signText (f .sign) ++ (digitsText (f .whole) ++ (46 ∷ r))) ∙ starts (f .sign) (f .whole) r)
+    ∙ ahead (signText (f .sign)) (digitsText (f .whole) ++ (46 ∷ r)) (omega arith)
     ∙ omega (arith, text-length (f .whole))
 
 -- ---- no blank
@@ -84,7 +84,7 @@ both-filled : (a b : List ℕ) → Filled a → Filled b → Filled (a ++ b)
 both-filled [] b h k = k
 both-filled (x ∷ a) b h k = (h .0, both-filled a b (h .1) k)
 
-text-filled : (ds : List ℕ) → Filled (text ds)
+text-filled : (ds : List ℕ) → Filled (digitsText ds)
 text-filled [] = tt
 text-filled (d ∷ ds) = (λ e. omega arith, text-filled ds)
 
@@ -103,7 +103,7 @@ at (b ∷ l) f zero h e = f .0 e
 at (b ∷ l) f (suc i) h e = at l (f .1) i (le-of-suc-le-suc h) e
 
 all-filled : (v : Decimal) → Filled (canonicalText v)
-unfolding canonicalText shortest fieldOf write
+unfolding canonicalText shortest laidOut write
 all-filled v =
     let l = layoutOf (count (v .coefficient)) (v .power) in
     let c = v .coefficient * 10 ^ l .zeros in
@@ -111,11 +111,11 @@ all-filled v =
     let b = digitsN (l .part) c in
     let t = tailText (tailOf (l .raised) (l .below) (l .long) (l .exponent)) in
     both-filled (signText (signOf (v .negative)))
-    (text a ++ (46 ∷ (text b ++ t)))
+    (digitsText a ++ (46 ∷ (digitsText b ++ t)))
     (sign-filled (v .negative))
-    (both-filled (text a) (46 ∷ (text b ++ t)) (text-filled a) (
+    (both-filled (digitsText a) (46 ∷ (digitsText b ++ t)) (text-filled a) (
       λ e. omega arith,
-      both-filled (text b) t (text-filled b) (tail-filled (l .raised) (l .below) (l .long) (l .exponent)),
+      both-filled (digitsText b) t (text-filled b) (tail-filled (l .raised) (l .below) (l .long) (l .exponent)),
     ))
 
 pub no-blank : (v : Decimal) (i : ℕ) → i < length (canonicalText v) → getD (canonicalText v) i 0 ≡ 32 → ⊥
@@ -123,7 +123,7 @@ no-blank v i h e = at (canonicalText v) (all-filled v) i h e
 
 -- ---- two characters at least
 
-some-columns : (f : Field) → Good f → 2 ≤ columns f
+some-columns : (f : Field) → GoodField f → 2 ≤ columns f
 unfolding columns
 some-columns f g = omega (arith, length-append (f .whole) (f .part), g .some)
 

@@ -9,7 +9,7 @@ use native.Mathlib.Omega.{arith}
 use borrow.Author.Tests.{lt-ltb, ltb-true, ltb-false}
 use lib.ListN.{length, length-append}
 use lib.Dec.{ltb}
-use Rattle.number.specs.Grammar.{Digits, text, numFrom, num}
+use Rattle.number.specs.Grammar.{Digits, digitsText, numFrom, num}
 use Rattle.number.proofs.Tens.{ten-suc, ten-lt}
 use Rattle.number.proofs.Bounds.{text-length}
 use Rattle.number.proofs.Reach.{numFrom-append, digits-append}
@@ -74,7 +74,7 @@ digitsN-append (suc b) a v =
     rw (add-suc a b, digitsN-append b a (v / 10))
     (append-assoc (digitsN a (shift b (v / 10))) (digitsN b (v / 10)) (v % 10 ∷ []))
 
-pub digits-wide : (n v : ℕ) → length (text (digitsN n v)) ≡ n
+pub digits-wide : (n v : ℕ) → length (digitsText (digitsN n v)) ≡ n
 digits-wide n v = text-length (digitsN n v) ∙ digitsN-length n v
 
 -- ---- how many digits a number has

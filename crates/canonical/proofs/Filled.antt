@@ -7,9 +7,9 @@ use Prim.Native.Nat.{ℕ, suc, _+_, _-_, _*_, _^_, _≤_}
 use native.Mathlib.Nat.{zero-add}
 use native.Mathlib.Omega.{arith}
 use lib.ListN.{length, length-append, length-replicate}
-use Rattle.number.specs.Grammar.{blanks, text, signByte, signText, tailText, write}
+use Rattle.number.specs.Grammar.{blanks, digitsText, signByte, signText, tailText, write}
 use Rattle.canonical.specs.declared.layout.Layout.{Layout}
-use Rattle.canonical.specs.Closed.{digitsN, shift, signOf, tailOf, fieldOf}
+use Rattle.canonical.specs.Closed.{digitsN, shift, signOf, tailOf, laidOut}
 use Rattle.canonical.specs.Storing.{oneIf, layoutColumns, put, bodyText, fieldText}
 use Rattle.canonical.proofs.Digits.{digits-wide}
 use Rattle.canonical.proofs.Laid.{sign-width}
@@ -22,22 +22,22 @@ moved l m i j x e h = e ∙ ap (λ (k : ℕ). put l k x) h
 -- ---- digits, point, digits
 
 module _ (l l₁ l₂ l₃ : List ℕ) (at whole part v : ℕ) where
-  pub filled-body : l₁ ≡ put l (at + (whole + 1)) (text (digitsN part v)) → l₂ ≡ put l₁ (at + whole) (46 ∷ [])
-      → l₃ ≡ put l₂ at (text (digitsN whole (shift part v))) → at + (whole + (1 + part)) ≤ length l
+  pub filled-body : l₁ ≡ put l (at + (whole + 1)) (digitsText (digitsN part v)) → l₂ ≡ put l₁ (at + whole) (46 ∷ [])
+      → l₃ ≡ put l₂ at (digitsText (digitsN whole (shift part v))) → at + (whole + (1 + part)) ≤ length l
       → l₃ ≡ put l at (bodyText whole part v)
   filled-body e₁ e₂ e₃ h =
-      let b = text (digitsN part v) in
+      let b = digitsText (digitsN part v) in
       let q = put-front l l₁ l₂ (at + whole) 1 (46 ∷ []) b
       (moved l l₁ (at + (whole + 1)) (at + whole + 1) b e₁ (omega arith)) e₂ refl (omega arith) in
-      put-front l l₂ l₃ at whole (text (digitsN whole (shift part v))) (46 ∷ b) q e₃ (digits-wide whole (shift part v))
+      put-front l l₂ l₃ at whole (digitsText (digitsN whole (shift part v))) (46 ∷ b) q e₃ (digits-wide whole (shift part v))
       (omega arith)
 
 -- ---- a sign and the digits of an exponent
 
-pub filled-exponent : (l l₁ l₂ : List ℕ) (at : ℕ) (s : Bool) (n e : ℕ) → l₁ ≡ put l (at + 1) (text (digitsN n e))
+pub filled-exponent : (l l₁ l₂ : List ℕ) (at : ℕ) (s : Bool) (n e : ℕ) → l₁ ≡ put l (at + 1) (digitsText (digitsN n e))
     → l₂ ≡ put l₁ at (signByte s ∷ []) → at + (1 + n) ≤ length l → l₂ ≡ put l at (tailText (tailOf true s n e))
 filled-exponent l l₁ l₂ at s n e e₁ e₂ h =
-    put-front l l₁ l₂ at 1 (signByte s ∷ []) (text (digitsN n e)) e₁ e₂ refl (omega arith)
+    put-front l l₁ l₂ at 1 (signByte s ∷ []) (digitsText (digitsN n e)) e₁ e₂ refl (omega arith)
 
 -- ---- the whole field
 
@@ -88,8 +88,8 @@ module _ (n : Bool) (c : ℕ) (p : Layout) (l l₁ l₂ l₃ l₄ : List ℕ) (h
       )
       (omega arith)
 
-  whole-text : sign ++ (body ++ tail) ≡ write (fieldOf n c p)
-  unfolding write fieldOf
+  whole-text : sign ++ (body ++ tail) ≡ write (laidOut n c p)
+  unfolding write laidOut
   whole-text = simp append-assoc
 
   placed : l₁ ≡ put l (lead + oneIf n 1 + (p .whole + (1 + p .part))) tail → l₂ ≡ put l₁ (lead + oneIf n 1) body

@@ -13,9 +13,9 @@ use native.Mathlib.Omega.{arith}
 use lib.ListN.{length, length-append}
 use lib.IntN.{ℤ, pos, negsuc}
 use Rattle.number.specs.Grammar.{Digits, num, signText, Opening, openText, below}
-use Rattle.number.specs.Grammar.{Tail, plain, power, GoodTail, Field, Good}
-use Rattle.canonical.specs.Canonical.{Ahead, columns, marks, behind, tailColumns}
-use Rattle.canonical.specs.Closed.{signOf, digitsN, count, plainly, raisedBy, fieldOf}
+use Rattle.number.specs.Grammar.{Tail, plain, power, GoodTail, Field, GoodField}
+use Rattle.canonical.specs.Canonical.{Ahead, columns, marksE, blanksBehind, tailColumns}
+use Rattle.canonical.specs.Closed.{signOf, digitsN, count, plainLayout, raisedBy, laidOut}
 use Rattle.number.proofs.Tens.{ten-suc, ten-gap}
 use Rattle.number.proofs.Bounds.{num-lt}
 use Rattle.canonical.proofs.Digits.{num-inj, digitsN-length, digitsN-digits, digitsN-num, Counted}
@@ -29,7 +29,7 @@ Beats f g = Ahead f g ⊎ Same f g
 
 module _ (n : Bool) (c : ℕ) (r : Counted (count c) c) where
   -- ---- facts of a rival
-  module _ (p : ℤ) (g : Field) (good : Good g) (s : Says g n c p) where
+  module _ (p : ℤ) (g : Field) (good : GoodField g) (s : Says g n c p) where
     heavy : r .less + s .k < length (g .whole) + length (g .part)
     heavy =
         rw (← length-append (g .whole) (g .part))
@@ -47,9 +47,9 @@ module _ (n : Bool) (c : ℕ) (r : Counted (count c) c) where
     tail-good t e = rw e at (good .tail)
 
   -- ---- a field with no exponent, w and v digits, the coefficient with j zeros
-  module _ (p : ℤ) (w v j : ℕ) (fits : c * 10 ^ j < 10 ^ (w + v)) (g : Field) (good : Good g) (s : Says g n c p) where
+  module _ (p : ℤ) (w v j : ℕ) (fits : c * 10 ^ j < 10 ^ (w + v)) (g : Field) (good : GoodField g) (s : Says g n c p) where
     abbrev form : Field
-    form = fieldOf n c (plainly w v j)
+    form = laidOut n c (plainLayout w v j)
 
     abbrev a : ℕ
     a = length (g .whole)
@@ -59,12 +59,12 @@ module _ (n : Bool) (c : ℕ) (r : Counted (count c) c) where
 
     plain-same : (i : ℕ) → g .tail ≡ plain i → length (signText (g .sign)) ≡ length (signText (signOf n))
         → a ≡ w → b ≡ v → s .k ≡ j → (0 < i) ⊎ Same form g
-    unfolding fieldOf
+    unfolding laidOut
     plain-same zero e q ea eb k =
         let d = same-digits (g .whole) (g .part) (form .whole) (form .part) (good .digits)
-        (laid-digits n c (plainly w v j))
-        (ea ∙ sym (laid-whole n c (plainly w v j))) (eb ∙ sym (laid-part n c (plainly w v j)))
-        (s .number ∙ rw k (sym (laid-num n c (plainly w v j) fits))) in
+        (laid-digits n c (plainLayout w v j))
+        (ea ∙ sym (laid-whole n c (plainLayout w v j))) (eb ∙ sym (laid-part n c (plainLayout w v j)))
+        (s .number ∙ rw k (sym (laid-num n c (plainLayout w v j) fits))) in
         inr (record { sign = sign-same (g .sign) n (s .sense) q; whole = d .0; part = d .1; tail = e })
     plain-same (suc i) e q ea eb k = inl (omega arith)
 
@@ -76,23 +76,23 @@ module _ (n : Bool) (c : ℕ) (r : Counted (count c) c) where
 
     plain-by : (t : Tail) → g .tail ≡ t → ((i : ℕ) → t ≡ plain i → Against-plain)
         → ((o : Opening) (ds : List ℕ) → t ≡ power o ds → Against-power o ds) → Beats form g
-    unfolding fieldOf
+    unfolding laidOut
     plain-by (plain i) e fp fe =
         let h = fp i refl in
         let k = cols p g good s (plain i) e in
         let l = signs p g good s in
-        let lc = laid-columns n c (plainly w v j) in
+        let lc = laid-columns n c (plainLayout w v j) in
         let q : columns form ≡ columns g → a + b ≡ w + v = λ z. omega (arith, h .0) in
         settle form g (Same form g) (omega (arith, h .0)) (rw e refl) (rw e (omega arith))
-        (λ z m. omega (arith, h .1 (q z) .0, laid-whole n c (plainly w v j)))
+        (λ z m. omega (arith, h .1 (q z) .0, laid-whole n c (plainLayout w v j)))
         (λ z m y. let d = h .1 (q z) in
-        subst (λ (t : Tail). (0 < behind t) ⊎ Same form g) (sym e)
+        subst (λ (t : Tail). (0 < blanksBehind t) ⊎ Same form g) (sym e)
         (plain-same i e (omega (arith, h .0)) (d .0) (d .1 .0) (d .1 .1)))
     plain-by (power o ds) e fp fe =
         let h = fe o ds refl in
         let k = cols p g good s (power o ds) e in
         let l = signs p g good s in
-        let lc = laid-columns n c (plainly w v j) in
+        let lc = laid-columns n c (plainLayout w v j) in
         settle-less form g (Same form g) (omega arith) (rw e (omega arith))
 
     plain-first : ((i : ℕ) → g .tail ≡ plain i → Against-plain)
@@ -101,9 +101,9 @@ module _ (n : Bool) (c : ℕ) (r : Counted (count c) c) where
 
   -- ---- a field with an exponent e, below zero by u
   module _ (p : ℤ) (w v j : ℕ) (fits : c * 10 ^ j < 10 ^ (w + v)) (u : Bool) (e : ℕ) (x : Counted (count e) e)
-      (g : Field) (good : Good g) (s : Says g n c p) where
+      (g : Field) (good : GoodField g) (s : Says g n c p) where
     abbrev form' : Field
-    form' = fieldOf n c (raisedBy w v j u e)
+    form' = laidOut n c (raisedBy w v j u e)
 
     abbrev a' : ℕ
     a' = length (g .whole)
@@ -120,10 +120,10 @@ module _ (n : Bool) (c : ℕ) (r : Counted (count c) c) where
         × (a' + (b' + length ds) ≡ w + (v + count e)
         → (a' ≤ w) × (a' ≡ w → (b' ≡ v) × ((s .k ≡ j) × ((length ds ≡ count e) × ((num ds ≡ e) × (below o ≡ u))))))
 
-    raised-same : (o : Opening) (ds : List ℕ) → g .tail ≡ power o ds → length (openText o) ≡ 1 → 0 ≡ marks (power o ds)
+    raised-same : (o : Opening) (ds : List ℕ) → g .tail ≡ power o ds → length (openText o) ≡ 1 → 0 ≡ marksE (power o ds)
         → length (signText (g .sign)) ≡ length (signText (signOf n)) → Digits ds
         → a' ≡ w → (b' ≡ v) × ((s .k ≡ j) × ((length ds ≡ count e) × ((num ds ≡ e) × (below o ≡ u)))) → Same form' g
-    unfolding fieldOf
+    unfolding laidOut
     raised-same o ds t lo hm ls dx ea (eb, (k, (lx, (ex, bu)))) =
         let q = raisedBy w v j u e in
         let d = same-digits (g .whole) (g .part) (form' .whole) (form' .part) (good .digits) (laid-digits n c q)
@@ -140,7 +140,7 @@ module _ (n : Bool) (c : ℕ) (r : Counted (count c) c) where
 
     raised-by : (t : Tail) → g .tail ≡ t → ((i : ℕ) → t ≡ plain i → Over-plain)
         → ((o : Opening) (ds : List ℕ) → t ≡ power o ds → Over-power o ds) → Beats form' g
-    unfolding Ahead fieldOf
+    unfolding Ahead laidOut
     raised-by (plain i) t fp fe =
         let z = laid-columns n c (raisedBy w v j u e) in
         inl (inl (omega (arith, fp i refl, cols p g good s (plain i) t, signs p g good s)))
@@ -228,10 +228,11 @@ grows : (y : ℕ) → 1 + 9 * y ≤ 10 ^ y
 grows y = rw (zero-add y) at (ten-gap 0 y)
 
 -- ---- the forms, one by one
-module _ (n : Bool) (c : ℕ) (r : Counted (count c) c) (g : Field) (good : Good g) where
+module _ (n : Bool) (c : ℕ) (r : Counted (count c) c) (g : Field) (good : GoodField g) where
   -- the power is p
   module _ (p : ℕ) (s : Says g n c (pos p)) where
-    pub first-whole : p ≤ 2 → c * 10 ^ p < 10 ^ (count c + p + 0) → Beats (fieldOf n c (plainly (count c + p) 0 p)) g
+    pub first-whole : p ≤ 2 → c * 10 ^ p < 10 ^ (count c + p + 0)
+        → Beats (laidOut n c (plainLayout (count c + p) 0 p)) g
     first-whole h fits =
         let y = heavy n c r (pos p) g good s in
         plain-first n c r (pos p) (count c + p) 0 p fits g good s
@@ -242,7 +243,7 @@ module _ (n : Bool) (c : ℕ) (r : Counted (count c) c) (g : Field) (good : Good
 
     -- one zero more: p is a power of ten
     pub first-ten : (x : Counted (count (p - 1)) (p - 1)) → p ≡ 10 * 10 ^ x .less
-        → c * 10 ^ 1 < 10 ^ (count c + 1 + 0) → Beats (fieldOf n c (raisedBy (count c + 1) 0 1 false (p - 1))) g
+        → c * 10 ^ 1 < 10 ^ (count c + 1 + 0) → Beats (laidOut n c (raisedBy (count c + 1) 0 1 false (p - 1))) g
     first-ten x h fits =
         let w = heavy n c r (pos p) g good s in
         let l : count c + 1 ≡ r .less + 2 = omega (arith, r .same) in
@@ -258,7 +259,7 @@ module _ (n : Bool) (c : ℕ) (r : Counted (count c) c) (g : Field) (good : Good
         (up-power g n c p s o ds e))
 
     pub first-up : (x : Counted (count p) p) → 3 ≤ p → 10 ^ x .less < p → c * 10 ^ 0 < 10 ^ (count c + 0)
-        → Beats (fieldOf n c (raisedBy (count c) 0 0 false p)) g
+        → Beats (laidOut n c (raisedBy (count c) 0 0 false p)) g
     first-up x three h fits =
         let w = heavy n c r (pos p) g good s in
         let l : count c ≡ r .less + 1 = omega (arith, r .same) in
@@ -277,7 +278,7 @@ module _ (n : Bool) (c : ℕ) (r : Counted (count c) c) (g : Field) (good : Good
   -- the power is -t, t is suc q
   module _ (q : ℕ) (s : Says g n c (negsuc q)) where
     pub first-among : suc q ≤ count c → c * 10 ^ 0 < 10 ^ (count c - suc q + suc q)
-        → Beats (fieldOf n c (plainly (count c - suc q) (suc q) 0)) g
+        → Beats (laidOut n c (plainLayout (count c - suc q) (suc q) 0)) g
     first-among h fits =
         let w = heavy n c r (negsuc q) g good s in
         plain-first n c r (negsuc q) (count c - suc q) (suc q) 0 fits g good s
@@ -287,7 +288,7 @@ module _ (n : Bool) (c : ℕ) (r : Counted (count c) c) (g : Field) (good : Good
 
     -- zeros between the point and the digits
     pub first-behind : count c < suc q → suc q ≤ count c + 2 → c * 10 ^ 0 < 10 ^ (0 + suc q)
-        → Beats (fieldOf n c (plainly 0 (suc q) 0)) g
+        → Beats (laidOut n c (plainLayout 0 (suc q) 0)) g
     first-behind h m fits =
         let w = heavy n c r (negsuc q) g good s in
         plain-first n c r (negsuc q) 0 (suc q) 0 fits g good s
@@ -301,7 +302,7 @@ module _ (n : Bool) (c : ℕ) (r : Counted (count c) c) (g : Field) (good : Good
     pub first-down : (f : ℕ) (x : Counted (count (suc q - f)) (suc q - f))
         → count c + 3 ≤ suc q → f ≡ suc q - (10 * 10 ^ x .less - 1)
         → 10 ^ x .less + count c ≤ suc q → suc q < 10 * 10 ^ x .less + count c
-        → c * 10 ^ 0 < 10 ^ (count c - f + f) → Beats (fieldOf n c (raisedBy (count c - f) f 0 true (suc q - f))) g
+        → c * 10 ^ 0 < 10 ^ (count c - f + f) → Beats (laidOut n c (raisedBy (count c - f) f 0 true (suc q - f))) g
     first-down f x three pl lo hi fits =
         let w = heavy n c r (negsuc q) g good s in
         let W = 10 ^ x .less in

@@ -10,7 +10,7 @@ use Rattle.number.specs.Grammar.{Digits, num, signText}
 use Rattle.number.specs.Value.{digitsOf}
 use Rattle.canonical.specs.declared.layout.Layout.{Layout}
 use Rattle.canonical.specs.Canonical.{columns, tailColumns}
-use Rattle.canonical.specs.Closed.{digitsN, shift, signOf, tailOf, fieldOf}
+use Rattle.canonical.specs.Closed.{digitsN, shift, signOf, tailOf, laidOut}
 use Rattle.canonical.specs.Storing.{oneIf, layoutColumns}
 use Rattle.canonical.proofs.Digits.{digitsN-length, digitsN-digits, digitsN-num, digitsN-append}
 
@@ -40,29 +40,29 @@ one-if true n = omega arith
 one-if false n = omega arith
 
 module _ (n : Bool) (c : ℕ) (p : Layout) where
-  pub laid-whole : length (fieldOf n c p .whole) ≡ p .whole
-  unfolding fieldOf
+  pub laid-whole : length (laidOut n c p .whole) ≡ p .whole
+  unfolding laidOut
   laid-whole = digitsN-length (p .whole) (shift (p .part) (c * 10 ^ p .zeros))
 
-  pub laid-part : length (fieldOf n c p .part) ≡ p .part
-  unfolding fieldOf
+  pub laid-part : length (laidOut n c p .part) ≡ p .part
+  unfolding laidOut
   laid-part = digitsN-length (p .part) (c * 10 ^ p .zeros)
 
-  pub laid-digits : Digits (fieldOf n c p .whole ++ fieldOf n c p .part)
-  unfolding fieldOf
+  pub laid-digits : Digits (laidOut n c p .whole ++ laidOut n c p .part)
+  unfolding laidOut
   laid-digits = split-digits (p .whole) (p .part) (c * 10 ^ p .zeros)
 
-  pub laid-length : length (fieldOf n c p .whole ++ fieldOf n c p .part) ≡ p .whole + p .part
-  unfolding fieldOf
+  pub laid-length : length (laidOut n c p .whole ++ laidOut n c p .part) ≡ p .whole + p .part
+  unfolding laidOut
   laid-length = split-length (p .whole) (p .part) (c * 10 ^ p .zeros)
 
-  pub laid-num : c * 10 ^ p .zeros < 10 ^ (p .whole + p .part) → digitsOf (fieldOf n c p) ≡ c * 10 ^ p .zeros
-  unfolding fieldOf
+  pub laid-num : c * 10 ^ p .zeros < 10 ^ (p .whole + p .part) → digitsOf (laidOut n c p) ≡ c * 10 ^ p .zeros
+  unfolding laidOut
   laid-num h = split-num (p .whole) (p .part) (c * 10 ^ p .zeros) h
 
-  pub laid-columns : columns (fieldOf n c p)
+  pub laid-columns : columns (laidOut n c p)
       ≡ length (signText (signOf n)) + (p .whole + (1 + (p .part + oneIf (p .raised) (1 + p .long))))
-  unfolding columns fieldOf
+  unfolding columns laidOut
   laid-columns =
       rw (
         digitsN-length (p .whole) (shift (p .part) (c * 10 ^ p .zeros)),
@@ -70,6 +70,6 @@ module _ (n : Bool) (c : ℕ) (p : Layout) where
         tail-columns (p .raised) (p .below) (p .long) (p .exponent),
       ) refl
 
-  pub laid-wide : columns (fieldOf n c p) ≡ layoutColumns n p
+  pub laid-wide : columns (laidOut n c p) ≡ layoutColumns n p
   unfolding layoutColumns
   laid-wide = laid-columns ∙ rw (sign-width n) refl

@@ -12,7 +12,7 @@ use Rattle.number.specs.declared.value.Decimal.{Decimal}
 use Rattle.number.specs.declared.value.Reading.{Reading}
 use Rattle.number.specs.declared.value.Reading.the-variants.{Blank, Number}
 use Rattle.number.specs.declared.value.Reading.the-variants as R
-use Rattle.number.specs.Grammar.{blanks, Field, write, Good, Letter}
+use Rattle.number.specs.Grammar.{blanks, Field, write, GoodField, Letter}
 use Rattle.number.specs.Value.{Normal, Means, valueOf}
 use Rattle.number.specs.Reading.{readField}
 use Rattle.number.proofs.Laws.{value-found, reads-exactly, blank-exactly, number-letters}
@@ -28,7 +28,7 @@ use Rattle.canonical.proofs.Promises as Promises
 -- ---- what wins, for every value and every width
 
 -- "That exactly one field wins is proved": of every value that some field of w columns reads to
-pub canonical-one : (w : ℕ) (v : Decimal) (g : Field) → Good g → length (write g) ≡ w → Means g v → ExactlyOne w v
+pub canonical-one : (w : ℕ) (v : Decimal) (g : Field) → GoodField g → length (write g) ≡ w → Means g v → ExactlyOne w v
 canonical-one w v g good wide means = Theorems.canonical-one w v g good wide means
 
 -- what wins is the closed form
@@ -48,7 +48,7 @@ pub best-one : (w : ℕ) (v : Decimal) (l m : List ℕ) → Best w v l → Best 
 best-one w v l m a b = Theorems.best-one w v l m a b
 
 -- the columns of a field are those of its bytes, from first to last non-blank
-pub columns-span : (f : Field) → Good f → span (write f) ≡ columns f
+pub columns-span : (f : Field) → GoodField f → span (write f) ≡ columns f
 columns-span f h = Characters.columns-span f h
 
 -- ---- the canonical text of a value

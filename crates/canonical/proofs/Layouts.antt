@@ -14,9 +14,10 @@ use Rattle.number.specs.declared.value.Decimal.{Decimal}
 use Rattle.number.specs.Value.{Normal, Value, valueOf}
 use Rattle.number.proofs.Laws.{value-found}
 use Rattle.canonical.specs.declared.layout.Layout.{Layout}
-use Rattle.canonical.specs.Closed.{count, countFrom, plainly, raisedBy, layoutUp, layoutDown, layoutOf, places}
+use Rattle.canonical.specs.Closed.{count, countFrom, plainLayout, raisedBy, layoutUp, layoutDown, layoutOf}
+use Rattle.canonical.specs.Closed.{places}
 use Rattle.canonical.specs.Closed.{shortest, canonicalText}
-use Rattle.canonical.specs.Storing.{layoutColumns, Sound, Ready}
+use Rattle.canonical.specs.Storing.{layoutColumns, Sound, ReadyLayout}
 use Rattle.number.proofs.Tens.{ten-suc, ten-le, ten-pos, ten-lt}
 use Rattle.canonical.proofs.Digits.{counts, count-pos, count-short}
 use Rattle.canonical.proofs.Sizes.{more-zeros, drop-zeros}
@@ -52,7 +53,7 @@ count-before p h e =
     omega (arith, x .same)
 
 module _ (d p : ℕ) where
-  pub up-plain : p ≤ 2 → plainly (d + p) 0 p ≡ layoutUp d p
+  pub up-plain : p ≤ 2 → plainLayout (d + p) 0 p ≡ layoutUp d p
   unfolding layoutUp
   up-plain h = rw (le-leb p 2 h) refl
 
@@ -83,11 +84,11 @@ pub least-of : (v : ℕ) → 0 < v → 10 ^ (count v - 1) ≤ v
 least-of v h = let x = counts v h in rw (x .same, suc-less (x .less)) (x .least)
 
 module _ (d t : ℕ) where
-  pub down-among : t ≤ d → plainly (d - t) t 0 ≡ layoutDown d t
+  pub down-among : t ≤ d → plainLayout (d - t) t 0 ≡ layoutDown d t
   unfolding layoutDown
   down-among h = rw (le-leb t d h) refl
 
-  pub down-behind : d < t → t ≤ d + 2 → plainly 0 t 0 ≡ layoutDown d t
+  pub down-behind : d < t → t ≤ d + 2 → plainLayout 0 t 0 ≡ layoutDown d t
   unfolding layoutDown
   down-behind h l = rw (lt-leb t d h, le-leb t (d + 2) l) refl
 
@@ -175,7 +176,7 @@ module _ (c : ℕ) (h : 0 < c) (l : c < 10 ^ 20) where
   sound (pos p) b = up-sound p (omega arith)
   sound (negsuc q) b = down-sound (suc q) (omega arith)
 
-pub zero-layout : layoutOf (count 0) (pos 0) ≡ plainly 1 0 0
+pub zero-layout : layoutOf (count 0) (pos 0) ≡ plainLayout 1 0 0
 unfolding layoutUp count countFrom
 zero-layout = refl
 
@@ -209,7 +210,7 @@ value-sound n c p lc lp = by (valueOf n c p) (value-found n c p)
         ⊎-elim (λ nz. some v f nz) (λ e. subst (λ (u : Decimal). Soundly u) (sym e) zero-sound) (f .normal)
 
 -- where the columns suffice, the number fits
-pub ready : (n : Bool) (c : ℕ) (p : Layout) (w : ℕ) → w ≤ 19 → layoutColumns n p ≤ w → Sound c p → Ready n c p w
+pub ready : (n : Bool) (c : ℕ) (p : Layout) (w : ℕ) → w ≤ 19 → layoutColumns n p ≤ w → Sound c p → ReadyLayout n c p w
 unfolding layoutColumns
 ready n c p w h k s =
     let l : p .whole + p .part ≤ 19 = omega arith in

@@ -14,7 +14,7 @@ use Rattle.number.specs.Value.{Normal}
 use Rattle.canonical.specs.declared.write.Written.the-variants.{Done, Refused}
 use Rattle.canonical.specs.Canonical.{NoField, Best}
 use Rattle.canonical.specs.Closed.{canonicalText, canonicalField}
-use Rattle.canonical.specs.Writing.{answered, stored, written, bytes}
+use Rattle.canonical.specs.Writing.{answered, storedField, written, bytes}
 use Rattle.canonical.proofs.Theorems.{canonical-none, canonical-best}
 
 not-done : {A : Type 0} (n : ℕ) → Refused n ≡ Done → A
@@ -36,7 +36,7 @@ module _ (l : List ℕ) (v : Decimal) (h : Normal v) where
 
   -- done: the buffer holds what wins
   pub done-best : written l v ≡ Done → Best 11 v (bytes l v)
-  unfolding written bytes answered stored
+  unfolding written bytes answered storedField
   done-best q = done-by (eqb (length l) 11) (leb T (length l)) refl refl q
 
   refused-by : (u : Bool) → leb T (length l) ≡ u → cond u Done (Refused 41) ≡ Refused 41 → length l < T

@@ -9,7 +9,7 @@ use native.Mathlib.Omega.{arith}
 use lib.ListN.{length, take, drop, set, length-append, length-take, length-drop, length-set, length-replicate}
 use lib.ListN.{take-append-drop, drop-of-length-le}
 use lib.Seq.{drop-at, take-set-le, set-split, length-take-le, take-append-le, take-take}
-use Rattle.number.specs.Grammar.{blanks, text}
+use Rattle.number.specs.Grammar.{blanks, digitsText}
 use Rattle.canonical.specs.Closed.{digitsN, shift}
 use Rattle.canonical.specs.Storing.{put, putDigits}
 use Rattle.number.proofs.Bounds.{text-length}
@@ -72,12 +72,12 @@ put-last l at n a x e h =
 
 -- digits from the right are the digits
 pub put-digits : (n : ℕ) (l : List ℕ) (at v : ℕ) → at + n ≤ length l
-    → putDigits l at n v ≡ put l at (text (digitsN n v))
+    → putDigits l at n v ≡ put l at (digitsText (digitsN n v))
 unfolding putDigits digitsN
 put-digits zero l at v h = sym (put-nothing l at)
 put-digits (suc n) l at v h =
     let m = set l (at + n) (48 + v % 10) in
-    let x = text (digitsN n (v / 10)) in
+    let x = digitsText (digitsN n (v / 10)) in
     put-digits n m at (v / 10) (rw (length-set l (at + n) (48 + v % 10)) (omega arith))
     ∙ put-last l at n (48 + v % 10) x (text-length (digitsN n (v / 10)) ∙ digitsN-length n (v / 10)) (omega arith)
     ∙ ap (λ (y : List ℕ). put l at y) (sym (text-append (digitsN n (v / 10)) (v % 10 ∷ [])))

@@ -10,12 +10,12 @@ use borrow.Author.Tests.{leb-true, leb-false, eqb-true, eqb-false}
 use lib.Dec.{leb, eqb}
 use lib.Pow.{pow-add}
 use lib.IntN.{ℤ, pos, negsuc, _+ℤ_, +ℤ-idr}
-use Rattle.number.specs.Grammar.{num, minus, GoodTail, Field, Good}
+use Rattle.number.specs.Grammar.{num, minus, GoodTail, Field, GoodField}
 use Rattle.number.specs.Value.{decimal, digitsOf, powerOf, Means}
 use Rattle.canonical.specs.declared.layout.Layout.{Layout}
-use Rattle.canonical.specs.Canonical.{behind}
-use Rattle.canonical.specs.Closed.{count, digitsN, plainly, raisedBy, layoutUp, layoutDown, layoutOf, places}
-use Rattle.canonical.specs.Closed.{signOf, tailOf, fieldOf}
+use Rattle.canonical.specs.Canonical.{blanksBehind}
+use Rattle.canonical.specs.Closed.{count, digitsN, plainLayout, raisedBy, layoutUp, layoutDown, layoutOf, places}
+use Rattle.canonical.specs.Closed.{signOf, tailOf, laidOut}
 use Rattle.number.proofs.Tens.{ten-suc, ten-pos, ten-le, ten-lt}
 use Rattle.canonical.proofs.Digits.{digitsN-length, digitsN-digits, digitsN-num}
 use Rattle.canonical.proofs.Digits.{Counted, counts, count-pos, count-most}
@@ -129,13 +129,13 @@ module _ (c : ℕ) (h : 0 < c) where
 -- ---- the closed form, case by case: P is what is to be shown of each form
 module _ (c : ℕ) (h : 0 < c) (P : Layout → Type 0) where
   module _ (p : ℕ)
-      (whole : p ≤ 2 → c * 10 ^ p < 10 ^ (count c + p + 0) → P (plainly (count c + p) 0 p))
+      (whole : p ≤ 2 → c * 10 ^ p < 10 ^ (count c + p + 0) → P (plainLayout (count c + p) 0 p))
       (more : 3 ≤ p → (x : Counted (count (p - 1)) (p - 1)) → p ≡ 10 * 10 ^ x .less
       → c * 10 ^ 1 < 10 ^ (count c + 1 + 0) → P (raisedBy (count c + 1) 0 1 false (p - 1)))
       (same : 3 ≤ p → (x : Counted (count p) p) → 10 ^ x .less < p
       → c * 10 ^ 0 < 10 ^ (count c + 0) → P (raisedBy (count c) 0 0 false p)) where
     by-up : (t u : Bool) → leb p 2 ≡ t → eqb p (10 ^ (count p - 1)) ≡ u
-        → P (cond t (plainly (count c + p) 0 p)
+        → P (cond t (plainLayout (count c + p) 0 p)
         (cond u (raisedBy (count c + 1) 0 1 false (p - 1)) (raisedBy (count c) 0 0 false p)))
     by-up true u e d = whole (leb-true p 2 e) (fits-more c h p)
     by-up false true e d =
@@ -152,17 +152,17 @@ module _ (c : ℕ) (h : 0 < c) (P : Layout → Type 0) where
     each-up = by-up (leb p 2) (eqb p (10 ^ (count p - 1))) refl refl
 
   module _ (t : ℕ)
-      (among : t ≤ count c → c * 10 ^ 0 < 10 ^ (count c - t + t) → P (plainly (count c - t) t 0))
-      (behind : count c < t → t ≤ count c + 2 → c * 10 ^ 0 < 10 ^ (0 + t) → P (plainly 0 t 0))
+      (among : t ≤ count c → c * 10 ^ 0 < 10 ^ (count c - t + t) → P (plainLayout (count c - t) t 0))
+      (blanksBehind : count c < t → t ≤ count c + 2 → c * 10 ^ 0 < 10 ^ (0 + t) → P (plainLayout 0 t 0))
       (raised : (f : ℕ) → count c + 3 ≤ t → Exponent (count c) t f
       → c * 10 ^ 0 < 10 ^ (count c - f + f) → P (raisedBy (count c - f) f 0 true (t - f))) where
     by-down : (u v : Bool) → leb t (count c) ≡ u → leb t (count c + 2) ≡ v
-        → P (cond u (plainly (count c - t) t 0) (cond v (plainly 0 t 0)
+        → P (cond u (plainLayout (count c - t) t 0) (cond v (plainLayout 0 t 0)
         (raisedBy (count c - places (count c) t) (places (count c) t) 0 true (t - places (count c) t))))
     by-down true v e d = let l = leb-true t (count c) e in among l (fits-plain c h (count c - t) t (omega arith))
     by-down false true e d =
         let l = leb-false t (count c) e in
-        behind l (leb-true t (count c + 2) d) (fits-plain c h 0 t (omega arith))
+        blanksBehind l (leb-true t (count c + 2) d) (fits-plain c h 0 t (omega arith))
     by-down false false e d =
         let l : count c + 3 ≤ t = more t (count c) (leb-false t (count c + 2) d) in
         let f = places (count c) t in
@@ -181,17 +181,17 @@ module _ (c : ℕ) (h : 0 < c) (P : Layout → Type 0) where
 
 -- ---- it is ahead
 
-pub first : (n : Bool) (c : ℕ) (p : ℤ) → 0 < c → (g : Field) → Good g → Says g n c p
-    → Beats (fieldOf n c (layoutOf (count c) p)) g
+pub first : (n : Bool) (c : ℕ) (p : ℤ) → 0 < c → (g : Field) → GoodField g → Says g n c p
+    → Beats (laidOut n c (layoutOf (count c) p)) g
 first n c (pos p) h g good s =
     let r = counts c h in
-    each-up c h (λ (l : Layout). Beats (fieldOf n c l) g) p
+    each-up c h (λ (l : Layout). Beats (laidOut n c l) g) p
     (λ l f. first-whole n c r g good p s l f)
     (λ l x e f. first-ten n c r g good p s x e f)
     (λ l x e f. first-up n c r g good p s x l e f)
 first n c (negsuc q) h g good s =
     let r = counts c h in
-    each-down c h (λ (l : Layout). Beats (fieldOf n c l) g) (suc q)
+    each-down c h (λ (l : Layout). Beats (laidOut n c l) g) (suc q)
     (λ l f. first-among n c r g good q s l f)
     (λ l m f. first-behind n c r g good q s l m f)
     (λ k l x f. first-down n c r g good q s k (x .x) l (x .is) (x .low) (x .high) f)
@@ -206,23 +206,23 @@ good-tail : (t s : Bool) (n e : ℕ) → (t ≡ true → 0 < n) → GoodTail (ta
 good-tail true s n e h = (digitsN-digits n e, rw (digitsN-length n e) (h refl))
 good-tail false s n e h = tt
 
-no-blank : (t s : Bool) (n e : ℕ) → behind (tailOf t s n e) ≡ 0
+no-blank : (t s : Bool) (n e : ℕ) → blanksBehind (tailOf t s n e) ≡ 0
 no-blank true s n e = refl
 no-blank false s n e = refl
 
 -- a field that is well formed, reads to the value, and has no blanks behind
 pub record Fine (n : Bool) (c : ℕ) (p : ℤ) (f : Field) : Type 0 where
-  pub good : Good f
+  pub good : GoodField f
   pub says : Means f (decimal n c p)
-  pub right : behind (f .tail) ≡ 0
+  pub right : blanksBehind (f .tail) ≡ 0
 
 module _ (n : Bool) (c : ℕ) (nz : c % 10 ≡ 0 → ⊥) (p : ℤ) where
   abbrev Says-value : Layout → Type 0
-  Says-value l = Fine n c p (fieldOf n c l)
+  Says-value l = Fine n c p (laidOut n c l)
 
   fine : (l : Layout) → c * 10 ^ l .zeros < 10 ^ (l .whole + l .part) → 1 ≤ l .whole + l .part
-      → (l .raised ≡ true → 0 < l .long) → powerOf (fieldOf n c l) +ℤ pos (l .zeros) ≡ p → Says-value l
-  unfolding fieldOf
+      → (l .raised ≡ true → 0 < l .long) → powerOf (laidOut n c l) +ℤ pos (l .zeros) ≡ p → Says-value l
+  unfolding laidOut
   fine l fits some e pw =
       record {
         good = record {
@@ -235,7 +235,7 @@ module _ (n : Bool) (c : ℕ) (nz : c % 10 ≡ 0 → ⊥) (p : ℤ) where
             m = 0;
             n = l .zeros;
             powers = pw ∙ sym (+ℤ-idr p);
-            numbers = mul-one (digitsOf (fieldOf n c l)) ∙ laid-num n c l fits;
+            numbers = mul-one (digitsOf (laidOut n c l)) ∙ laid-num n c l fits;
           };
           sign = λ z. sym (minus-sign n);
           normal = inl nz;
@@ -246,12 +246,12 @@ module _ (n : Bool) (c : ℕ) (nz : c % 10 ≡ 0 → ⊥) (p : ℤ) where
 pub exponent-num : (e : ℕ) → 0 < e → num (digitsN (count e) e) ≡ e
 exponent-num e h = digitsN-num (count e) e (count-most e h)
 
-pub found : (n : Bool) (c : ℕ) (p : ℤ) → 0 < c → (c % 10 ≡ 0 → ⊥) → Fine n c p (fieldOf n c (layoutOf (count c) p))
-unfolding fieldOf digitsN
+pub found : (n : Bool) (c : ℕ) (p : ℤ) → 0 < c → (c % 10 ≡ 0 → ⊥) → Fine n c p (laidOut n c (layoutOf (count c) p))
+unfolding laidOut digitsN
 found n c (pos p) h nz =
     let r = counts c h in
-    each-up c h (λ (l : Layout). Fine n c (pos p) (fieldOf n c l)) p
-    (λ l f. fine n c nz (pos p) (plainly (count c + p) 0 p) f (omega (arith, r .same)) (λ z. absurd (never z))
+    each-up c h (λ (l : Layout). Fine n c (pos p) (laidOut n c l)) p
+    (λ l f. fine n c nz (pos p) (plainLayout (count c + p) 0 p) f (omega (arith, r .same)) (λ z. absurd (never z))
     (pos-to false 0 0 p p (omega arith)))
     (λ l x e f. fine n c nz (pos p) (raisedBy (count c + 1) 0 1 false (p - 1)) f (omega arith) (λ z. count-pos (p - 1))
     (rw (exponent-num (p - 1) (omega arith)) (pos-to false (p - 1) 0 1 p (omega arith))))
@@ -262,10 +262,10 @@ found n c (pos p) h nz =
     never e = let z : _≡_ {A = ℕ} 0 1 = cc in omega arith
 found n c (negsuc q) h nz =
     let r = counts c h in
-    each-down c h (λ (l : Layout). Fine n c (negsuc q) (fieldOf n c l)) (suc q)
-    (λ l f. fine n c nz (negsuc q) (plainly (count c - suc q) (suc q) 0) f (omega arith) (λ z. absurd (never z))
+    each-down c h (λ (l : Layout). Fine n c (negsuc q) (laidOut n c l)) (suc q)
+    (λ l f. fine n c nz (negsuc q) (plainLayout (count c - suc q) (suc q) 0) f (omega arith) (λ z. absurd (never z))
     (rw (digitsN-length (suc q) (c * 10 ^ 0)) (neg-to false 0 (suc q) 0 q (omega arith))))
-    (λ l m f. fine n c nz (negsuc q) (plainly 0 (suc q) 0) f (omega arith) (λ z. absurd (never z))
+    (λ l m f. fine n c nz (negsuc q) (plainLayout 0 (suc q) 0) f (omega arith) (λ z. absurd (never z))
     (rw (digitsN-length (suc q) (c * 10 ^ 0)) (neg-to false 0 (suc q) 0 q (omega arith))))
     (λ k l x f. fine n c nz (negsuc q) (raisedBy (count c - k) k 0 true (suc q - k)) f
     (some (count c) k (r .less) (r .same)) (λ z. count-pos (suc q - k))

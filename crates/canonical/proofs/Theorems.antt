@@ -9,7 +9,7 @@ use native.Mathlib.Decide.{decLt}
 use native.Mathlib.Omega.{arith}
 use lib.ListN.{length}
 use Rattle.number.specs.declared.value.Decimal.{Decimal}
-use Rattle.number.specs.Grammar.{blanks, Field, write, Good}
+use Rattle.number.specs.Grammar.{blanks, Field, write, GoodField}
 use Rattle.number.specs.Value.{Normal, Means}
 use Rattle.canonical.specs.Canonical.{Canonical, ExactlyOne, NoField, Best}
 use Rattle.canonical.specs.Closed.{canonicalText, canonicalField}
@@ -17,7 +17,7 @@ use Rattle.canonical.proofs.Winner.{placed, placed-text, field-length, 
 use Rattle.canonical.proofs.Winner.{alone, never-both}
 
 -- where some field reads to the value, the closed form is no wider
-pub canonical-fits : (w : ℕ) (v : Decimal) (g : Field) → Good g → length (write g) ≡ w → Means g v
+pub canonical-fits : (w : ℕ) (v : Decimal) (g : Field) → GoodField g → length (write g) ≡ w → Means g v
     → length (canonicalText v) ≤ w
 canonical-fits w v g good wg e = by (decLt w (length (canonicalText v)))
   where
@@ -26,7 +26,7 @@ canonical-fits w v g good wg e = by (decLt w (length (canonicalText v)))
     by (no l) = omega arith
 
 -- "That exactly one field wins is proved": of every value that some field of w columns reads to
-pub canonical-one : (w : ℕ) (v : Decimal) (g : Field) → Good g → length (write g) ≡ w → Means g v → ExactlyOne w v
+pub canonical-one : (w : ℕ) (v : Decimal) (g : Field) → GoodField g → length (write g) ≡ w → Means g v → ExactlyOne w v
 canonical-one w v g good wg e =
     let c = closed-wins w v (e .normal) (canonical-fits w v g good wg e) in
     record { field = placed w v; wins = c; alone = λ f d. alone w v f (placed w v) d c }

@@ -10,7 +10,7 @@ use native.Mathlib.Omega.{arith}
 use lib.ListN.{length, replicate, length-append, length-replicate}
 use Rattle.number.specs.Grammar.{Digits, num, signText, Sign, unsigned, signed, signByte, minus}
 use Rattle.number.specs.Grammar.{Opening, bySign, byMark, byBare, openText, below, power, Field}
-use Rattle.canonical.specs.Canonical.{Fewer, Ahead, columns, exponents, marks, behind}
+use Rattle.canonical.specs.Canonical.{Fewer, Ahead, columns, exponents, marksE, blanksBehind}
 use Rattle.canonical.specs.Closed.{signOf}
 use Rattle.canonical.proofs.Digits.{num-inj, append-inj}
 
@@ -37,16 +37,16 @@ module _ (f g : Field) (S : Type 0) (cols : columns f ≤ columns g) where
   settle-less l = tie (columns f) (columns g) cols (λ e. inl (inl l))
 
   -- of the same kind
-  pub settle : exponents (f .tail) ≡ exponents (g .tail) → marks (f .tail) ≤ marks (g .tail)
-      → (columns f ≡ columns g → marks (f .tail) ≡ marks (g .tail) → length (g .whole) ≤ length (f .whole))
-      → (columns f ≡ columns g → marks (f .tail) ≡ marks (g .tail) → length (g .whole) ≡ length (f .whole)
-      → (behind (f .tail) < behind (g .tail)) ⊎ S)
+  pub settle : exponents (f .tail) ≡ exponents (g .tail) → marksE (f .tail) ≤ marksE (g .tail)
+      → (columns f ≡ columns g → marksE (f .tail) ≡ marksE (g .tail) → length (g .whole) ≤ length (f .whole))
+      → (columns f ≡ columns g → marksE (f .tail) ≡ marksE (g .tail) → length (g .whole) ≡ length (f .whole)
+      → (blanksBehind (f .tail) < blanksBehind (g .tail)) ⊎ S)
       → Ahead f g ⊎ S
   unfolding Ahead
   settle hp hm before last =
       tie (columns f) (columns g) cols (λ e.
       tie (exponents (f .tail)) (exponents (g .tail)) (omega arith) (λ _.
-      tie (marks (f .tail)) (marks (g .tail)) hm (λ m.
+      tie (marksE (f .tail)) (marksE (g .tail)) hm (λ m.
       tie (length (g .whole)) (length (f .whole)) (before e m) (λ b. last e m b))))
 
 -- ---- the sign, the opening of an exponent, lists of digits
@@ -71,7 +71,7 @@ open-least (bySign k g) = omega (arith, open-length k (signByte g ∷ []))
 open-least (byMark k g) = omega (arith, open-length k (69 ∷ signByte g ∷ []))
 open-least (byBare k j) = omega (arith, open-length k (69 ∷ replicate j 32))
 
-pub open-same : (o : Opening) (ds : List ℕ) → length (openText o) ≡ 1 → 0 ≡ marks (power o ds) → o ≡ bySign 0 (below o)
+pub open-same : (o : Opening) (ds : List ℕ) → length (openText o) ≡ 1 → 0 ≡ marksE (power o ds) → o ≡ bySign 0 (below o)
 open-same (bySign k g) ds e m = let q : k ≡ 0 = omega (arith, open-length k (signByte g ∷ [])) in rw q refl
 open-same (byMark k g) ds e m = absurd (omega arith)
 open-same (byBare k j) ds e m = absurd (omega arith)

@@ -9,10 +9,11 @@ use native.Mathlib.Omega.{arith}
 use lib.ListN.{length, length-append, length-replicate}
 use lib.IntN.{pos}
 use Rattle.number.specs.declared.value.Decimal.{Decimal}
-use Rattle.number.specs.Grammar.{Sign, unsigned, signed, signText, Tail, plain, power, tailText, Field, write, Good}
+use Rattle.number.specs.Grammar.{Sign, unsigned, signed, signText, Tail, plain, power, tailText, Field, write}
+use Rattle.number.specs.Grammar.{GoodField}
 use Rattle.number.specs.Value.{zeroDecimal, Normal, Means}
-use Rattle.canonical.specs.Canonical.{Fewer, Ahead, columns, tailColumns, behind, Canonical, NoField}
-use Rattle.canonical.specs.Closed.{count, countFrom, digitsN, shift, layoutUp, fieldOf}
+use Rattle.canonical.specs.Canonical.{Fewer, Ahead, columns, tailColumns, blanksBehind, Canonical, NoField}
+use Rattle.canonical.specs.Closed.{count, countFrom, digitsN, shift, layoutUp, laidOut}
 use Rattle.canonical.specs.Closed.{shortest, canonicalText, canonicalField}
 use Rattle.number.proofs.Bounds.{text-length}
 use Rattle.canonical.proofs.Says.{says, zero-digits}
@@ -22,11 +23,11 @@ use Rattle.canonical.proofs.Shortest.{Fine, first, found}
 
 -- ---- how long a field is
 
-tail-length : (t : Tail) → length (tailText t) ≡ tailColumns t + behind t
+tail-length : (t : Tail) → length (tailText t) ≡ tailColumns t + blanksBehind t
 tail-length (plain k) = length-replicate k 32 ∙ omega arith
 tail-length (power o ds) = rw (length-append, text-length) (omega arith)
 
-pub write-length : (f : Field) → length (write f) ≡ f .lead + (columns f + behind (f .tail))
+pub write-length : (f : Field) → length (write f) ≡ f .lead + (columns f + blanksBehind (f .tail))
 unfolding write columns
 write-length f = simp (length-append, length-replicate, text-length, tail-length) (omega arith)
 
@@ -36,7 +37,7 @@ abbrev nought : Field
 nought = record { lead = 0; sign = unsigned; whole = 0 ∷ []; part = []; tail = plain 0 }
 
 zero-form : shortest zeroDecimal ≡ nought
-unfolding shortest fieldOf layoutUp count countFrom digitsN shift
+unfolding shortest laidOut layoutUp count countFrom digitsN shift
 zero-form = refl
 
 zero-fine : Fine false 0 (pos 0) nought
@@ -55,7 +56,7 @@ no-sign : (s : Sign) → length (signText s) ≡ 0 → s ≡ unsigned
 no-sign unsigned e = refl
 no-sign (signed g) e = absurd (omega arith)
 
-module _ (g : Field) (good : Good g) (h : Means g zeroDecimal) where
+module _ (g : Field) (good : GoodField g) (h : Means g zeroDecimal) where
   zero-same : (i : ℕ) → g .tail ≡ plain i → length (signText (g .sign)) ≡ 0 → length (g .whole) ≡ 1
       → length (g .part) ≡ 0 → (0 < i) ⊎ Same nought g
   zero-same zero t s a b =
@@ -71,7 +72,7 @@ module _ (g : Field) (good : Good g) (h : Means g zeroDecimal) where
       settle nought g (Same nought g) k (rw t refl) (rw t (omega arith))
       (λ q m. let q' = rw t at q in omega (arith, good .some))
       (λ q m b. let q' = rw t at q in
-      subst (λ (t : Tail). (0 < behind t) ⊎ Same nought g) (sym t)
+      subst (λ (t : Tail). (0 < blanksBehind t) ⊎ Same nought g) (sym t)
       (zero-same i t (omega (arith, good .some)) b (omega (arith, good .some))))
   zero-by (power o ds) t =
       let l = length-append (g .whole) (g .part) in
@@ -94,16 +95,17 @@ shortest-fine v h =
     (λ e. subst (λ (u : Decimal). Fine (u .negative) (u .coefficient) (u .power) (shortest u)) (sym e)
     (rw zero-form zero-fine)) h
 
-some-first : (v : Decimal) → (v .coefficient % 10 ≡ 0 → ⊥) → (g : Field) → Good g → Means g v → Beats (shortest v) g
+some-first : (v : Decimal) → (v .coefficient % 10 ≡ 0 → ⊥) → (g : Field) → GoodField g → Means g v
+    → Beats (shortest v) g
 unfolding shortest
 some-first v nz g good m =
     first (v .negative) (v .coefficient) (v .power) (above-zero (v .coefficient) nz) g good
     (says g (v .negative) (v .coefficient) (v .power) nz m)
 
-zero-first : (g : Field) → Good g → Means g zeroDecimal → Beats (shortest zeroDecimal) g
+zero-first : (g : Field) → GoodField g → Means g zeroDecimal → Beats (shortest zeroDecimal) g
 zero-first g good m = subst (λ (f : Field). Beats f g) (sym zero-form) (zero-by g good m (g .tail) refl)
 
-shortest-first : (v : Decimal) → Normal v → (g : Field) → Good g → Means g v → Beats (shortest v) g
+shortest-first : (v : Decimal) → Normal v → (g : Field) → GoodField g → Means g v → Beats (shortest v) g
 shortest-first v h g good m =
     ⊎-elim (λ nz. some-first v nz g good m)
     (λ e. subst (λ (u : Decimal). Beats (shortest u) g) (sym e)
@@ -112,7 +114,7 @@ shortest-first v h g good m =
 -- ---- the text, and the field of w columns
 
 pub text-columns : (v : Decimal) → Normal v → length (canonicalText v) ≡ columns (shortest v)
-unfolding canonicalText fieldOf shortest
+unfolding canonicalText laidOut shortest
 text-columns v h = write-length (shortest v) ∙ omega (arith, shortest-fine v h .right)
 
 -- the closed form behind as many blanks as there is room for
@@ -127,7 +129,7 @@ placed w v =
     }
 
 pub placed-text : (w : ℕ) (v : Decimal) → write (placed w v) ≡ canonicalField w v
-unfolding write canonicalField canonicalText shortest fieldOf
+unfolding write canonicalField canonicalText shortest laidOut
 placed-text w v = refl
 
 ahead-columns : (f g : Field) → Ahead f g → columns f ≤ columns g
@@ -149,9 +151,9 @@ module _ (w : ℕ) (v : Decimal) (h : Normal v) where
   same-text : (g : Field) → length (write g) ≡ w → Same (shortest v) g → write g ≡ canonicalField w v
   unfolding write
   same-text g wg s =
-      let b : behind (g .tail) ≡ 0 = rw (s .tail) (shortest-fine v h .right) in
+      let b : blanksBehind (g .tail) ≡ 0 = rw (s .tail) (shortest-fine v h .right) in
       let l : g .lead ≡ w - length (canonicalText v) =
-      lead-of w (g .lead) (columns g) (length (canonicalText v)) (behind (g .tail)) (sym (write-length g) ∙ wg)
+      lead-of w (g .lead) (columns g) (length (canonicalText v)) (blanksBehind (g .tail)) (sym (write-length g) ∙ wg)
       (text-columns v h ∙ same-columns (shortest v) g s) b in
       rw (l, s .sign, s .whole, s .part, s .tail) (placed-text w v)
     where
@@ -189,7 +191,7 @@ never-both f g a b =
     (fewer-never _ _ _ _
     (fewer-never _ _ _ _
     (fewer-never _ _ _ _
-    (λ (p : behind (f .tail) < behind (g .tail)) (q : behind (g .tail) < behind (f .tail)). omega arith)))) a b
+    (λ (p : blanksBehind (f .tail) < blanksBehind (g .tail)) (q : blanksBehind (g .tail) < blanksBehind (f .tail)). omega arith)))) a b
 
 pub alone : (w : ℕ) (v : Decimal) (f g : Field) → Canonical w v f → Canonical w v g → write f ≡ write g
 alone w v f g a b =

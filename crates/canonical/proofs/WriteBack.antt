@@ -12,7 +12,7 @@ use Rattle.number.specs.Reading.{readField}
 use Rattle.number.proofs.Laws.{value-found, value-one}
 use Rattle.canonical.specs.Closed.{canonicalText, canonicalField}
 use Rattle.canonical.specs.Replacing.{replacedBy, canonical}
-use Rattle.canonical.specs.Writing.{stored, bytes}
+use Rattle.canonical.specs.Writing.{storedField, bytes}
 
 -- a value in its normal form is the value of its own three parts
 pub value-of-normal : (v : Decimal) → Normal v → valueOf (v .negative) (v .coefficient) (v .power) ≡ v
@@ -23,7 +23,7 @@ value-of-normal v h =
 -- written into eleven columns
 pub written-back : (v : Decimal) (l : List ℕ) → Normal v → length (canonicalText v) ≤ 11 → length l ≡ 11
     → bytes l (valueOf (v .negative) (v .coefficient) (v .power)) ≡ canonicalField 11 v
-unfolding bytes stored
+unfolding bytes storedField
 written-back v l h fits w =
     rw (value-of-normal v h, w) (rw (le-leb (length (canonicalText v)) 11 fits))
 

@@ -13,7 +13,8 @@ use Prim.Native.Nat.{ℕ, zero, suc, _+_, _<_}
 use lib.Dec.{eqb}
 use lib.ListN.{length}
 use Rattle.number.specs.declared.value.Decimal.{Decimal}
-use Rattle.number.specs.Grammar.{signText, bySign, byMark, byBare, openText, Tail, plain, power, Field, write, Good}
+use Rattle.number.specs.Grammar.{signText, bySign, byMark, byBare, openText, Tail, plain, power, Field, write}
+use Rattle.number.specs.Grammar.{GoodField}
 use Rattle.number.specs.Value.{Means, Reads}
 
 -- ---- the five keys
@@ -32,16 +33,16 @@ exponents (plain k) = 0
 exponents (power o ds) = 1
 
 -- "without E": 0 without, 1 with
-abbrev pub marks : Tail → ℕ
-marks (plain k) = 0
-marks (power (bySign k g) ds) = 0
-marks (power (byMark k g) ds) = 1
-marks (power (byBare k j) ds) = 1
+abbrev pub marksE : Tail → ℕ
+marksE (plain k) = 0
+marksE (power (bySign k g) ds) = 0
+marksE (power (byMark k g) ds) = 1
+marksE (power (byBare k j) ds) = 1
 
 -- "digits before the point" are `length (f .whole)`; "right-adjusted" is no blank behind
-abbrev pub behind : Tail → ℕ
-behind (plain k) = k
-behind (power o ds) = 0
+abbrev pub blanksBehind : Tail → ℕ
+blanksBehind (plain k) = k
+blanksBehind (power o ds) = 0
 
 -- ---- their order
 
@@ -54,18 +55,18 @@ unfoldable pub Ahead : Field → Field → Type 0
 Ahead f g =
     Fewer (columns f) (columns g)
     (Fewer (exponents (f .tail)) (exponents (g .tail))
-    (Fewer (marks (f .tail)) (marks (g .tail))
+    (Fewer (marksE (f .tail)) (marksE (g .tail))
     (Fewer (length (g .whole)) (length (f .whole))
-    (behind (f .tail) < behind (g .tail)))))
+    (blanksBehind (f .tail) < blanksBehind (g .tail)))))
 
 -- ---- what wins
 
 -- f is a field of w columns that reads to v, and comes before all others: "of all fields reading to the value"
 pub record Canonical (w : ℕ) (v : Decimal) (f : Field) : Type 0 where
-  pub good : Good f
+  pub good : GoodField f
   pub wide : length (write f) ≡ w
   pub says : Means f v
-  pub first : (g : Field) → Good g → length (write g) ≡ w → Means g v → (write g ≡ write f) ⊎ Ahead f g
+  pub first : (g : Field) → GoodField g → length (write g) ≡ w → Means g v → (write g ≡ write f) ⊎ Ahead f g
 
 -- "exactly one field wins": the law `canonical-one`
 pub record ExactlyOne (w : ℕ) (v : Decimal) : Type 0 where
@@ -75,7 +76,7 @@ pub record ExactlyOne (w : ℕ) (v : Decimal) : Type 0 where
 
 -- "no field reads to the value": the law `canonical-none`
 abbrev pub NoField : ℕ → Decimal → Type 0
-NoField w v = (g : Field) → Good g → length (write g) ≡ w → Means g v → ⊥
+NoField w v = (g : Field) → GoodField g → length (write g) ≡ w → Means g v → ⊥
 
 -- ---- the same of bytes
 

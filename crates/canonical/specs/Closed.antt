@@ -34,8 +34,8 @@ shift (suc n) v = shift n (v / 10)
 
 -- ---- how many digits stand where, and the exponent
 
-abbrev pub plainly : ℕ → ℕ → ℕ → Layout
-plainly whole part zeros =
+abbrev pub plainLayout : ℕ → ℕ → ℕ → Layout
+plainLayout whole part zeros =
     record { whole = whole; part = part; zeros = zeros; raised = false; below = false; long = 0; exponent = 0 }
 
 abbrev pub raisedBy : ℕ → ℕ → ℕ → Bool → ℕ → Layout
@@ -54,7 +54,7 @@ raisedBy whole part zeros below exponent =
 -- power of ten, one zero shortens the exponent (`10.+99`)
 unfoldable pub layoutUp : ℕ → ℕ → Layout
 layoutUp d p =
-    cond (leb p 2) (plainly (d + p) 0 p)
+    cond (leb p 2) (plainLayout (d + p) 0 p)
     (cond (eqb p (10 ^ (count p - 1))) (raisedBy (d + 1) 0 1 false (p - 1))
     (raisedBy d 0 0 false p))
 
@@ -66,8 +66,8 @@ places d t = t - (10 ^ count (t - d) - 1)
 -- d digits and a power -t: the point among the digits, or before them, or at most two zeros between (`.001`)
 unfoldable pub layoutDown : ℕ → ℕ → Layout
 layoutDown d t =
-    cond (leb t d) (plainly (d - t) t 0)
-    (cond (leb t (d + 2)) (plainly 0 t 0)
+    cond (leb t d) (plainLayout (d - t) t 0)
+    (cond (leb t (d + 2)) (plainLayout 0 t 0)
     (raisedBy (d - places d t) (places d t) 0 true (t - places d t)))
 
 abbrev pub layoutOf : ℕ → ℤ → Layout
@@ -85,8 +85,8 @@ tailOf true below n e = power (bySign 0 below) (digitsN n e)
 tailOf false below n e = plain 0
 
 -- the coefficient c with its zeros behind it, laid out
-unfoldable pub fieldOf : Bool → ℕ → Layout → Field
-fieldOf negative c p =
+unfoldable pub laidOut : Bool → ℕ → Layout → Field
+laidOut negative c p =
     record {
       lead = 0;
       sign = signOf negative;
@@ -96,7 +96,7 @@ fieldOf negative c p =
     }
 
 unfoldable pub shortest : Decimal → Field
-shortest v = fieldOf (v .negative) (v .coefficient) (layoutOf (count (v .coefficient)) (v .power))
+shortest v = laidOut (v .negative) (v .coefficient) (layoutOf (count (v .coefficient)) (v .power))
 
 -- its characters: two or more, none of them blank
 unfoldable pub canonicalText : Decimal → List ℕ

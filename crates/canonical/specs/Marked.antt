@@ -20,9 +20,9 @@ use Rattle.number.specs.Value.{decimal, trimFrom, trim, valueOf}
 use Rattle.number.specs.Reading.{finish, readField, readNumber}
 use Rattle.canonical.specs.declared.write.Written.{Written}
 use Rattle.canonical.specs.declared.write.Written.the-variants.{Done, Refused}
-use Rattle.canonical.specs.Closed.{countFrom, count, digitsN, shift, layoutUp, layoutDown, fieldOf, shortest}
+use Rattle.canonical.specs.Closed.{countFrom, count, digitsN, shift, layoutUp, layoutDown, laidOut, shortest}
 use Rattle.canonical.specs.Closed.{canonicalText, canonicalField}
-use Rattle.canonical.specs.Writing.{answered, stored, written, bytes}
+use Rattle.canonical.specs.Writing.{answered, storedField, written, bytes}
 
 -- ---- texts
 
@@ -40,23 +40,23 @@ buffer = replicate 11 35
 
 -- ---- the rows, and what they say
 
-pub data Row : Type 0 where
-  reads : String → ℕ → ℤ → String → Row
-  malformed : String → Row
-  unwritable : ℕ → ℤ → Row
+pub data MarkedRow : Type 0 where
+  reads : String → ℕ → ℤ → String → MarkedRow
+  malformed : String → MarkedRow
+  unwritable : ℕ → ℤ → MarkedRow
 
 pub data Outcome : Type 0 where
   read : Reading → Outcome
   wrote : Written → List ℕ → Outcome
 
 -- the field reads to the coefficient and the power, and these are written as the canonical field
-abbrev pub said : Row → List Outcome
+abbrev pub said : MarkedRow → List Outcome
 said (reads t c p u) = read (R.Number (decimal false c p)) ∷ wrote Done (right u) ∷ []
 said (malformed t) = read (R.Refused 15) ∷ []
 said (unwritable c p) = wrote (Refused 41) buffer ∷ []
 
 -- what the definitions give
-abbrev pub found : Row → List Outcome
+abbrev pub found : MarkedRow → List Outcome
 found (reads t c p u) =
     read (readNumber (right t))
     ∷ wrote (written buffer (valueOf false c p)) (bytes buffer (valueOf false c p))
@@ -66,7 +66,7 @@ found (unwritable c p) = wrote (written buffer (valueOf false c p)) (bytes buffe
 
 -- ---- the table
 
-abbrev pub marked : List Row
+abbrev pub marked : List MarkedRow
 marked =
     reads "0.14" 14 (negℤ (pos 2)) ".14"
     ∷ reads "1.45-1" 145 (negℤ (pos 3)) ".145"
@@ -88,6 +88,6 @@ marked =
 
 pub marked-right : map found marked ≡ map said marked
 unfolding finish readField readNumber trimFrom trim valueOf write
-    countFrom count digitsN shift layoutUp layoutDown fieldOf shortest canonicalText canonicalField
-    answered stored written bytes
+    countFrom count digitsN shift layoutUp layoutDown laidOut shortest canonicalText canonicalField
+    answered storedField written bytes
 marked-right = refl

@@ -5,11 +5,11 @@ use Prim.Native.Nat.{ℕ, zero, suc, _+_, _-_, _*_, _/_, _%_, _^_, _<_, _≤_}
 use lib.ListN.{length, take, drop, set}
 use lib.IntN.{ℤ, pos, negsuc}
 use Rattle.number.specs.declared.value.Decimal.{Decimal}
-use Rattle.number.specs.Grammar.{blanks, text, write}
+use Rattle.number.specs.Grammar.{blanks, digitsText, write}
 use Rattle.canonical.specs.declared.layout.Layout.{Layout}
 use Rattle.canonical.specs.declared.layout.Size.{Size}
 use Rattle.canonical.specs.declared.layout.Prepared.{Prepared}
-use Rattle.canonical.specs.Closed.{count, digitsN, shift, layoutOf, fieldOf}
+use Rattle.canonical.specs.Closed.{count, digitsN, shift, layoutOf, laidOut}
 
 -- the size of a power, and whether it is below zero
 abbrev pub sizeOf : ℤ → Size
@@ -44,7 +44,7 @@ pub record Sound (c : ℕ) (p : Layout) : Type 0 where
   pub number : c * 10 ^ p .zeros < 10 ^ (p .whole + p .part)
 
 -- the same where the layout fits in w columns: the number fits in 64 bits
-pub record Ready (negative : Bool) (c : ℕ) (p : Layout) (w : ℕ) : Type 0 where
+pub record ReadyLayout (negative : Bool) (c : ℕ) (p : Layout) (w : ℕ) : Type 0 where
   pub fits : layoutColumns negative p ≤ w
   pub sound : Sound c p
   pub small : c * 10 ^ p .zeros < 2 ^ 64
@@ -57,11 +57,11 @@ put l at x = take at l ++ (x ++ drop (at + length x) l)
 
 -- the digits of v, the last `part` of them behind the point
 abbrev pub bodyText : ℕ → ℕ → ℕ → List ℕ
-bodyText whole part v = text (digitsN whole (shift part v)) ++ (46 ∷ text (digitsN part v))
+bodyText whole part v = digitsText (digitsN whole (shift part v)) ++ (46 ∷ digitsText (digitsN part v))
 
 -- a layout's field, right-adjusted in w columns
 abbrev pub fieldText : ℕ → Bool → ℕ → Layout → List ℕ
-fieldText w negative c p = blanks (w - layoutColumns negative p) ++ write (fieldOf negative c p)
+fieldText w negative c p = blanks (w - layoutColumns negative p) ++ write (laidOut negative c p)
 
 -- the last n digits of v put in from the right
 unfoldable pub putDigits : List ℕ → ℕ → ℕ → ℕ → List ℕ

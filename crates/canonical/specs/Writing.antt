@@ -15,20 +15,20 @@ use Rattle.canonical.specs.Closed.{canonicalText, canonicalField}
 unfoldable pub answered : List ℕ → Decimal → Written
 answered l v = cond (leb (length (canonicalText v)) (length l)) Done (Refused 41)
 
-unfoldable pub stored : List ℕ → Decimal → List ℕ
-stored l v = cond (leb (length (canonicalText v)) (length l)) (canonicalField (length l) v) l
+unfoldable pub storedField : List ℕ → Decimal → List ℕ
+storedField l v = cond (leb (length (canonicalText v)) (length l)) (canonicalField (length l) v) l
 
 -- into one that has to be of eleven bytes
 unfoldable pub written : List ℕ → Decimal → Written
 written l v = cond (eqb (length l) 11) (answered l v) (Refused 40)
 
 unfoldable pub bytes : List ℕ → Decimal → List ℕ
-bytes l v = cond (eqb (length l) 11) (stored l v) l
+bytes l v = cond (eqb (length l) 11) (storedField l v) l
 
 -- document 01's number for each answer: 0 done
-abbrev pub refusal : Written → ℕ
-refusal Done = 0
-refusal (Refused n) = n
+abbrev pub refusalNumber : Written → ℕ
+refusalNumber Done = 0
+refusalNumber (Refused n) = n
 
-unfoldable pub refusalOf : List ℕ → Decimal → ℕ
-refusalOf l v = cond (eqb (length l) 11) (cond (leb (length (canonicalText v)) 11) 0 41) 40
+unfoldable pub writingRefusal : List ℕ → Decimal → ℕ
+writingRefusal l v = cond (eqb (length l) 11) (cond (leb (length (canonicalText v)) 11) 0 41) 40

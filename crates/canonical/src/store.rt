@@ -3,9 +3,9 @@ ghost use mathlib.Core.Path.{_≡_};
 ghost use mathlib.Core.List.{[], _∷_};
 ghost use Prim.Native.Nat.{_+_, _-_, _*_, _<_, _≤_, _^_};
 ghost use lib.ListN.{length};
-ghost use Rattle.number.specs.Grammar.{blanks, text, signByte, signText, tailText};
+ghost use Rattle.number.specs.Grammar.{blanks, digitsText, signByte, signText, tailText};
 ghost use Rattle.canonical.specs.Closed.{digitsN, shift, signOf, tailOf};
-ghost use Rattle.canonical.specs.Storing.{put, oneIf, layoutColumns, Ready, bodyText, fieldText};
+ghost use Rattle.canonical.specs.Storing.{put, oneIf, layoutColumns, ReadyLayout, bodyText, fieldText};
 use crate::layout::Layout;
 
 fn put_byte(out: &mut [u8], at: usize, b: u8)
@@ -27,7 +27,7 @@ fn put_blanks(out: &mut [u8], n: usize)
 // The last n digits of v; what stands before them is handed back.
 fn put_digits(out: &mut [u8], at: usize, n: usize, v: u64) -> u64
     requires { ⌜ at + n ≤ length (now out) ⌝ }
-    ensures { λ r. ⌜ (r ≡ shift n v) × (now (out .exit) ≡ put (now (out .entry)) at (text (digitsN n v))) ⌝ }
+    ensures { λ r. ⌜ (r ≡ shift n v) × (now (out .exit) ≡ put (now (out .entry)) at (digitsText (digitsN n v))) ⌝ }
 {
     let mut w = v;
     let mut k = n;
@@ -115,7 +115,7 @@ fn with_zeros(c: u64, zeros: usize) -> u64
 
 // A layout's field, right-adjusted in the whole of a buffer.
 pub(crate) fn put_field(out: &mut [u8], negative: bool, c: u64, p: Layout)
-    requires { ⌜ Ready negative c p (length (now out)) ⌝ }
+    requires { ⌜ ReadyLayout negative c p (length (now out)) ⌝ }
     ensures { λ r. ⌜ now (out .exit) ≡ fieldText (length (now (out .entry))) negative c p ⌝ }
 {
     let whole = p.whole;

@@ -3,7 +3,7 @@ ghost use mathlib.Core.Path.{_≡_};
 ghost use Prim.Native.Nat.{_≤_};
 ghost use lib.ListN.{length};
 ghost use Rattle.number.specs.Value.{valueOf};
-ghost use Rattle.canonical.specs.Writing.{answered, stored, written, bytes, refusal, refusalOf};
+ghost use Rattle.canonical.specs.Writing.{answered, storedField, written, bytes, refusalNumber, writingRefusal};
 use crate::layout::prepare;
 use crate::store::layout_columns;
 use crate::store::put_field;
@@ -18,7 +18,7 @@ pub enum Written {
 fn write_columns(negative: bool, coefficient: u64, power: i32, out: &mut [u8]) -> Written
     requires { ⌜ length (now out) ≤ 19 ⌝ }
     ensures { λ r. ⌜ r ≡ answered (now (out .entry)) (valueOf negative coefficient power) ⌝ }
-    ensures { λ r. ⌜ now (out .exit) ≡ stored (now (out .entry)) (valueOf negative coefficient power) ⌝ }
+    ensures { λ r. ⌜ now (out .exit) ≡ storedField (now (out .entry)) (valueOf negative coefficient power) ⌝ }
 {
     let q = prepare(negative, coefficient, power);
     let g = q.negative;
@@ -35,7 +35,7 @@ fn write_columns(negative: bool, coefficient: u64, power: i32, out: &mut [u8]) -
 pub fn write_number(negative: bool, coefficient: u64, power: i32, out: &mut [u8]) -> Written
     ensures { λ r. ⌜ r ≡ written (now (out .entry)) (valueOf negative coefficient power) ⌝ }
     ensures { λ r. ⌜ now (out .exit) ≡ bytes (now (out .entry)) (valueOf negative coefficient power) ⌝ }
-    ensures { λ r. ⌜ refusal r ≡ refusalOf (now (out .entry)) (valueOf negative coefficient power) ⌝ }
+    ensures { λ r. ⌜ refusalNumber r ≡ writingRefusal (now (out .entry)) (valueOf negative coefficient power) ⌝ }
 {
     if out.len() != 11 {
         return Written::Refused(40);

@@ -15,7 +15,7 @@ use Rattle.rules_state.specs.State.{startContext}
 use Rattle.entry.specs.Verdict.{turnOf, Accepted}
 use Rattle.entry.specs.Contexts.{contextAt}
 use Rattle.entry.proofs.AcceptedWalk.{Walked, walked, context-start}
-use Rattle.copy.specs.Copy.{copyRecord, recordsOf, copyOf}
+use Rattle.copy.specs.Copy.{copyRecord, recordsIn, copyOf}
 use Rattle.copy.proofs.Demand.{passed, copy-long, copy-records}
 
 module _ (s : List ℕ) (n : ℕ) (w : Walked s n) where
@@ -37,7 +37,7 @@ copied-block s accepted i l =
     let p = passed s accepted in
     let long = copy-long s p in
     let z : 0 + i ≡ i = omega arith in
-    let there : getD (copies turnOf copyRecord startContext 0 (recordsOf s)) i []
+    let there : getD (copies turnOf copyRecord startContext 0 (recordsIn s)) i []
     ≡ copyRecord (contextAt s i) (blockAt 81 s i) =
     rw (zero-mul 81, context-start s, z) at (copies-from s n (walked s accepted) n 0 (omega arith) i l) in
     sym (block-at 81 (length (copyOf s) / 81) (copyOf s) i (rw long l))

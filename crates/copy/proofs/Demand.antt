@@ -27,7 +27,7 @@ use Rattle.columns.specs.Fields.{fieldAt}
 use Rattle.record.specs.Numbers.{noValue}
 use Rattle.rules_state.specs.State.{Context, startContext}
 use Rattle.entry.specs.Verdict.{turnOf, endOf, lengthGood, judgeOf, Accepted}
-use Rattle.copy.specs.Copy.{maskOf, copyRecord, recordsOf, numberField, fieldIn, copyOf}
+use Rattle.copy.specs.Copy.{maskOf, copyRecord, recordsIn, numberField, fieldIn, copyOf}
 use Rattle.copy.specs.Demand.{AlikeField, inNumber, SameNumbers, CopyAccepted, CopyAgain, OneCopy}
 use Rattle.entry.proofs.Numbered.{whole-records}
 use Rattle.entry.proofs.Walking.{accepted-good}
@@ -41,7 +41,7 @@ pub record Passed (s : List ℕ) : Type 0 where
   pub good : lengthGood (length s) ≡ true
   pub whole : length s ≡ length s / 81 * 81
   pub last : Context
-  pub goes : Goes turnOf startContext 0 (recordsOf s) last
+  pub goes : Goes turnOf startContext 0 (recordsIn s) last
 
 pub passed : (s : List ℕ) → Accepted s → Passed s
 passed s f =
@@ -63,7 +63,7 @@ unfolding copyOf
 copy-long s p = length-copied faithful startContext 81 (length s / 81) s (p .whole) (p .last) (p .goes)
 
 -- its records are the copies of the records
-pub copy-records : (s : List ℕ) → Passed s → recordsOf (copyOf s) ≡ copiesOf (length s / 81) s
+pub copy-records : (s : List ℕ) → Passed s → recordsIn (copyOf s) ≡ copiesOf (length s / 81) s
 copy-records s p =
     rw (copy-long s p, copy-at (length s / 81) s refl)
     (rows-copied faithful startContext 81 (length s / 81) s (p .whole) (p .last) (p .goes))
@@ -72,9 +72,9 @@ copy-records s p =
 pub copy-accepted : CopyAccepted
 copy-accepted s f = same (passed s f)
   where
-    walks : Passed s → walk turnOf endOf startContext 0 (recordsOf (copyOf s))
-        ≡ walk turnOf endOf startContext 0 (recordsOf s)
-    walks p = rw (copy-records s p) (copies-walk faithful endOf startContext 0 (recordsOf s) (p .last) (p .goes))
+    walks : Passed s → walk turnOf endOf startContext 0 (recordsIn (copyOf s))
+        ≡ walk turnOf endOf startContext 0 (recordsIn s)
+    walks p = rw (copy-records s p) (copies-walk faithful endOf startContext 0 (recordsIn s) (p .last) (p .goes))
 
     same : Passed s → judgeOf (copyOf s) ≡ judgeOf s
     same p = let w = walks p in let e = copy-long s p in unfold judgeOf in (rw (w, e))
@@ -85,7 +85,7 @@ copy-again s f = same (passed s f)
   where
     same : Passed s → copyOf (copyOf s) ≡ copyOf s
     same p =
-        let twice = copies-twice faithful startContext 0 (recordsOf s) (p .last) (p .goes) in
+        let twice = copies-twice faithful startContext 0 (recordsIn s) (p .last) (p .goes) in
         let at = copy-at (length s / 81) s refl in
         let long : length (copyOf s) / 81 ≡ length s / 81 = rw (copy-long s p) in
         copy-at (length s / 81) (copyOf s) long
@@ -122,7 +122,7 @@ field-column m k e =
 
 masks-all : (s : List ℕ) (p : Passed s) → length (masks (length s / 81) s) ≡ length s / 81
 masks-all s p =
-    length-marks turnOf maskOf startContext 0 (recordsOf s) (p .last) (p .goes) ∙ length-blocks 81 (length s / 81) s
+    length-marks turnOf maskOf startContext 0 (recordsIn s) (p .last) (p .goes) ∙ length-blocks 81 (length s / 81) s
 
 -- each is blank or a number
 pub number-reads : (s : List ℕ) → Passed s → (i k : ℕ) → numberField s i k ≡ true

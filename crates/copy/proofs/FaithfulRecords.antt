@@ -26,7 +26,7 @@ use Rattle.rules_system.specs.Every.{rule3}
 use Rattle.rules.specs.Order.{faultOf}
 use Rattle.entry_next.specs.Next.{contextAfter}
 use Rattle.entry.specs.Verdict.{roleOf, turnOf}
-use Rattle.copy.specs.Copy.{numberIn, maskOf, copyField, copyRecord}
+use Rattle.copy.specs.Copy.{isNumberField, maskOf, copyField, copyRecord}
 use Rattle.copy.specs.Demand.{AlikeField}
 use Rattle.rules.proofs.WithoutFault.{fine-long, fine-permitted, fine-reads, permitted-alike, judged-alike}
 use Rattle.entry.proofs.GoingOn.{go-fine, fine-go, next-alike}
@@ -38,21 +38,21 @@ use Rattle.copy.proofs.CanonicalFields.{copied-letters}
 
 pub length-mask-of : (c : Context) (r : List ℕ) → length (maskOf c r) ≡ 6
 unfolding maskOf
-length-mask-of c r = length-mask (numberIn c (roleOf c r)) 0 6
+length-mask-of c r = length-mask (isNumberField c (roleOf c r)) 0 6
 
-mask-of-at : (c : Context) (r : List ℕ) (k : ℕ) → k < 6 → getD (maskOf c r) k false ≡ numberIn c (roleOf c r) k
+mask-of-at : (c : Context) (r : List ℕ) (k : ℕ) → k < 6 → getD (maskOf c r) k false ≡ isNumberField c (roleOf c r) k
 unfolding maskOf
 mask-of-at c r k h =
     let e : 0 + k ≡ k = omega arith in
-    mask-at (numberIn c (roleOf c r)) false 6 0 k h ∙ ap (numberIn c (roleOf c r)) e
+    mask-at (isNumberField c (roleOf c r)) false 6 0 k h ∙ ap (isNumberField c (roleOf c r)) e
 
 -- only a value record has number fields
-value-of : (c : Context) (role k : ℕ) → numberIn c role k ≡ true → isValue role ≡ true
-unfolding numberIn
+value-of : (c : Context) (role k : ℕ) → isNumberField c role k ≡ true → isValue role ≡ true
+unfolding isNumberField
 value-of c role k e = and-left (isValue role) (ltb k (used (c .track))) e
 
-no-number : (c : Context) (role : ℕ) → isValue role ≡ false → (k : ℕ) → numberIn c role k ≡ false
-unfolding numberIn
+no-number : (c : Context) (role : ℕ) → isValue role ≡ false → (k : ℕ) → isNumberField c role k ≡ false
+unfolding isNumberField
 no-number c role e k = rw e refl
 
 pub not-copied : (c : Context) (r : List ℕ) → isValue (roleOf c r) ≡ false → copyRecord c r ≡ r

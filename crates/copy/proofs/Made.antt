@@ -13,7 +13,7 @@ use Rattle.entry.specs.declared.verdict.Verdict.{Verdict}
 use Rattle.entry.specs.Verdict.{judgeOf, Accepted}
 use Rattle.entry.specs.Answer.{answerOf, answerFor}
 use Rattle.copy.specs.Copy.{copyOf}
-use Rattle.copy.specs.Call.{copied, copiedInto, stored}
+use Rattle.copy.specs.Call.{copied, copiedInto, storedCopy}
 use Rattle.copy.specs.Demand.{CopyMade}
 use Rattle.copy.specs.Storing.{Room}
 use Rattle.copy.proofs.Demand.{passed, copy-long}
@@ -22,8 +22,9 @@ answered : (s : List ℕ) (room : ℕ) → Accepted s → length s ≤ room → 
 unfolding copied
 answered s room f long = rw (eq-eqb (judgeOf s .refusal) 0 f, le-ltb room (length s) long)
 
-pub stored-copy : (s out : List ℕ) → Accepted s → length s ≤ length out → stored s out ≡ copyOf s ++ drop (length s) out
-unfolding stored
+pub stored-copy : (s out : List ℕ) → Accepted s → length s ≤ length out
+    → storedCopy s out ≡ copyOf s ++ drop (length s) out
+unfolding storedCopy
 stored-copy s out f long = rw (answered s (length out) f long)
 
 pub copy-made : CopyMade
@@ -40,14 +41,14 @@ accepted-by s v e z = ap (λ (x : Verdict). x .refusal) (sym e) ∙ z
 
 -- 31
 pub refused-copied : (s out : List ℕ) (v : Verdict) → v ≡ judgeOf s → (v .refusal ≡ 0 → ⊥)
-    → (answerFor v 31 ≡ copied s (length out)) × (out ≡ stored s out)
-unfolding copied stored
+    → (answerFor v 31 ≡ copied s (length out)) × (out ≡ storedCopy s out)
+unfolding copied storedCopy
 refused-copied s out v e n = let z : eqb (v .refusal) 0 ≡ false = ne-eqb (v .refusal) 0 n in rw (← e, z) (refl, refl)
 
 -- 37
 pub short-copied : (s out : List ℕ) (v : Verdict) → v ≡ judgeOf s → v .refusal ≡ 0 → length out < length s
-    → (answerOf 37 ≡ copied s (length out)) × (out ≡ stored s out)
-unfolding copied stored
+    → (answerOf 37 ≡ copied s (length out)) × (out ≡ storedCopy s out)
+unfolding copied storedCopy
 short-copied s out v e z short =
     let a : eqb (v .refusal) 0 ≡ true = eq-eqb (v .refusal) 0 z in
     let b : ltb (length out) (length s) ≡ true = lt-ltb (length out) (length s) short in
@@ -58,7 +59,7 @@ pub made-room : (s out : List ℕ) (v : Verdict) → v ≡ judgeOf s → v .refu
 made-room s out v e z long = record { accepted = accepted-by s v e z; room = long }
 
 pub made-copied : (s out : List ℕ) (v : Verdict) → v ≡ judgeOf s → v .refusal ≡ 0 → length s ≤ length out
-    → (answerOf 0 ≡ copied s (length out)) × (copiedInto s out ≡ stored s out)
+    → (answerOf 0 ≡ copied s (length out)) × (copiedInto s out ≡ storedCopy s out)
 made-copied s out v e z long =
     let f = accepted-by s v e z in
     (sym (answered s (length out) f long), sym (stored-copy s out f long))

@@ -16,7 +16,7 @@ use Rattle.number.specs.Reading.{readField}
 use Rattle.columns.specs.Fields.{fieldAt}
 use Rattle.rules_state.specs.State.{startContext}
 use Rattle.entry.specs.Verdict.{roleOf, turnOf, Accepted}
-use Rattle.copy.specs.Copy.{copyRecord, recordsOf, fieldIn, copyOf}
+use Rattle.copy.specs.Copy.{copyRecord, recordsIn, fieldIn, copyOf}
 use Rattle.copy.specs.Demand.{CopyFields, CopyReads, CopyPart, CopyContexts, CopyRoles}
 use Rattle.copy.proofs.FaithfulRecords.{role-kept, reads-kept, faithful}
 use Rattle.copy.proofs.Demand.{Passed, passed, copy-long, copy-records, copy-accepted, copy-again, SameFields}
@@ -25,13 +25,13 @@ use Rattle.copy.proofs.Demand.{one-fields}
 pub copy-contexts : CopyContexts
 copy-contexts s f =
     let p = passed s f in
-    rw (copy-records s p) (copies-marks faithful (λ c r. c) (λ c i r d h. refl) startContext 0 (recordsOf s) (p .last)
+    rw (copy-records s p) (copies-marks faithful (λ c r. c) (λ c i r d h. refl) startContext 0 (recordsIn s) (p .last)
     (p .goes))
 
 pub copy-roles : CopyRoles
 copy-roles s f =
     let p = passed s f in
-    rw (copy-records s p) (copies-marks faithful roleOf role-kept startContext 0 (recordsOf s) (p .last) (p .goes))
+    rw (copy-records s p) (copies-marks faithful roleOf role-kept startContext 0 (recordsIn s) (p .last) (p .goes))
 
 -- past the last record there is nothing
 past : (s : List ℕ) (i : ℕ) → length s ≤ i * 81 → blockAt 81 s i ≡ []
@@ -52,13 +52,13 @@ copy-reads s f i k = by-record (passed s f)
         let whole : length s ≡ n * 81 = p .whole in
         either i n
         (λ l.
-        let e : getD (recordsOf (copyOf s)) i [] ≡ blockAt 81 (copyOf s) i =
+        let e : getD (recordsIn (copyOf s)) i [] ≡ blockAt 81 (copyOf s) i =
         block-at 81 (length (copyOf s) / 81) (copyOf s) i (rw long l) in
-        let there : readField (fieldAt (getD (copies turnOf copyRecord startContext 0 (recordsOf s)) i []) k)
-        ≡ readField (fieldAt (getD (recordsOf s) i []) k) =
+        let there : readField (fieldAt (getD (copies turnOf copyRecord startContext 0 (recordsIn s)) i []) k)
+        ≡ readField (fieldAt (getD (recordsIn s) i []) k) =
         copies-at faithful (λ t r. readField (fieldAt t k) ≡ readField (fieldAt r k))
         (λ c j r d h. reads-kept c j r d h k)
-        startContext 0 (recordsOf s) (p .last) (p .goes) i (rw m l) in
+        startContext 0 (recordsIn s) (p .last) (p .goes) i (rw m l) in
         rw (← e, copy-records s p, ← block-at 81 n s i l) there)
         (λ l. rw (past (copyOf s) i (omega arith), past s i (omega arith)))
 

@@ -14,7 +14,7 @@ use Rattle.columns.specs.Fields.{fieldAt}
 use Rattle.rules_state.specs.declared.state.Track.{Track}
 use Rattle.rules_state.specs.State.{Context}
 use Rattle.entry.specs.Verdict.{roleOf}
-use Rattle.copy.specs.Copy.{valueField, numberIn, maskOf, copyField, copyRecord}
+use Rattle.copy.specs.Copy.{valueField, isNumberField, maskOf, copyField, copyRecord}
 use Rattle.copy.proofs.Pasted.{paste-more}
 
 abbrev Eleven : Bool → List ℕ → Type 0
@@ -79,5 +79,5 @@ module _ (test : ℕ → Bool) (r : List ℕ) (whole : length r ≡ 81) where
 -- what the code stores for a record, from its role and the track before it, is its copy in the context
 pub record-copied : (c : Context) (r : List ℕ) (t : Track) (role : ℕ) → t ≡ c .track → role ≡ roleOf c r
     → replaced copyField (mask (valueField t role) 0 6) r ≡ copyRecord c r
-unfolding copyRecord maskOf numberIn
+unfolding copyRecord maskOf isNumberField
 record-copied c r t role e f = rw (e, f)

@@ -26,5 +26,5 @@ abbrev pub copiedInto : List ℕ → List ℕ → List ℕ
 copiedInto s out = copyOf s ++ drop (length s) out
 
 -- the buffer after the call
-unfoldable pub stored : List ℕ → List ℕ → List ℕ
-stored s out = cond (eqb (copied s (length out) .number) 0) (copiedInto s out) out
+unfoldable pub storedCopy : List ℕ → List ℕ → List ℕ
+storedCopy s out = cond (eqb (copied s (length out) .number) 0) (copiedInto s out) out

@@ -24,20 +24,20 @@ abbrev pub valueField : Track → ℕ → ℕ → Bool
 valueField t role k = isValue role && ltb k (used t)
 
 -- in its context it is a number field: every value field is one
-unfoldable pub numberIn : Context → ℕ → ℕ → Bool
-numberIn c role k = valueField (c .track) role k
+unfoldable pub isNumberField : Context → ℕ → ℕ → Bool
+isNumberField c role k = valueField (c .track) role k
 
 -- which of a record's six fields are number fields
 unfoldable pub maskOf : Context → List ℕ → List Bool
-maskOf c r = mask (numberIn c (roleOf c r)) 0 6
+maskOf c r = mask (isNumberField c (roleOf c r)) 0 6
 
 -- the records of an entry
-abbrev pub recordsOf : List ℕ → List (List ℕ)
-recordsOf s = blocks 81 (length s / 81) s
+abbrev pub recordsIn : List ℕ → List (List ℕ)
+recordsIn s = blocks 81 (length s / 81) s
 
 -- the field k of the record with the index i is a number field of the entry
 unfoldable pub numberField : List ℕ → ℕ → ℕ → Bool
-numberField s i k = getD (getD (marks turnOf maskOf startContext 0 (recordsOf s)) i []) k false
+numberField s i k = getD (getD (marks turnOf maskOf startContext 0 (recordsIn s)) i []) k false
 
 -- that field's columns
 abbrev pub fieldIn : List ℕ → ℕ → ℕ → List ℕ
@@ -55,4 +55,4 @@ copyRecord c r = replaced copyField (maskOf c r) r
 
 -- each record as it is copied in its context
 unfoldable pub copyOf : List ℕ → List ℕ
-copyOf s = joined (copies turnOf copyRecord startContext 0 (recordsOf s))
+copyOf s = joined (copies turnOf copyRecord startContext 0 (recordsIn s))

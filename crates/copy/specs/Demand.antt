@@ -18,8 +18,8 @@ use Rattle.number.specs.Reading.{readField}
 use Rattle.rules_state.specs.State.{Context, startContext}
 use Rattle.entry.specs.Verdict.{roleOf, turnOf, judgeOf, Accepted}
 use Rattle.entry.specs.Answer.{answerOf}
-use Rattle.copy.specs.Call.{copied, stored}
-use Rattle.copy.specs.Copy.{recordsOf, numberField, fieldIn, copyOf}
+use Rattle.copy.specs.Call.{copied, storedCopy}
+use Rattle.copy.specs.Copy.{recordsIn, numberField, fieldIn, copyOf}
 
 -- how two answers about a value are compared: in all that they say
 abbrev pub Alike : Reading → Reading → Type 0
@@ -36,8 +36,8 @@ abbrev pub CopyMade : Type 0
 CopyMade =
     (s out : List ℕ) → Accepted s → length s ≤ length out
     → (copied s (length out) ≡ answerOf 0)
-    × (take (length s) (stored s out) ≡ copyOf s)
-    × (drop (length s) (stored s out) ≡ drop (length s) out)
+    × (take (length s) (storedCopy s out) ≡ copyOf s)
+    × (drop (length s) (storedCopy s out) ≡ drop (length s) out)
 
 -- ---- "is accepted": with the same totals, since the verdict is the same
 
@@ -67,10 +67,10 @@ CopyPart =
 
 -- each record has the same role, in the same context
 abbrev pub contexts : List ℕ → List Context
-contexts s = marks turnOf (λ c r. c) startContext 0 (recordsOf s)
+contexts s = marks turnOf (λ c r. c) startContext 0 (recordsIn s)
 
 abbrev pub roles : List ℕ → List ℕ
-roles s = marks turnOf roleOf startContext 0 (recordsOf s)
+roles s = marks turnOf roleOf startContext 0 (recordsIn s)
 
 abbrev pub CopyContexts : Type 0
 CopyContexts = (s : List ℕ) → Accepted s → contexts (copyOf s) ≡ contexts s

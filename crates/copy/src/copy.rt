@@ -1,7 +1,7 @@
 // The call.
 ghost use mathlib.Core.Path.{_≡_};
 ghost use lib.ListN.{length};
-ghost use Rattle.copy.specs.Call.{copied, copiedInto, stored};
+ghost use Rattle.copy.specs.Call.{copied, copiedInto, storedCopy};
 ghost use Rattle.copy.specs.Storing.{Room};
 use crate::records::copy_record;
 use entry::answer::Answer;
@@ -40,7 +40,7 @@ fn copy_records(entry: &[u8], out: &mut [u8])
 // The canonical copy of an entry, stored in a buffer that may be longer. The answer's number is 0, 31 or 37.
 pub fn copy(entry: &[u8], out: &mut [u8]) -> Answer
     ensures { λ r. ⌜ (r ≡ copied (now (entry .entry)) (length (now (out .entry))))
-        × (now (out .exit) ≡ stored (now (entry .entry)) (now (out .entry))) ⌝ }
+        × (now (out .exit) ≡ storedCopy (now (entry .entry)) (now (out .entry))) ⌝ }
 {
     let v = judge(entry);
     if v.refusal != 0 {

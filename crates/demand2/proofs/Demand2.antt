@@ -4,7 +4,6 @@ use Prim.Native.Nat.{ℕ}
 use mathlib.Core.Path.{_≡_, ap, _∙_}
 use mathlib.Core.List.{List}
 use borrow.Author.Tests.{eq-eqb, ne-eqb}
-use lib.Dec.{eqb}
 use lib.ListN.{length}
 use Rattle.number.specs.declared.value.Decimal.{Decimal}
 use Rattle.number.specs.declared.value.Reading.the-variants.{Refused}
@@ -17,6 +16,9 @@ use Rattle.canonical.proofs.Laws as Canonical
 use Rattle.entry.proofs.FirstRefused.{refused-first}
 use Rattle.entry.proofs.FirstAlone.{first-alone}
 use Rattle.good.proofs.Theorems.{accepted-exactly, good-accepted}
+use Rattle.inside.proofs.Placed.{value-placed, heading-placed, unit-placed}
+use Rattle.inside.proofs.PassageAnswered.{passage-answered, one-passage}
+use Rattle.answered_tables.proofs.Answers.{value-of-table, heading-of-table, unit-of-table}
 use Rattle.demand2.specs.Demand2.{Demand2}
 use Rattle.demand2.proofs.Values.{values-spelt, unused-blank, numbers-counted}
 use Rattle.demand2.proofs.Writing.{written-so, written-alone, refused-exactly}
@@ -44,6 +46,14 @@ demand2 =
       first-alone = first-alone;
       totals = good-accepted;
       numbers = numbers-counted;
+      value-of-table = value-of-table;
+      heading-of-table = heading-of-table;
+      unit-of-table = unit-of-table;
+      value-placed = value-placed;
+      heading-placed = heading-placed;
+      unit-placed = unit-placed;
+      passage-placed = passage-answered;
+      one-passage = one-passage;
       says-exactly = Number.says-exactly;
       one-field = λ l f g s t. Number.spelt-once s t;
       a-value = Number.value-found;

@@ -2,7 +2,7 @@
 -- Assumes nothing.
 use Prim.Native.Nat.{ℕ}
 use mathlib.Core.Path.{_≡_, refl}
-use mathlib.Core.Bool.{Bool, true, false, not}
+use mathlib.Core.Bool.{Bool, true, false}
 use mathlib.Core.List.{List}
 use native.Mathlib.Omega.{arith}
 use Rattle.number.specs.declared.value.Reading.{Reading}
@@ -13,7 +13,7 @@ use Rattle.number.specs.Reading.{readField}
 use Rattle.number.specs.Form.{formOf}
 use Rattle.number.proofs.Laws.{says-exactly}
 use Rattle.record.specs.Numbers.{formAt, saysNumber, noValue}
-use Rattle.good.specs.Tables.{Value}
+use Rattle.good.specs.Tables.{GoodValue}
 use Rattle.demand2.specs.Values.{AllBlank, NumberField, NumberOrBlank, a-number, a-blank, ValuesSpelt}
 use Rattle.demand2.specs.Values.{UnusedBlank, NumbersCounted}
 
@@ -29,13 +29,14 @@ module _ (f : List ℕ) where
 
   -- ---- values
 
-  value-spelt : (optional : Bool) {r : Reading} → Says f r → noValue optional (formOf r) ≡ false → NumberOrBlank optional f
+  value-spelt : (optional : Bool) {r : Reading} → Says f r → noValue optional (formOf r) ≡ false
+      → NumberOrBlank optional f
   value-spelt true (blank b) e = a-blank refl b
   value-spelt false (blank b) e = let z : _≡_ {A = ℕ} 0 1 = cc in absurd (omega arith)
   value-spelt optional (number {v = v} r) e = a-number (v, r)
   value-spelt optional (malformed b n) e = let z : _≡_ {A = ℕ} 0 1 = cc in absurd (omega arith)
 
-  spelt-value : (optional : Bool) → NumberOrBlank optional f → Value optional f
+  spelt-value : (optional : Bool) → NumberOrBlank optional f → GoodValue optional f
   spelt-value optional (a-number n) = rw (number-form n)
   spelt-value optional (a-blank o b) = rw (blank-form b, o)
 

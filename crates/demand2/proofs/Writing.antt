@@ -1,24 +1,24 @@
 -- Writing comes to its canonical field, to 41 or to 40, and to nothing else.
 -- Assumes nothing.
 use Prim.Native.Nat.{ℕ}
-use mathlib.Core.Path.{_≡_, refl, sym, _∙_, ap, subst}
+use mathlib.Core.Path.{_≡_, refl, sym, _∙_, subst}
 use mathlib.Core.Bool.{Bool, true, false, cond}
 use mathlib.Core.List.{List}
 use native.Mathlib.Omega.{arith}
-use borrow.Author.Tests.{eqb-true, eqb-false, eq-eqb, ne-eqb, leb-true, leb-false}
+use borrow.Author.Tests.{eqb-true, eq-eqb, leb-true, leb-false}
 use lib.Dec.{eqb, leb}
 use lib.IntN.{ℤ}
 use lib.ListN.{length}
 use Rattle.number.specs.declared.value.Decimal.{Decimal}
 use Rattle.number.specs.declared.value.Reading.the-variants.{Number}
-use Rattle.number.specs.Value.{Normal, Value, Reads, valueOf}
+use Rattle.number.specs.Value.{Normal, Value, valueOf}
 use Rattle.number.specs.Reading.{readField}
 use Rattle.number.proofs.Laws.{value-found, value-one, reads-exactly}
 use Rattle.canonical.specs.declared.write.Written.{Written}
 use Rattle.canonical.specs.declared.write.Written.the-variants.{Done, Refused}
 use Rattle.canonical.specs.Canonical.{Best}
 use Rattle.canonical.specs.Closed.{canonicalText, canonicalField}
-use Rattle.canonical.specs.Writing.{answered, stored, written, bytes}
+use Rattle.canonical.specs.Writing.{answered, storedField, written, bytes}
 use Rattle.canonical.proofs.Laws.{canonical-best, best-one, none-reads}
 use Rattle.demand2.specs.Writing.{NoneReads, Writes, its-field, no-field, no-room, WrittenSo, WrittenAlone}
 use Rattle.demand2.specs.Writing.{RefusedExactly}
@@ -43,7 +43,7 @@ module _ (v : Decimal) (l : List ℕ) where
       no-room (λ w. let z = sym e ∙ eq-eqb (length l) 11 w in let q : _≡_ {A = ℕ} 0 1 = cc in omega arith)
 
   writes : Normal v → Writes v l (written l v) (bytes l v)
-  unfolding written bytes answered stored
+  unfolding written bytes answered storedField
   writes h = by-tests h (eqb (length l) 11) (leb columns (length l)) refl refl
 
   -- ---- no two

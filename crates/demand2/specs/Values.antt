@@ -13,7 +13,7 @@ use Rattle.number.specs.declared.value.Decimal.{Decimal}
 use Rattle.number.specs.Grammar.{blanks}
 use Rattle.number.specs.Value.{Reads}
 use Rattle.record.specs.Numbers.{formAt, saysNumber}
-use Rattle.good.specs.Tables.{Value, BlankValue}
+use Rattle.good.specs.Tables.{GoodValue, BlankValue}
 
 -- all columns are blank
 abbrev pub AllBlank : List ℕ → Type 0
@@ -30,7 +30,7 @@ pub data NumberOrBlank (optional : Bool) (f : List ℕ) : Type 0 where
 
 -- the values of a good entry are such, and all such are values; blank are its unused fields
 abbrev pub ValuesSpelt : Type 0
-ValuesSpelt = (optional : Bool) (f : List ℕ) → Value optional f ↔ NumberOrBlank optional f
+ValuesSpelt = (optional : Bool) (f : List ℕ) → GoodValue optional f ↔ NumberOrBlank optional f
 
 abbrev pub UnusedBlank : Type 0
 UnusedBlank = (f : List ℕ) → BlankValue f ↔ AllBlank f

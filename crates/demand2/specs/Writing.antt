@@ -28,7 +28,8 @@ pub data Writes (v : Decimal) (l : List ℕ) : Written → List ℕ → Type 0 w
   no-field : length l ≡ 11 → NoneReads v → Writes v l (Refused 41) l
   no-room : (length l ≡ 11 → ⊥) → Writes v l (Refused 40) l
 
--- "The writer takes any sign, any 64-bit coefficient and any 32-bit signed power, normal or not.": they have the value v
+-- "The writer takes any sign, any 64-bit coefficient and any 32-bit signed power, normal or not.": they have the value
+-- v
 abbrev pub WrittenSo : Type 0
 WrittenSo =
     (negative : Bool) (a : ℕ) (p : ℤ) (v : Decimal) → Value negative a p v

@@ -21,7 +21,7 @@ use Rattle.entry.specs.Verdict.{roleOf, turnOf, Accepted}
 use Rattle.entry.specs.Contexts.{contextAt, roleAt}
 use Rattle.entry.proofs.Contexts.{records-at}
 use Rattle.questions.specs.declared.row.Row.{Row}
-use Rattle.questions.specs.Row.{NONE, withFirst, withBib, withCommon, withData, noted, subentryIn, notedAs}
+use Rattle.questions.specs.Row.{NONE, withFirstAt, withBibAt, withCommonAt, withDataAt, noted, subentryIn, notedAs}
 use Rattle.questions.specs.Row.{noteOf, rowAt, rowOf}
 use Rattle.questions_places.specs.Place.{COMMON-SECTION, DATA-SECTION, fieldsAt, shapeOf}
 use Rattle.questions.specs.Ask.{sectionIn}
@@ -98,7 +98,7 @@ module _ (s : List ℕ) (accepted : Accepted s) where
   kept-noted x role at m h = by-test (opensSubentry role) (eqb role BIB) (eqb role COMMON) (eqb role DATA)
     where
       by-test : (a b c d : Bool)
-          → Kept (cond a (withFirst x at) (cond b (withBib x at) (cond c (withCommon x at) (cond d (withData x at) x))))
+          → Kept (cond a (withFirstAt x at) (cond b (withBibAt x at) (cond c (withCommonAt x at) (cond d (withDataAt x at) x))))
       by-test true b c d = record { first = h; bib = m .bib; common = m .common; «data» = m .«data» }
       by-test false true c d = record { first = m .first; bib = h; common = m .common; «data» = m .«data» }
       by-test false false true d = record { first = m .first; bib = m .bib; common = h; «data» = m .«data» }

@@ -2,12 +2,12 @@
 -- Assumes nothing.
 use Prim.Native.Nat.{ℕ, zero, suc, _+_, _*_, _-_, _/_, _≤_}
 use mathlib.Core.Path.{_≡_, refl}
-use mathlib.Core.Bool.{Bool, true, false, cond, not}
+use mathlib.Core.Bool.{Bool, true, false, not}
 use mathlib.Core.List.{List, [], _∷_, _++_}
 use native.Mathlib.Omega.{arith}
 use native.Mathlib.Nat.{suc-mul, zero-mul}
 use lib.Dec.{eqb}
-use borrow.Author.Tests.{eqb-true, eqb-false}
+use borrow.Author.Tests.{eqb-false}
 use Rattle.laws.specs.Blocks.{blockAt}
 use Rattle.columns.specs.Columns.{recordsFor}
 use Rattle.columns.specs.Fields.{fieldsOf}
@@ -21,16 +21,15 @@ use Rattle.entry.specs.Verdict.{Accepted}
 use Rattle.entry.specs.Answer.{Refusal, refusal, firstOf, isRefused}
 use Rattle.questions.specs.declared.row.Row.{Row}
 use Rattle.questions_places.specs.declared.place.Shape.{Shape}
-use Rattle.questions.specs.Row.{NONE, rowOf}
-use Rattle.questions_places.specs.Place.{COMMON-SECTION, DATA-SECTION, shapeOf, headingPlace, unitPlace, fieldOf, byteOf}
+use Rattle.questions.specs.Row.{rowOf}
+use Rattle.questions_places.specs.Place.{shapeOf, headingPlace, unitPlace, fieldOf, byteOf}
 use Rattle.questions.specs.Ask.{isSubent, sectionIn, noSection, sectionRefusals}
-use Rattle.questions.specs.Ask.{noColumn, columnRefusal, headingBy, headingOf, unitBy, unitOf}
+use Rattle.questions.specs.Ask.{noColumn, columnRefusal, headingBy, headingAsked, unitBy, unitAsked}
 use Rattle.questions.proofs.Refusals.{column-inside}
-use Rattle.questions.proofs.RowChanges.{common, table}
 use Rattle.inside.proofs.Laid.{rowRole}
 use Rattle.inside.proofs.RowFound.{Opening}
-use Rattle.inside.proofs.TextLaid.{row-opening}
 use Rattle.inside.proofs.Answered.{sectionNo, sectionOf, at-record, shape-columns, laid-at}
+use Rattle.inside.proofs.Asked.{section-named}
 use Rattle.copy.specs.Copy.{copyOf}
 use Rattle.copy.proofs.Demand.{copy-accepted}
 use Rattle.demand3.specs.Same.{SamePart, SameHeadings, SameUnits}
@@ -124,20 +123,6 @@ module _ (s : List ℕ) (accepted : Accepted s) (n section column : ℕ) where
   abbrev shape : Shape
   shape = shapeOf s section asked
 
-  -- a section that is there is one of the two, and its own record opens it
-  which : (asked .0 ≡ 0 → ⊥) → (b : Bool) × ((section ≡ sectionNo b) × Opening s n (sectionOf b) (asked .0 - 1))
-  which = by-tests (eqb section COMMON-SECTION) refl (eqb section DATA-SECTION) refl
-    where
-      found : Bool → Bool → RecordNo
-      found p q = cond p (rowOf s n .common) (cond q (rowOf s n .«data») NONE)
-
-      by-tests : (p : Bool) → eqb section COMMON-SECTION ≡ p → (q : Bool) → eqb section DATA-SECTION ≡ q
-          → (found p q .0 ≡ 0 → ⊥)
-          → (b : Bool) × ((section ≡ sectionNo b) × Opening s n (sectionOf b) (found p q .0 - 1))
-      by-tests true p q u some = (false, (eqb-true section COMMON-SECTION p, row-opening s n accepted common some))
-      by-tests false p true u some = (true, (eqb-true section DATA-SECTION u, row-opening s n accepted table some))
-      by-tests false p false u some = absurd (some refl)
-
   section-of : (v : Verdict) → columnRefusal s v (rowOf s n) asked shape column ≡ 0 → asked .0 ≡ 0 → ⊥
   unfolding columnRefusal
   section-of v e = section-there s v (rowOf s n) asked (refusal 35 (noColumn shape column) ∷ []) e
@@ -145,7 +130,7 @@ module _ (s : List ℕ) (accepted : Accepted s) (n section column : ℕ) where
   headed : (v : Verdict) → columnRefusal s v (rowOf s n) asked shape column ≡ 0
       → Headed s asked (shape .columns) column
   headed v e =
-      let (b, (q, o)) = which (section-of v e) in
+      let (b, (q, o)) = section-named s n section accepted (section-of v e) in
       let (from, to) = column-inside s v (rowOf s n) asked shape column e in
       rw q (headed-in s accepted n b (asked .0 - 1) o column from (rw q at to))
 
@@ -192,11 +177,11 @@ module _ (s : List ℕ) (accepted : Accepted s) (n section column : ℕ) where
 -- ---- "and words at the same places"
 
 pub same-headings : SameHeadings
-unfolding headingOf
+unfolding headingAsked
 same-headings s accepted n section column =
     rw (copy-accepted s accepted, copied-row s accepted n) (heading-same s accepted n section column _)
 
 pub same-units : SameUnits
-unfolding unitOf
+unfolding unitAsked
 same-units s accepted n section column =
     rw (copy-accepted s accepted, copied-row s accepted n) (unit-same s accepted n section column _)

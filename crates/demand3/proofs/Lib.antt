@@ -1,4 +1,5 @@
 pub mod CopiedRecords
+pub mod CopiedFields
 pub mod CopiedRows
 pub mod Parts
 pub mod Values

@@ -20,7 +20,7 @@ use Rattle.questions.specs.Row.{rowOf}
 use Rattle.questions_places.specs.Place.{fieldsAt, firstByte}
 use Rattle.questions_places.specs.Passage.{textRecords, textRecord, textAt, hasKeyword, isKeyword, begins, beginsWith}
 use Rattle.questions_places.specs.Passage.{firstText, NO-PASSAGE, passageUnder, passageOf}
-use Rattle.questions.specs.Ask.{passageRefusal, passageBy, passageAnswer}
+use Rattle.questions.specs.Ask.{passageRefusal, passageBy, passageAsked}
 use Rattle.inside.proofs.TextLaid.{row-texts}
 use Rattle.copy.specs.Copy.{copyOf}
 use Rattle.copy.proofs.Demand.{copy-accepted}
@@ -161,6 +161,6 @@ module _ (s : List ℕ) (accepted : Accepted s) (n : ℕ) where
 
 -- "and words at the same places"
 pub same-passages : SamePassages
-unfolding passageAnswer
+unfolding passageAsked
 same-passages s accepted n keyword pointer =
     rw (copy-accepted s accepted, copied-row s accepted n) (answer-same s accepted n _ keyword pointer)

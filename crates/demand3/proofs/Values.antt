@@ -13,7 +13,7 @@ use Rattle.questions_places.specs.declared.place.Shape.{Shape}
 use Rattle.questions.specs.declared.ask.ValueAnswer.{ValueAnswer}
 use Rattle.questions.specs.Row.{rowOf}
 use Rattle.questions_places.specs.Place.{shapeOf}
-use Rattle.questions.specs.Ask.{sectionIn, valueRefusal, valueBy, valueOf}
+use Rattle.questions.specs.Ask.{sectionIn, valueRefusal, valueBy, valueAsked}
 use Rattle.copy.specs.Copy.{copyOf}
 use Rattle.copy.proofs.Demand.{copy-accepted}
 use Rattle.demand3.specs.Same.{SameValues}
@@ -40,8 +40,8 @@ module _ (s : List ℕ) (accepted : Accepted s) where
       )
 
   answer-same : (number section : ℕ) (line : LineNo) (column : ℕ)
-      → valueOf (copyOf s) number section line column ≡ valueOf s number section line column
-  unfolding valueOf
+      → valueAsked (copyOf s) number section line column ≡ valueAsked s number section line column
+  unfolding valueAsked
   answer-same number section line column =
       rw (copy-accepted s accepted, copied-row s accepted number) (value-same _ number section line column)
 

@@ -1,8 +1,11 @@
 -- Demand 3 of the mission, whole, sentence by sentence. Each statement has its place below: what is inside the shape in
--- `inside` (specs/Inside), the copy in `copy` (specs/Demand), the questions asked of both here (specs/Same). `judgeOf`,
--- `valueOf`, `headingOf`, `unitOf`, `passageAnswer`, `copied` and `stored` are what the calls promise to answer.
+-- `inside` (specs/Inside, Asked), the copy in `copy` (specs/Demand) and here (specs/Fields), the questions asked of
+-- both here (specs/Same). `judgeOf`, `valueOf`, `headingOf`, `unitOf`, `passageAnswer`, `copied` and `stored` are what
+-- the calls promise to answer.
 use Rattle.inside.specs.Inside.{ValueAnswered, HeadingAnswered, UnitAnswered, PassageAnswered, OnePassage, BegunInside}
-use Rattle.copy.specs.Demand.{CopyMade, CopyAccepted, CopyAgain, OneCopy}
+use Rattle.inside.specs.Asked.{ValueInside, HeadingInside, UnitInside, PassageInside}
+use Rattle.copy.specs.Demand.{CopyMade, CopyPart, CopyAccepted, CopyAgain, OneCopy}
+use Rattle.demand3.specs.Fields.{CopyCanonical, CopyBlank}
 use Rattle.demand3.specs.Same.{SameValues, SameHeadings, SameUnits, SamePassages}
 
 pub record Demand3 : Type 0 where
@@ -11,11 +14,20 @@ pub record Demand3 : Type 0 where
   pub headings : HeadingAnswered
   pub units : UnitAnswered
   pub passages : PassageAnswered
+  -- and no other is
+  pub values-only : ValueInside
+  pub headings-only : HeadingInside
+  pub units-only : UnitInside
+  pub passages-only : PassageInside
   -- a keyword and a pointer have one passage, and no passage is left out
   pub one-passage : OnePassage
   pub each-passage : BegunInside
-  -- "Its canonical copy, made in a buffer long enough,"
+  -- "Its canonical copy, made in a buffer long enough,": each number is replaced by its canonical field, every other
+  -- byte is kept
   pub made : CopyMade
+  pub canonical : CopyCanonical
+  pub blank : CopyBlank
+  pub other-bytes : CopyPart
   -- "is accepted,"
   pub accepted : CopyAccepted
   -- "answers every such question with the same values and words at the same places,"

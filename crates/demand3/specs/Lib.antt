@@ -1,2 +1,3 @@
 pub mod Same
+pub mod Fields
 pub mod Demand3

@@ -7,7 +7,7 @@ use Rattle.columns.specs.declared.columns.LineNo.{LineNo}
 use Rattle.entry.specs.Verdict.{Accepted}
 use Rattle.questions.specs.declared.ask.ValueAnswer.{ValueAnswer}
 use Rattle.questions.specs.declared.ask.PartAnswer.{PartAnswer}
-use Rattle.questions.specs.Ask.{valueOf, bytesIn, headingOf, unitOf, passageAnswer}
+use Rattle.questions.specs.Ask.{valueAsked, bytesIn, headingAsked, unitAsked, passageAsked}
 use Rattle.copy.specs.Copy.{copyOf}
 use Rattle.copy.specs.Demand.{Alike}
 
@@ -21,7 +21,7 @@ pub record AlikeAnswer (a b : ValueAnswer) : Type 0 where
 abbrev pub SameValues : Type 0
 SameValues =
     (s : List ℕ) → Accepted s → (n section : ℕ) (line : LineNo) (column : ℕ)
-    → AlikeAnswer (valueOf (copyOf s) n section line column) (valueOf s n section line column)
+    → AlikeAnswer (valueAsked (copyOf s) n section line column) (valueAsked s n section line column)
 
 -- ---- words: headings, units and passages
 
@@ -34,14 +34,14 @@ pub record SamePart (s t : List ℕ) (a b : PartAnswer) : Type 0 where
 abbrev pub SameHeadings : Type 0
 SameHeadings =
     (s : List ℕ) → Accepted s → (n section column : ℕ)
-    → SamePart (copyOf s) s (headingOf (copyOf s) n section column) (headingOf s n section column)
+    → SamePart (copyOf s) s (headingAsked (copyOf s) n section column) (headingAsked s n section column)
 
 abbrev pub SameUnits : Type 0
 SameUnits =
     (s : List ℕ) → Accepted s → (n section column : ℕ)
-    → SamePart (copyOf s) s (unitOf (copyOf s) n section column) (unitOf s n section column)
+    → SamePart (copyOf s) s (unitAsked (copyOf s) n section column) (unitAsked s n section column)
 
 abbrev pub SamePassages : Type 0
 SamePassages =
     (s : List ℕ) → Accepted s → (n : ℕ) (keyword : List ℕ) (pointer : ℕ)
-    → SamePart (copyOf s) s (passageAnswer (copyOf s) n keyword pointer) (passageAnswer s n keyword pointer)
+    → SamePart (copyOf s) s (passageAsked (copyOf s) n keyword pointer) (passageAsked s n keyword pointer)

@@ -1,5 +1,6 @@
--- A walk over the records of an accepted entry: it starts, it goes on with each record that is passed, and all the while
--- the state in hand stands for the context before the record. Assumes nothing.
+-- A walk over the records of an accepted entry: it starts, it goes on with each record that is passed, and all the
+-- while the state in hand stands for the context before the record.
+-- Assumes nothing.
 use Prim.Native.Nat.{ℕ, zero, suc, _+_, _*_, _/_, _<_, _≤_}
 use mathlib.Core.Path.{_≡_, refl, sym, _∙_, ap, subst}
 use mathlib.Core.Bool.{Bool, true, false, cond}

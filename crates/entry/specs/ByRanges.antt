@@ -1,5 +1,5 @@
--- The judge by ranges of record numbers: what the code does, and not read against the paper. That it is the judge of the
--- definitions is the law `ranges-judge`.
+-- The judge by ranges of record numbers: what the code does, and not read against the paper. That it is the judge of
+-- the definitions is the law `ranges-judge`.
 use Prim.Native.Nat.{ℕ, _+_, _*_, _/_, _<_}
 use mathlib.Core.Path.{_≡_}
 use mathlib.Core.Bool.{cond}

@@ -17,7 +17,8 @@ use Rattle.rules_state.specs.Role.{TEXT, DATA-VALUE, isSystem, opensSubentry, i
 use Rattle.rules_section.specs.Values.{valuesFor}
 use Rattle.rules_state.proofs.EitherWay.{either-way}
 use Rattle.rules_section.proofs.ReadValues.{numbers-few}
-use Rattle.entry_next.specs.Counted.{headingsRead, unitsRead, valuesRead, linesRead, textRead, afterSystem, afterInside}
+use Rattle.entry_next.specs.Counted.{headingsRead, unitsRead, valuesRead, linesRead, textRead, afterSystem}
+use Rattle.entry_next.specs.Counted.{afterInside}
 use Rattle.entry_next.specs.Counted.{trackAfter}
 
 -- the track u is one that may follow t

@@ -5,7 +5,8 @@ use lib.Dec.{eqb}
 use Rattle.record.specs.Identifier.{ENTRY, SUBENT, NOSUBENT, BIB, NOBIB, ENDBIB, COMMON, NOCOMMON, ENDCOMMON, DATA}
 use Rattle.record.specs.Identifier.{NODATA, ENDDATA, ENDSUBENT}
 use Rattle.rules_state.specs.declared.state.Phase.{Phase}
-use Rattle.rules_state.specs.declared.state.Phase.the-variants.{Opened, InSubentry, InBib, AfterBib, InCommon, AfterCommon}
+use Rattle.rules_state.specs.declared.state.Phase.the-variants.{Opened, InSubentry, InBib, AfterBib, InCommon}
+use Rattle.rules_state.specs.declared.state.Phase.the-variants.{AfterCommon}
 use Rattle.rules_state.specs.declared.state.Phase.the-variants.{InData, AfterData, Between, Done}
 use Rattle.rules_state.specs.Role.{TEXT, COMMON-HEADING, COMMON-UNIT, COMMON-VALUE, DATA-HEADING, DATA-UNIT, DATA-VALUE}
 

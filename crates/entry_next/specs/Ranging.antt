@@ -15,19 +15,19 @@ use Rattle.entry_next.specs.declared.parts.Change.the-variants.{Kept, Em
 use Rattle.entry_next.specs.Parts.{bibChange, underChange, tableChange, ends001}
 
 -- the index behind i
-abbrev pub behind : Index → Index
-behind i = record { 0 = i .0 + 1 }
+abbrev pub nextIndex : Index → Index
+nextIndex i = record { 0 = i .0 + 1 }
 
 -- no record yet, the next one may join
-abbrev pub none : Index → Range
-none n = record { from = n; past = n }
+abbrev pub noneFrom : Index → Range
+noneFrom n = record { from = n; past = n }
 
 -- the records of a part, after the record with the index i
 unfoldable pub rangeAfter : Change → Range → Index → Range
 rangeAfter Kept g i = g
-rangeAfter Emptied g i = none (behind i)
-rangeAfter Begun g i = record { from = i; past = behind i }
-rangeAfter Joined g i = record { from = g .from; past = behind i }
+rangeAfter Emptied g i = noneFrom (nextIndex i)
+rangeAfter Begun g i = record { from = i; past = nextIndex i }
+rangeAfter Joined g i = record { from = g .from; past = nextIndex i }
 
 -- this subentry's COMMON is the table that ENDCOMMON ends
 unfoldable pub commonAfter : Ranges → ℕ → Index → Range

@@ -1,5 +1,5 @@
--- A number field as a call answers it: a word, and eight numbers in the lent array. They are the kind (0 blank, 1 number);
--- whether it is below zero (0, 1); the coefficient; the power of ten in two's complement; and four zeros.
+-- A number field as a call answers it: a word, and eight numbers in the lent array: the kind (0 blank, 1 number),
+-- whether it is below zero (0, 1), the coefficient, the power of ten in two's complement, and four zeros.
 use mathlib.Core.Bool.{Bool, true, false, cond}
 use mathlib.Core.List.{List, [], _∷_}
 use Prim.Native.Nat.{ℕ, _-_, _^_}

@@ -1,6 +1,6 @@
 -- How a call answers a host program (document 01: "judging, value lookup, number reading and number writing are also
--- callable from it on numbers and byte slices"): it returns its number and what stands beside it in one word of 64 bits,
--- and stores what it answers in an array that the caller lends. "A refused call stores nothing."
+-- callable from it on numbers and byte slices"): it returns its number and what stands beside it in one word of 64
+-- bits, and stores what it answers in an array that the caller lends. "A refused call stores nothing."
 use mathlib.Core.Bool.{cond}
 use mathlib.Core.List.{List}
 use Prim.Native.Nat.{ℕ, _+_, _*_, _/_, _%_, _^_}
@@ -11,8 +11,8 @@ use Rattle.entry.specs.declared.answer.Answer.{Answer}
 abbrev pub VERSION : ℕ
 VERSION = 2
 
--- ---- the word: in bits 0 to 7 the call's number, 0 where it is answered; in 8 to 15 the entry's refusal, in 16 to 23 its
--- column, in 24 to 47 its record. The bits above are 0 (the law `word-room`).
+-- ---- the word: in bits 0 to 7 the call's number, 0 where it is answered; in 8 to 15 the entry's refusal, in 16 to 23
+-- its column, in 24 to 47 its record. The bits above are 0 (the law `word-room`).
 
 unfoldable pub answerWord : Answer → ℕ
 answerWord a = a .number + 2 ^ 8 * (a .refusal + 2 ^ 8 * (a .column + 2 ^ 8 * a .«record» .0))

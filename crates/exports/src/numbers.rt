@@ -4,7 +4,7 @@ ghost use mathlib.Core.Bool.{not};
 ghost use lib.Dec.{eqb};
 ghost use Rattle.number.specs.Value.{valueOf};
 ghost use Rattle.number.specs.Reading.{readNumber};
-ghost use Rattle.canonical.specs.Writing.{bytes, refusalOf};
+ghost use Rattle.canonical.specs.Writing.{bytes, writingRefusal};
 ghost use Rattle.exports.specs.Words.{answerWord};
 ghost use Rattle.exports.specs.Values.{readingAnswer, readingStored};
 use crate::values::put_reading;
@@ -31,7 +31,7 @@ pub extern "C" fn x4_write_number(
     power: i32,
     out: &mut [u8],
 ) -> u32
-    ensures { λ r. ⌜ r ≡ refusalOf (now (out .entry)) (valueOf (not (eqb negative 0)) coefficient power) ⌝ }
+    ensures { λ r. ⌜ r ≡ writingRefusal (now (out .entry)) (valueOf (not (eqb negative 0)) coefficient power) ⌝ }
     ensures { λ r. ⌜ now (out .exit) ≡ bytes (now (out .entry)) (valueOf (not (eqb negative 0)) coefficient power) ⌝ }
 {
     let w = write_number(negative != 0, coefficient, power, out);

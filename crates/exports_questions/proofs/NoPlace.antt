@@ -19,7 +19,7 @@ use Rattle.entry.specs.Answer.{refusal, firstOf, isRefused, answerOf, answerFor
 use Rattle.questions.specs.Row.{rowOf}
 use Rattle.questions_places.specs.Place.{firstByte}
 use Rattle.questions_places.specs.Passage.{passageOf, textAt, isKeyword, textRecords, NO-PASSAGE}
-use Rattle.questions.specs.Ask.{passageRefusal, passageBy, passageAnswer, sectionRefusals, noPassage}
+use Rattle.questions.specs.Ask.{passageRefusal, passageBy, passageAsked, sectionRefusals, noPassage}
 use Rattle.questions.specs.Ask.{isSubent, noSection, noPart, partFrom, partWith}
 use Rattle.exports_questions.specs.Questions.{keywordPlace}
 use Rattle.exports_questions.proofs.Refusals.{answer-number}
@@ -70,8 +70,8 @@ some-refusal false false false e = omega arith
 
 -- a keyword that is not ten bytes has no passage: 36, unless 31, 32 or 33 comes first
 pub no-place : (s : List ℕ) (n : ℕ) (keyword : List ℕ) (pointer : ℕ) → (length keyword ≡ 10 → ⊥)
-    → passageAnswer s n (keywordPlace keyword) pointer .answer .number ≡ 0 → ⊥
-unfolding passageAnswer passageBy passageRefusal keywordPlace
+    → passageAsked s n (keywordPlace keyword) pointer .answer .number ≡ 0 → ⊥
+unfolding passageAsked passageBy passageRefusal keywordPlace
 no-place s n keyword pointer wrong e =
     let x = rowOf s n in
     let k : keywordPlace keyword ≡ blanks 10 = rw (ne-eqb (length keyword) 10 wrong) in

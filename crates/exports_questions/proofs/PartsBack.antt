@@ -15,8 +15,8 @@ use Rattle.questions.specs.declared.ask.PartAnswer.{PartAnswer}
 use Rattle.questions.specs.Row.{rowOf}
 use Rattle.questions_places.specs.Place.{shapeOf, headingPlace, unitPlace, fieldOf, firstByte, byteOf}
 use Rattle.questions_places.specs.Passage.{passageOf}
-use Rattle.questions.specs.Ask.{sectionIn, columnRefusal, headingBy, headingOf, unitBy, unitOf, passageRefusal}
-use Rattle.questions.specs.Ask.{passageBy, passageAnswer, sectionRefusals, noColumn, noPassage}
+use Rattle.questions.specs.Ask.{sectionIn, columnRefusal, headingBy, headingAsked, unitBy, unitAsked, passageRefusal}
+use Rattle.questions.specs.Ask.{passageBy, passageAsked, sectionRefusals, noColumn, noPassage}
 use Rattle.questions.specs.Ask.{noPart, partFrom, partWith}
 use Rattle.exports.specs.Words.{answerWord, answerIn, lentAfter}
 use Rattle.exports_questions.specs.Questions.{partStored, partIn}
@@ -58,9 +58,9 @@ part-back s before number from bytes pointer few = by-number (eqb number 0) refl
 -- ---- the parts of an entry
 
 pub heading-back : (s before : List ℕ) (n section column : ℕ)
-    → let p = headingOf s n section column in
+    → let p = headingAsked s n section column in
     partIn (answerWord (p .answer)) (partStored before p) ≡ p
-unfolding headingOf headingBy columnRefusal
+unfolding headingAsked headingBy columnRefusal
 heading-back s before n section column =
     let x = rowOf s n in
     let at = sectionIn x section in
@@ -70,9 +70,9 @@ heading-back s before n section column =
     (pointerOf (fieldOf s place)) (section-numbered s x at last (one 35 (omega arith) (omega arith), tt))
 
 pub unit-back : (s before : List ℕ) (n section column : ℕ)
-    → let p = unitOf s n section column in
+    → let p = unitAsked s n section column in
     partIn (answerWord (p .answer)) (partStored before p) ≡ p
-unfolding unitOf unitBy columnRefusal
+unfolding unitAsked unitBy columnRefusal
 unit-back s before n section column =
     let x = rowOf s n in
     let at = sectionIn x section in
@@ -83,9 +83,9 @@ unit-back s before n section column =
     (section-numbered s x at last (one 35 (omega arith) (omega arith), tt))
 
 pub passage-back : (s before : List ℕ) (n : ℕ) (keyword : List ℕ) (pointer : ℕ)
-    → let p = passageAnswer s n keyword pointer in
+    → let p = passageAsked s n keyword pointer in
     partIn (answerWord (p .answer)) (partStored before p) ≡ p
-unfolding passageAnswer passageBy passageRefusal
+unfolding passageAsked passageBy passageRefusal
 passage-back s before n keyword pointer =
     let x = rowOf s n in
     let p = passageOf s (x .bib) keyword pointer in

@@ -26,13 +26,14 @@ use Rattle.entry.specs.declared.answer.Answer.{Answer}
 use Rattle.questions.specs.declared.ask.ValueAnswer.{ValueAnswer}
 use Rattle.questions.specs.Row.{rowOf}
 use Rattle.questions_places.specs.Place.{hasRecord, fieldsAt, shapeOf, fieldOf}
-use Rattle.questions.specs.Ask.{sectionIn, valueRefusal, sectionRefusals, noColumn, noLine, valueWith, valueBy, valueOf}
+use Rattle.questions.specs.Ask.{sectionIn, valueRefusal, sectionRefusals, noColumn, noLine, valueWith, valueBy}
+use Rattle.questions.specs.Ask.{valueAsked}
 use Rattle.questions_places.proofs.Records.{record-there}
 use Rattle.questions.proofs.Parts.{value-field}
 use Rattle.copy.specs.Call.{copied}
 use Rattle.exports.specs.Words.{answerWord, answerIn, lentAfter}
 use Rattle.exports.specs.Values.{readingAnswer, readingStored}
-use Rattle.exports_questions.specs.Questions.{valueAnswer, valueStored, valueIn}
+use Rattle.exports_questions.specs.Questions.{valueAnswer, valueStored, valueAnswerIn}
 use Rattle.exports.proofs.Laws.{Fits, word-back, answer-fits, held, held-back}
 use Rattle.exports_questions.proofs.Refusals.{answer-number, Numbered, one, first-numbered, section-numbered}
 
@@ -67,21 +68,21 @@ says-low l (Number v) h = refl
 says-low l (Refused n) (malformed x y) = refl
 
 said-back : (before l : List ℕ) → length l ≡ 11
-    → valueIn (answerWord (readingAnswer (readField l))) (readingStored before (readField l))
+    → valueAnswerIn (answerWord (readingAnswer (readField l))) (readingStored before (readField l))
     ≡ record { answer = answerOf 0; value = readField l }
-unfolding valueIn
+unfolding valueAnswerIn
 said-back before l w =
     let h = says-exactly l (readField l) .0 refl in
     rw (says-low l (readField l) h, held-back before (readField l) (held l w (readField l) h)) refl
 
 refused-value : (xs : List ℕ) (a : Answer) → Fits a → 31 ≤ a .number
-    → valueIn (answerWord a) xs ≡ record { answer = a; value = Blank }
-unfolding valueIn
+    → valueAnswerIn (answerWord a) xs ≡ record { answer = a; value = Blank }
+unfolding valueAnswerIn
 refused-value xs a h far = rw (word-back a h, le-leb 31 (a .number) far) refl
 
 -- a value comes back, whatever stood in the array before
 abbrev Back : List ℕ → ValueAnswer → Type 0
-Back before v = valueIn (answerWord (valueAnswer v)) (valueStored before v) ≡ v
+Back before v = valueAnswerIn (answerWord (valueAnswer v)) (valueStored before v) ≡ v
 
 value-with : (s before : List ℕ) (number : ℕ) (l : List ℕ) → Numbered number → length l ≡ 11
     → Back before (valueWith (judgeOf s) number (readField l))
@@ -97,9 +98,9 @@ value-with s before number l h w = by-number (eqb number 0) refl
         (refused-value before (answerFor (judgeOf s) number) (answer-fits s number (h .few)) (rw same far))
 
 pub value-back : (s before : List ℕ) (n section : ℕ) (line : LineNo) (column : ℕ)
-    → let v = valueOf s n section line column in
-    valueIn (answerWord (valueAnswer v)) (valueStored before v) ≡ v
-unfolding valueOf valueBy valueRefusal
+    → let v = valueAsked s n section line column in
+    valueAnswerIn (answerWord (valueAnswer v)) (valueStored before v) ≡ v
+unfolding valueAsked valueBy valueRefusal
 value-back s before n section line column =
     let x = rowOf s n in
     let at = sectionIn x section in

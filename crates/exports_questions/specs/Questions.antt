@@ -43,8 +43,8 @@ keywordPlace k = cond (eqb (length k) 10) k (blanks 10)
 -- ---- the answers that a word and an array say: what a host does with them
 
 -- a question is refused by 31 and up; any other word is that of a field
-unfoldable pub valueIn : ℕ → List ℕ → ValueAnswer
-valueIn w xs =
+unfoldable pub valueAnswerIn : ℕ → List ℕ → ValueAnswer
+valueAnswerIn w xs =
     cond (leb 31 (answerIn w .number)) (record { answer = answerIn w; value = Blank })
     (record { answer = answerOf 0; value = readingIn w xs })
 

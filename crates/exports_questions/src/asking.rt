@@ -1,6 +1,6 @@
 // The questions, for host programs. What is answered is stored in a lent array; a refused question stores nothing.
 ghost use mathlib.Core.Path.{_≡_};
-ghost use Rattle.questions.specs.Ask.{valueOf, headingOf, unitOf, passageAnswer};
+ghost use Rattle.questions.specs.Ask.{valueAsked, headingAsked, unitAsked, passageAsked};
 ghost use Rattle.exports.specs.Words.{answerWord};
 ghost use Rattle.exports_questions.specs.Questions.{valueAnswer, valueStored, partStored, keywordPlace};
 use crate::parts::put_part;
@@ -37,10 +37,10 @@ pub extern "C" fn x4_value(
     out: &mut [u64; 8],
 ) -> u64
     ensures { λ r. ⌜ r
-        ≡ answerWord (valueAnswer (valueOf (now (entry .entry)) subentry section (record { 0 = line }) column)) ⌝ }
+        ≡ answerWord (valueAnswer (valueAsked (now (entry .entry)) subentry section (record { 0 = line }) column)) ⌝ }
     ensures { λ r. ⌜ now (out .exit)
         ≡ valueStored (now (out .entry))
-        (valueOf (now (entry .entry)) subentry section (record { 0 = line }) column) ⌝ }
+        (valueAsked (now (entry .entry)) subentry section (record { 0 = line }) column) ⌝ }
 {
     let at = LineNo(line);
     let v = value(entry, subentry, section, at, column);
@@ -56,9 +56,9 @@ pub extern "C" fn x4_heading(
     column: u32,
     out: &mut [u64; 3],
 ) -> u64
-    ensures { λ r. ⌜ r ≡ answerWord (headingOf (now (entry .entry)) subentry section column .answer) ⌝ }
+    ensures { λ r. ⌜ r ≡ answerWord (headingAsked (now (entry .entry)) subentry section column .answer) ⌝ }
     ensures { λ r. ⌜ now (out .exit)
-        ≡ partStored (now (out .entry)) (headingOf (now (entry .entry)) subentry section column) ⌝ }
+        ≡ partStored (now (out .entry)) (headingAsked (now (entry .entry)) subentry section column) ⌝ }
 {
     let p = heading(entry, subentry, section, column);
     put_part(p, out)
@@ -73,9 +73,9 @@ pub extern "C" fn x4_unit(
     column: u32,
     out: &mut [u64; 3],
 ) -> u64
-    ensures { λ r. ⌜ r ≡ answerWord (unitOf (now (entry .entry)) subentry section column .answer) ⌝ }
+    ensures { λ r. ⌜ r ≡ answerWord (unitAsked (now (entry .entry)) subentry section column .answer) ⌝ }
     ensures { λ r. ⌜ now (out .exit)
-        ≡ partStored (now (out .entry)) (unitOf (now (entry .entry)) subentry section column) ⌝ }
+        ≡ partStored (now (out .entry)) (unitAsked (now (entry .entry)) subentry section column) ⌝ }
 {
     let p = unit(entry, subentry, section, column);
     put_part(p, out)
@@ -112,10 +112,11 @@ pub extern "C" fn x4_passage(
     out: &mut [u64; 3],
 ) -> u64
     ensures { λ r. ⌜ r
-        ≡ answerWord (passageAnswer (now (entry .entry)) subentry (keywordPlace (now (keyword .entry))) pointer .answer) ⌝ }
+        ≡ answerWord
+        (passageAsked (now (entry .entry)) subentry (keywordPlace (now (keyword .entry))) pointer .answer) ⌝ }
     ensures { λ r. ⌜ now (out .exit)
         ≡ partStored (now (out .entry))
-        (passageAnswer (now (entry .entry)) subentry (keywordPlace (now (keyword .entry))) pointer) ⌝ }
+        (passageAsked (now (entry .entry)) subentry (keywordPlace (now (keyword .entry))) pointer) ⌝ }
 {
     let place = keyword_place(keyword);
     let p = passage(entry, subentry, place, pointer);

@@ -1,17 +1,27 @@
 // The canonical copy, for host programs.
 ghost use mathlib.Core.Path.{_≡_};
 ghost use lib.ListN.{length};
-ghost use Rattle.copy.specs.Call.{copied, stored};
+ghost use Rattle.copy.specs.Call.{copied, storedCopy};
 ghost use Rattle.exports.specs.Words.{answerWord};
 use copy::copy::copy;
+use entry::answer::Answer;
 use exports::words::answer_word;
 
 // Stores the copy of an entry in a buffer that may be longer: 0 done, else the word of refusal 31 or 37.
 #[no_mangle]
 pub extern "C" fn x4_copy(entry: &[u8], out: &mut [u8]) -> u64
     ensures { λ r. ⌜ r ≡ answerWord (copied (now (entry .entry)) (length (now (out .entry)))) ⌝ }
-    ensures { λ r. ⌜ now (out .exit) ≡ stored (now (entry .entry)) (now (out .entry)) ⌝ }
+    ensures { λ r. ⌜ now (out .exit) ≡ storedCopy (now (entry .entry)) (now (out .entry)) ⌝ }
 {
     let c = copy(entry, out);
-    answer_word(c)
+    let number = c.number;
+    let refusal = c.refusal;
+    let record = c.record;
+    let column = c.column;
+    answer_word(Answer {
+        number,
+        refusal,
+        record,
+        column,
+    })
 }

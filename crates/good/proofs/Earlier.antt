@@ -19,8 +19,8 @@ use Rattle.laws.proofs.Blocks.{length-joined}
 use Rattle.columns.specs.Fields.{fieldAt}
 use Rattle.record.specs.Word.{equalTo}
 use Rattle.rules_section.specs.declared.headings.Found.{Found}
-use Rattle.rules_section.specs.Headings.{headingAt, headingsIn, equalAt, equalIn, equalHeading, sectionTurn, nowhere, isFound}
-use Rattle.rules_section.specs.Headings.{earlier, placeOf}
+use Rattle.rules_section.specs.Headings.{headingAt, headingsIn, equalAt, equalIn, equalHeading, sectionTurn, nowhere}
+use Rattle.rules_section.specs.Headings.{isFound, earlier, headingFound}
 use Rattle.good.specs.Parts.{Record}
 use Rattle.good.specs.Tables.{cell}
 use Rattle.good.proofs.Lists.{Long, drop-record}
@@ -59,6 +59,10 @@ headings-in rows a =
 
 -- ---- the search
 
+-- The search goes through four parts, one turn for each: the COMMON of 001, this COMMON, the section so far, and the
+-- record in hand up to the field. A turn that meets an equal heading ends the search with its place. So nothing is
+-- found exactly when none of the four turns meets one (`NoneMet`): `search-none` takes the run apart turn by turn,
+-- `none-search` puts it together again.
 passed : (b : Bool) (x : Found) (rest : Unit {0} → Found) → isFound x ≡ true
     → isFound (after (cond b (out x) (go tt)) rest) ≡ false → (b ≡ false) × (isFound (rest tt) ≡ false)
 passed true x rest e h = differ (sym e ∙ h)
@@ -90,15 +94,15 @@ search-none f a b c r k h =
     let e = earlier a b c r k in
     let t : ℕ → Unit {0} → Turn (Unit {0}) Found = λ s u. sectionTurn f e u s in
     let h0 =
-    passed (met f a (headingsIn a)) (placeOf (headingsIn c) 0 (equalIn f a (headingsIn a)))
+    passed (met f a (headingsIn a)) (headingFound (headingsIn c) 0 (equalIn f a (headingsIn a)))
     (λ u. after (t 1 u) (λ u. after (t 2 u) (λ u. after (t 3 u) nowhere))) refl h in
     let h1 =
-    passed (met f b (headingsIn b)) (placeOf (headingsIn c) 1 (equalIn f b (headingsIn b)))
+    passed (met f b (headingsIn b)) (headingFound (headingsIn c) 1 (equalIn f b (headingsIn b)))
     (λ u. after (t 2 u) (λ u. after (t 3 u) nowhere)) refl (h0 .1) in
     let h2 =
-    passed (met f c (headingsIn c)) (placeOf (headingsIn c) 2 (equalIn f c (headingsIn c)))
+    passed (met f c (headingsIn c)) (headingFound (headingsIn c) 2 (equalIn f c (headingsIn c)))
     (λ u. after (t 3 u) nowhere) refl (h1 .1) in
-    let h3 = passed (met f r k) (placeOf (headingsIn c) 3 (equalIn f r k)) nowhere refl (h2 .1) in
+    let h3 = passed (met f r k) (headingFound (headingsIn c) 3 (equalIn f r k)) nowhere refl (h2 .1) in
     record { in0 = h0 .0; in1 = h1 .0; in2 = h2 .0; in3 = h3 .0 }
 
 none-search : (f a b c r : List ℕ) (k : ℕ) → NoneMet f a b c r k → isFound (equalHeading f (earlier a b c r k)) ≡ false
@@ -106,6 +110,10 @@ unfolding equalHeading run
 none-search f a b c r k h = rw (h .in0, h .in1, h .in2, h .in3)
 
 -- ---- by cells
+
+-- The parts are bytes, the definition speaks of cells. That the field m of joined records is their cell m
+-- (`heading-cell`) is all that lies between: with it "not met in a part" becomes "equal to no cell of its rows"
+-- (`New`).
 
 -- the heading f is new: no cell of these rows is equal, nor one of the first k fields of the record r
 pub record New (first common before : List Record) (r : Record) (k : ℕ) (f : List ℕ) : Type 0 where

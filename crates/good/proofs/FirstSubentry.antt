@@ -13,10 +13,10 @@ use Rattle.rules_state.specs.declared.state.Phase.the-variants.{Opened}
 use Rattle.rules_state.specs.State.{Context}
 use Rattle.rules_state.specs.Role.{only, roleIn}
 use Rattle.entry.specs.Verdict.{roleOf, isDone}
-use Rattle.good.specs.Parts.{Record, bibRecords, tableRecords, First, bodyOfFirst, firstRecords}
+use Rattle.good.specs.Parts.{Record, bibRecords, tableRecords, Subentry001, bodyOfFirst, firstRecords}
 use Rattle.good.specs.Marks.{nameOf}
 use Rattle.good.specs.Bib.{textsOfPart}
-use Rattle.good.specs.Subentries.{Opens, ownNumber, GoodFirst}
+use Rattle.good.specs.Subentries.{OpensSubentry, ownNumber, GoodFirst}
 use Rattle.good.specs.Totals.{keywordsIn, numbersOf}
 use Rattle.good.proofs.Steps.{next, Passes, next-pass}
 use Rattle.good.proofs.Runs.{role-at, only-role, pass-only, rest-of, Step}
@@ -28,7 +28,7 @@ use Rattle.good.proofs.Subentries.{none-shown, end-due-first, Standing,
 use Rattle.good.proofs.SubentryHeads.{Begun, afterHead, Head, PassedHead, pass-head, HeadGood, good-head}
 use Rattle.good.proofs.SubentryHeads.{head-pass}
 
-unfoldable pub afterFirst : Context → First → Context
+unfoldable pub afterFirst : Context → Subentry001 → Context
 afterFirst c s = next (afterHead (next c SUBENT (s .opening)) (s .bib) (s .common)) ENDSUBENT (s .ending)
 
 -- the context behind ENTRY
@@ -41,7 +41,7 @@ pub record Ready (c : Context) (accession : List ℕ) : Type 0 where
   pub numbers : c .track .totals .numbers ≡ 0
   pub common001 : c .seen .common001 ≡ []
 
-abbrev pub StandsFirst : Context → List ℕ → First → Type 0
+abbrev pub StandsFirst : Context → List ℕ → Subentry001 → Type 0
 StandsFirst c accession s =
     Standing c accession 1 1 (keywordsIn (s .bib)) 0 (numbersOf (s .common)) (textsOfPart (s .bib))
     (headingRows (s .common))
@@ -62,7 +62,7 @@ begun-first c accession r g =
       long = tt;
     }
 
-stands-first : (c : Context) (accession : List ℕ) (s : First) → Ready c accession → ownNumber (s .opening) ≡ 1
+stands-first : (c : Context) (accession : List ℕ) (s : Subentry001) → Ready c accession → ownNumber (s .opening) ≡ 1
     → Head (next c SUBENT (s .opening)) (s .bib) (s .common) → StandsFirst (afterFirst c s) accession s
 unfolding afterFirst
 stands-first c accession s g one h =
@@ -88,14 +88,14 @@ stands-first c accession s g one h =
     }
 
 pub record PassedFirst (c : Context) (rs : List Record) (z : Context) (accession : List ℕ) : Type 0 where
-  pub first : First
+  pub first : Subentry001
   pub rest : List Record
   pub split : rs ≡ firstRecords first ++ rest
   pub good : GoodFirst accession first
   pub stands : StandsFirst (afterFirst c first) accession first
   pub passes : Passes (afterFirst c first) rest z
 
-subent-due : (c : Context) → c .phase ≡ Opened → (r : Record) → roleOf c r ≡ only SUBENT (nameOf r)
+pub subent-due : (c : Context) → c .phase ≡ Opened → (r : Record) → roleOf c r ≡ only SUBENT (nameOf r)
 unfolding roleIn
 subent-due c e r = role-at c Opened r e
 
@@ -126,12 +126,12 @@ pass-first c rs z accession g done p =
     ∙ first-split r (bibRecords (h .bib)) (tableRecords (h .common)) e ts′) w))
   where
     first-of : (c : Context) (r : Record) (ts : List Record) (z : Context) (accession : List ℕ) → Ready c accession
-        → Begun (next c SUBENT r) accession (ownNumber r) [] → ownNumber r ≡ 1 → Opens SUBENT accession r
+        → Begun (next c SUBENT r) accession (ownNumber r) [] → ownNumber r ≡ 1 → OpensSubentry SUBENT accession r
         → (h : PassedHead (next c SUBENT r) ts z accession (ownNumber r) [] 0) (e : Record) (ts′ : List Record)
         → rs ≡ r ∷ (bibRecords (h .bib) ++ tableRecords (h .common) ++ (e ∷ []) ++ ts′)
         → Step (afterHead (next c SUBENT r) (h .bib) (h .common)) ENDSUBENT e ts′ z → PassedFirst c rs z accession
     first-of c r ts z accession g b one opens h e ts′ split w =
-        let s : First = record { opening = r; bib = h .bib; common = h .common; ending = e } in
+        let s : Subentry001 = record { opening = r; bib = h .bib; common = h .common; ending = e } in
         record {
           first = s;
           rest = ts′;
@@ -153,7 +153,7 @@ pass-first c rs z accession g done p =
           passes = w .passes;
         }
 
-first-head : (c : Context) (accession : List ℕ) (s : First) → Ready c accession → GoodFirst accession s
+first-head : (c : Context) (accession : List ℕ) (s : Subentry001) → Ready c accession → GoodFirst accession s
     → HeadGood (next c SUBENT (s .opening)) accession (ownNumber (s .opening)) [] 0 (s .bib) (s .common) []
 unfolding listOf
 first-head c accession s g f =
@@ -166,14 +166,14 @@ first-head c accession s g f =
       follows = rw (append-nil (tableRecords (s .common))) (f .encloses .between);
     }
 
-pub first-stands : (c : Context) (accession : List ℕ) (s : First) → Ready c accession → GoodFirst accession s
+pub first-stands : (c : Context) (accession : List ℕ) (s : Subentry001) → Ready c accession → GoodFirst accession s
     → StandsFirst (afterFirst c s) accession s
 first-stands c accession s g f =
     stands-first c accession s g (f .number)
     (good-head (next c SUBENT (s .opening)) accession (ownNumber (s .opening)) [] 0 (s .bib) (s .common) []
     (first-head c accession s g f))
 
-pub first-pass-on : (c : Context) (accession : List ℕ) (s : First) (rest : List Record) (z : Context)
+pub first-pass-on : (c : Context) (accession : List ℕ) (s : Subentry001) (rest : List Record) (z : Context)
     → Ready c accession
     → GoodFirst accession s → Passes (afterFirst c s) rest z → Passes c (firstRecords s ++ rest) z
 unfolding afterFirst
@@ -194,11 +194,11 @@ first-pass-on c accession s rest z g f p =
     (subent-due c (g .phase) r ∙ only-role SUBENT (nameOf r) (f .opens .named))
     (opens-takes false c r accession (g .accession-is) (f .opens)
     (number-first c (ownNumber r) (g .subentries) (f .number)))
-    (rw (regroup (bibRecords (s .bib)) (tableRecords (s .common)) (s .ending) rest)
+    (rw (grouped-rows (bibRecords (s .bib)) (tableRecords (s .common)) (s .ending) rest)
     (head-pass c1 accession (ownNumber r) [] 0 (s .bib) (s .common) [] (s .ending ∷ rest) z hg
     (next-pass c3 ENDSUBENT (s .ending) rest z
     (end-due-first c3 (h .phase) n (s .ending) ∙ only-role ENDSUBENT (nameOf (s .ending)) (f .encloses .named)) te p)))
   where
-    regroup : (bib common : List Record) (e : Record) (ts : List Record)
+    grouped-rows : (bib common : List Record) (e : Record) (ts : List Record)
         → bib ++ common ++ (e ∷ []) ++ ts ≡ bib ++ (common ++ (e ∷ ts))
-    regroup bib common e ts = simp append-assoc
+    grouped-rows bib common e ts = simp append-assoc

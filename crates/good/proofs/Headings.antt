@@ -32,7 +32,8 @@ use Rattle.good.proofs.Steps.{Takes, next, MarkedFor, marked-every}
 use Rattle.good.proofs.Runs.{Run, afterRun}
 use Rattle.good.proofs.Lists.{Long}
 use Rattle.good.proofs.Systems.{identificationIn}
-use Rattle.good.proofs.Rows.{headings, roleFor, row-step, RowAt, NoEnd}
+use Rattle.good.proofs.RowPlaces.{RowAt, NoEnd}
+use Rattle.good.proofs.Rows.{headings, roleFor, row-step}
 use Rattle.good.proofs.Rowwise.{RowFine, run-row, BehindRow, behind-row, countRow}
 use Rattle.good.proofs.Cells.{field-at, few, few-used, few-least, few-below, few-past, below-few, Cells}
 use Rattle.good.proofs.Units.{noCount}
@@ -89,10 +90,14 @@ module _ (d : Bool) (first common : List Record) (pointers : List ℕ) where
   abbrev Known : Context → List Record → ℕ → Type 0
   Known c before m = HeadingsKnown first common pointers c before
 
-  headings-to : (c : Context) (rest : ℕ) (before : List Record) (m : ℕ) (r : Record)
+  -- One record of headings. Each of the four rules says that no field meets its test (`where-none`), and the test
+  -- speaks of bytes: of what the context has seen. `Known` says which records these bytes are, so that the bytes can
+  -- be put aside; what is left are statements on the cells of this record and of the rows before. `headings-takes`
+  -- goes the same way back. A rule that is added for headings is met in these two lemmas, by its name in `Clean`.
+  takes-headings : (c : Context) (rest : ℕ) (before : List Record) (m : ℕ) (r : Record)
       → c .track .table .rest ≡ rest → Known c before m → Takes c (roleFor headings d) r → RowOf rest before m r
   unfolding rule11Heading rule12Heading rule13 rule14 pointerFault headingFault
-  headings-to c rest before m r e k t =
+  takes-headings c rest before m r e k t =
       let kind = heading-role d .0 in
       let u = few-used (c .track) rest e in
       let h11 = where-none (inField (pointerFault (used (c .track))) (fieldsOf r)) pointerColumn 6
@@ -127,11 +132,11 @@ module _ (d : Bool) (first common : List Record) (pointers : List ℕ) where
             fieldColumn (used (c .track)) (t .1 .fourteen (data-role d q)) j (rw u (few-below rest j l a))));
       }
 
-  headings-from : (c : Context) (rest : ℕ) (before : List Record) (m : ℕ) (r : Record)
+  headings-takes : (c : Context) (rest : ℕ) (before : List Record) (m : ℕ) (r : Record)
       → c .track .table .rest ≡ rest → Known c before m → MarkedFor c (roleFor headings d) r → RowOf rest before m r
       → Takes c (roleFor headings d) r
   unfolding rule11Heading rule12Heading rule13 rule14 pointerFault headingFault
-  headings-from c rest before m r e k mk f =
+  headings-takes c rest before m r e k mk f =
       let u = few-used (c .track) rest e in
       let s = few-least rest in
       let role = roleFor headings d in
@@ -167,10 +172,10 @@ module _ (d : Bool) (first common : List Record) (pointers : List ℕ) where
             (lost-not pointers (fieldAt r j) (f .found (role-data d t) j (omega arith) (below-few rest j q))))),
       )
 
-  headings-onward : (c : Context) (rest : ℕ) (before : List Record) (m : ℕ) (r : Record)
+  headings-known-next : (c : Context) (rest : ℕ) (before : List Record) (m : ℕ) (r : Record)
       → c .track .table .rest ≡ rest → Known c before m → 6 < rest → Takes c (roleFor headings d) r
       → Known (next c (roleFor headings d) r) (before ++ (r ∷ [])) (m + 0)
-  headings-onward c rest before m r e k l t =
+  headings-known-next c rest before m r e k l t =
       let s = row-step headings d c r in
       record {
         first-part = s .moved .common001 ∙ k .first-part;
@@ -188,7 +193,7 @@ module _ (d : Bool) (first common : List Record) (pointers : List ℕ) where
       → length rs ≡ recordsFor rest
       → Run NoEnd (roleFor headings d) c rs
       ↔ (All NoEnd rs × Following identification s rs × RowFine RowOf noCount rest before m rs)
-  run-headings = run-row d headings noCount RowOf Known headings-to headings-from headings-onward
+  run-headings = run-row d headings noCount RowOf Known takes-headings headings-takes headings-known-next
 
 pub behind-headings : (d : Bool) (n last line rest : ℕ) (c : Context) (rs : List Record)
     → RowAt c d headings n last line rest → 1 ≤ rest → length rs ≡ recordsFor rest → Run NoEnd (roleFor headings d) c rs

@@ -18,7 +18,8 @@ use Rattle.good.specs.Tables.{cell, Heading, BlankCell, GoodHeadings}
 use Rattle.good.specs.Subentries.{Occurs}
 use Rattle.good.proofs.Runs.{Run}
 use Rattle.good.proofs.Systems.{identificationIn}
-use Rattle.good.proofs.Rows.{headings, roleFor, RowAt, NoEnd}
+use Rattle.good.proofs.RowPlaces.{RowAt, NoEnd}
+use Rattle.good.proofs.Rows.{headings, roleFor}
 use Rattle.good.proofs.Rowwise.{RowFine}
 use Rattle.good.proofs.Cells.{cell-here, cell-there, fine-used, fine-unused, cells-here, used-there}
 use Rattle.good.proofs.Cells.{unused-there}
@@ -38,6 +39,15 @@ cell-right [] ys x l = let e : x ≡ x - 0 * 6 = omega arith in ap (cell ys) e
 cell-right (r ∷ xs) ys x l =
     let e : x - 6 - length xs * 6 ≡ x - suc (length xs) * 6 = omega arith in
     cell-there r (xs ++ ys) x (omega arith) ∙ cell-right xs ys (x - 6) (omega arith) ∙ ap (cell ys) e
+
+-- ---- a column of the row, and a field of its record
+
+-- The columns of a row lie in its records, six to a record. The judge says of a field that it is new behind the records
+-- before and the fields to its left; the definition says of a column that it is new behind all columns to its left. The
+-- column c is a field of the first record where c is below 6 (`new-here`). Otherwise it is the column c - 6 of the
+-- records behind, and for these the first record is one more of those before (`new-there`). So an induction along the
+-- records that moves one record at a time from `rs` to the end of `before` carries one statement into the other;
+-- `here-new` and `there-new` lead back.
 
 -- the heading in the column c is new in its row, behind the rows before
 pub record NewIn (first common before rs : List Record) (c : ℕ) : Type 0 where
@@ -121,43 +131,43 @@ there-new first common before r rs c n =
     }
 
 module _ (d : Bool) (first common : List Record) (pointers : List ℕ) where
-  fine-new : (rest : ℕ) (before : List Record) (m : ℕ) (rs : List Record)
+  row-headings-new : (rest : ℕ) (before : List Record) (m : ℕ) (rs : List Record)
       → RowFine (RowOf d first common pointers) noCount rest before m rs
       → (c : ℕ) → c < length rs * 6 → c < rest → NewIn first common before rs c
   unfolding RowFine
-  fine-new rest before m [] h c l u = absurd (omega arith)
-  fine-new rest before m (r ∷ rs) h c l u =
+  row-headings-new rest before m [] h c l u = absurd (omega arith)
+  row-headings-new rest before m (r ∷ rs) h c l u =
       either c 6
       (λ a. new-here first common before r rs c a (h .0 .new c a u))
       (λ a. new-there first common before r rs c a
-      (fine-new (rest - 6) (before ++ (r ∷ [])) (m + 0) rs (h .1) (c - 6) (omega arith) (omega arith)))
+      (row-headings-new (rest - 6) (before ++ (r ∷ [])) (m + 0) rs (h .1) (c - 6) (omega arith) (omega arith)))
 
-  fine-found : (rest : ℕ) (before : List Record) (m : ℕ) (rs : List Record)
+  row-pointers-occur : (rest : ℕ) (before : List Record) (m : ℕ) (rs : List Record)
       → RowFine (RowOf d first common pointers) noCount rest before m rs → d ≡ true
       → (c : ℕ) → c < length rs * 6 → c < rest → Occurs pointers (cell rs c)
   unfolding RowFine
-  fine-found rest before m [] h t c l u = absurd (omega arith)
-  fine-found rest before m (r ∷ rs) h t c l u =
+  row-pointers-occur rest before m [] h t c l u = absurd (omega arith)
+  row-pointers-occur rest before m (r ∷ rs) h t c l u =
       either c 6
       (λ a. rw (cell-here r rs c a) (h .0 .found t c a u))
       (λ a. rw (cell-there r rs c a)
-      (fine-found (rest - 6) (before ++ (r ∷ [])) (m + 0) rs (h .1) t (c - 6) (omega arith) (omega arith)))
+      (row-pointers-occur (rest - 6) (before ++ (r ∷ [])) (m + 0) rs (h .1) t (c - 6) (omega arith) (omega arith)))
 
-  cells-headings : (rest : ℕ) (before : List Record) (m : ℕ) (rs : List Record)
+  headings-row-fine : (rest : ℕ) (before : List Record) (m : ℕ) (rs : List Record)
       → ((c : ℕ) → c < length rs * 6 → c < rest → Heading (cell rs c))
       → ((c : ℕ) → rest ≤ c → c < length rs * 6 → BlankCell (cell rs c))
       → ((c : ℕ) → c < length rs * 6 → c < rest → NewIn first common before rs c)
       → (d ≡ true → (c : ℕ) → c < length rs * 6 → c < rest → Occurs pointers (cell rs c))
       → RowFine (RowOf d first common pointers) noCount rest before m rs
   unfolding RowFine
-  cells-headings rest before m [] u v w o = tt
-  cells-headings rest before m (r ∷ rs) u v w o = (
+  headings-row-fine rest before m [] u v w o = tt
+  headings-row-fine rest before m (r ∷ rs) u v w o = (
     record {
       cells = cells-here Heading BlankCell rest r rs u v;
       new = λ j l a. here-new first common before r rs j l (w j (omega arith) a);
       found = λ t j l a. rw (cell-here r rs j l) at (o t j (omega arith) a);
     },
-    cells-headings (rest - 6) (before ++ (r ∷ [])) (m + 0) rs (used-there Heading rest r rs u)
+    headings-row-fine (rest - 6) (before ++ (r ∷ [])) (m + 0) rs (used-there Heading rest r rs u)
         (unused-there BlankCell rest r rs v)
         (λ c l a. there-new first common before r rs c (w (c + 6) (omega arith) (omega arith)))
         (λ t. used-there (Occurs pointers) rest r rs (o t)),
@@ -188,14 +198,14 @@ module _ (d : Bool) (first common : List Record) (pointers : List ℕ) where
                     (h .2) x y z;
                 no-end = h .0;
               },
-              λ x y. fine-new n [] 0 rs (h .2) x (omega arith) y,
-              λ t x y. fine-found n [] 0 rs (h .2) t x (omega arith) y,
+              λ x y. row-headings-new n [] 0 rs (h .2) x (omega arith) y,
+              λ t x y. row-pointers-occur n [] 0 rs (h .2) t x (omega arith) y,
             ),
         λ g.
             w .1 (
               g .1 .no-end,
               g .0,
-              cells-headings n [] 0 rs (λ x y z. g .1 .used x z) (g .1 .unused) (λ x y z. g .2 x z)
+              headings-row-fine n [] 0 rs (λ x y z. g .1 .used x z) (g .1 .unused) (λ x y z. g .2 x z)
                   (λ t x y z. g .3 t x z),
             ),
       )

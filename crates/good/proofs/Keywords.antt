@@ -16,17 +16,18 @@ use Rattle.columns.specs.Text.{isBlank}
 use Rattle.record.specs.Word.{blankTo, equalTo, isWord, pointerOf}
 use Rattle.good.specs.Parts.{Record, Keyword, textsOf}
 use Rattle.good.specs.Marks.{Following, Once}
-use Rattle.good.specs.Bib.{placeOf, Text, samePointer, pointersIn, GoodKeyword, keywordPlaces}
+use Rattle.good.specs.Bib.{bibPlace, Text, samePointer, pointersIn, GoodKeyword, keywordPlaces}
 use Rattle.record.proofs.WordsAndBlanks.{word-blank, word-differs}
-use Rattle.good.proofs.Texts.{TextFine, TextsFine, underAfter, bearing}
+use Rattle.good.proofs.TextContexts.{bearing}
+use Rattle.good.proofs.Texts.{TextFine, TextsFine, underAfter}
 
 abbrev BlankPlace : Record → Type 0
-BlankPlace r = blankTo 10 (placeOf r) ≡ true
+BlankPlace r = blankTo 10 (bibPlace r) ≡ true
 
 -- among the places of the records before, a word is found exactly where it is among the keywords before
 pub record Places (before : List Record) (places : List (List ℕ)) : Type 0 where
   pub same : (f : List ℕ) → isWord 10 f ≡ true
-      → anyOf (equalTo 10 f) (map placeOf before) ≡ anyOf (equalTo 10 f) places
+      → anyOf (equalTo 10 f) (map bibPlace before) ≡ anyOf (equalTo 10 f) places
 
 any-one : (f : List ℕ) (xs : List (List ℕ)) (g : List ℕ)
     → anyOf (equalTo 10 f) (xs ++ (g ∷ [])) ≡ cond (anyOf (equalTo 10 f) xs) true (cond (equalTo 10 f g) true false)
@@ -38,19 +39,19 @@ place-blank : (before : List Record) (places : List (List ℕ)) (r : Record) →
 place-blank before places r e p =
     record {
       same = λ f w.
-          ap (anyOf (equalTo 10 f)) (map-append placeOf before (r ∷ []))
-          ∙ any-one f (map placeOf before) (placeOf r)
-          ∙ rw (word-differs f (placeOf r) w e, p .same f w) (cond-itself (anyOf (equalTo 10 f) places));
+          ap (anyOf (equalTo 10 f)) (map-append bibPlace before (r ∷ []))
+          ∙ any-one f (map bibPlace before) (bibPlace r)
+          ∙ rw (word-differs f (bibPlace r) w e, p .same f w) (cond-itself (anyOf (equalTo 10 f) places));
     }
 
 place-word : (before : List Record) (places : List (List ℕ)) (r : Record) → Places before places
-    → Places (before ++ (r ∷ [])) (places ++ (placeOf r ∷ []))
+    → Places (before ++ (r ∷ [])) (places ++ (bibPlace r ∷ []))
 place-word before places r p =
     record {
       same = λ f w.
-          ap (anyOf (equalTo 10 f)) (map-append placeOf before (r ∷ []))
-          ∙ any-one f (map placeOf before) (placeOf r)
-          ∙ rw (p .same f w) (sym (any-one f places (placeOf r)));
+          ap (anyOf (equalTo 10 f)) (map-append bibPlace before (r ∷ []))
+          ∙ any-one f (map bibPlace before) (bibPlace r)
+          ∙ rw (p .same f w) (sym (any-one f places (bibPlace r)));
     }
 
 -- ---- from records to keywords
@@ -81,15 +82,15 @@ text-of before under r f = record { no-system = f .other; pointer = f .pointer }
 
 -- a keyword, with what is grouped behind it
 begin : (before under : List Record) (places : List (List ℕ)) (r : Record) (rs : List Record) → Places before places
-    → blankTo 10 (placeOf r) ≡ false → TextFine before under r
-    → (isWord 10 (placeOf r) ≡ true → Grouped (r ∷ []) (places ++ (placeOf r ∷ [])) rs) → Keywords places (r ∷ rs)
+    → blankTo 10 (bibPlace r) ≡ false → TextFine before under r
+    → (isWord 10 (bibPlace r) ≡ true → Grouped (r ∷ []) (places ++ (bibPlace r ∷ [])) rs) → Keywords places (r ∷ rs)
 unfolding textsOf Once anyOf
 begin before under places r rs p e f next =
     let k = rw e at (f .keyword) in
     let w =
-    not-false (isWord 10 (placeOf r))
-    (or-left (not (isWord 10 (placeOf r))) (anyOf (equalTo 10 (placeOf r)) (map placeOf before)) k) in
-    let o = or-right (not (isWord 10 (placeOf r))) (anyOf (equalTo 10 (placeOf r)) (map placeOf before)) k in
+    not-false (isWord 10 (bibPlace r))
+    (or-left (not (isWord 10 (bibPlace r))) (anyOf (equalTo 10 (bibPlace r)) (map bibPlace before)) k) in
+    let o = or-right (not (isWord 10 (bibPlace r))) (anyOf (equalTo 10 (bibPlace r)) (map bibPlace before)) k in
     let g = next w in
     record {
       keywords = record { first = r; more = g .more } ∷ g .behind .keywords;
@@ -104,7 +105,7 @@ begin before under places r rs p e f next =
         },
         g .behind .each,
       );
-      once = (sym (p .same (placeOf r) w) ∙ o, g .behind .once);
+      once = (sym (p .same (bibPlace r) w) ∙ o, g .behind .once);
     }
 
 group : (identification : List ℕ) (n : ℕ) (before under : List Record) (places : List (List ℕ)) (rs : List Record)
@@ -121,15 +122,15 @@ group identification n before under places [] p h =
       behind = record { keywords = []; split = refl; each = tt; once = tt };
     }
 group identification n before under places (r ∷ rs) p h =
-    by-test (blankTo 10 (placeOf r)) refl
+    by-test (blankTo 10 (bibPlace r)) refl
     (λ e. group identification (n + 1) (before ++ (r ∷ [])) (under ++ (r ∷ [])) places rs
     (place-blank before places r e p) (rw e at (h .2)))
-    (λ e. group identification (n + 1) (before ++ (r ∷ [])) (r ∷ []) (places ++ (placeOf r ∷ [])) rs
+    (λ e. group identification (n + 1) (before ++ (r ∷ [])) (r ∷ []) (places ++ (bibPlace r ∷ [])) rs
     (place-word before places r p) (rw e at (h .2)))
   where
-    by-test : (b : Bool) → blankTo 10 (placeOf r) ≡ b
-        → (blankTo 10 (placeOf r) ≡ true → Grouped (under ++ (r ∷ [])) places rs)
-        → (blankTo 10 (placeOf r) ≡ false → Grouped (r ∷ []) (places ++ (placeOf r ∷ [])) rs)
+    by-test : (b : Bool) → blankTo 10 (bibPlace r) ≡ b
+        → (blankTo 10 (bibPlace r) ≡ true → Grouped (under ++ (r ∷ [])) places rs)
+        → (blankTo 10 (bibPlace r) ≡ false → Grouped (r ∷ []) (places ++ (bibPlace r ∷ [])) rs)
         → Grouped under places (r ∷ rs)
     by-test true e blank word =
         let g = blank e in
@@ -140,9 +141,9 @@ group identification n before under places (r ∷ rs) p h =
           blank = (e, g .blank);
           fine = (text-of before under r (h .1), g .fine);
           pointers = (
-            any-and (not (isBlank (pointerOf (placeOf r)))) (eqb (pointerOf (placeOf r))) (pointersIn under)
+            any-and (not (isBlank (pointerOf (bibPlace r)))) (eqb (pointerOf (bibPlace r))) (pointersIn under)
                 ∙ (rw e at (h .1 .repeated)),
-            rw (map-append (λ (x : Record). pointerOf (placeOf x)) under (r ∷ [])) at (g .pointers),
+            rw (map-append (λ (x : Record). pointerOf (bibPlace x)) under (r ∷ [])) at (g .pointers),
           );
           behind = g .behind;
         }
@@ -162,13 +163,13 @@ pub fine-keywords : (identification : List ℕ) (n : ℕ) (rs : List Record)
     → TextsFine identification n [] [] rs → Keywords [] rs
 unfolding TextsFine Once textsOf
 fine-keywords identification n [] h = record { keywords = []; split = refl; each = tt; once = tt }
-fine-keywords identification n (r ∷ rs) h = by-test (blankTo 10 (placeOf r)) refl
+fine-keywords identification n (r ∷ rs) h = by-test (blankTo 10 (bibPlace r)) refl
   where
-    by-test : (b : Bool) → blankTo 10 (placeOf r) ≡ b → Keywords [] (r ∷ rs)
+    by-test : (b : Bool) → blankTo 10 (bibPlace r) ≡ b → Keywords [] (r ∷ rs)
     by-test true e = differ (rw e at (h .1 .keyword))
     by-test false e =
         begin [] [] [] r rs (record { same = λ f w. refl }) e (h .1)
-        (λ w. group identification (n + 1) (r ∷ []) (r ∷ []) (placeOf r ∷ []) rs
+        (λ w. group identification (n + 1) (r ∷ []) (r ∷ []) (bibPlace r ∷ []) rs
         (place-word [] [] r (record { same = λ f w. refl })) (rw e at (h .2)))
 
 pub fine-following : (identification : List ℕ) (n : ℕ) (before under rs : List Record)
@@ -195,12 +196,12 @@ more-fine identification n before under places (r ∷ more) rest l p b t o m k =
     keyword = rw (b .0) (ne-eqb (length before) 0 (λ e. omega arith));
     pointer = t .0 .pointer;
     repeated = rw (b .0)
-        (sym (any-and (not (isBlank (pointerOf (placeOf r)))) (eqb (pointerOf (placeOf r))) (pointersIn under)) ∙ o .0);
+        (sym (any-and (not (isBlank (pointerOf (bibPlace r)))) (eqb (pointerOf (bibPlace r))) (pointersIn under)) ∙ o .0);
   },
   rw (b .0)
       (more-fine identification (n + 1) (before ++ (r ∷ [])) (under ++ (r ∷ [])) places more rest
       (rw length-append (omega arith)) (place-blank before places r (b .0) p) (b .1) (t .1)
-      (rw (map-append (λ (x : Record). pointerOf (placeOf x)) under (r ∷ [])) (o .1)) (m .1) k),
+      (rw (map-append (λ (x : Record). pointerOf (bibPlace x)) under (r ∷ [])) (o .1)) (m .1) k),
 )
 
 pub keywords-fine : (identification : List ℕ) (n : ℕ) (before under : List Record) (places : List (List ℕ))
@@ -210,20 +211,20 @@ unfolding TextsFine Following Once textsOf anyOf
 keywords-fine identification n before under places [] p each once m = tt
 keywords-fine identification n before under places (k ∷ ks) p each once m =
     let g = each .0 in
-    let b = word-blank (placeOf (k .first)) (g .word) in (
+    let b = word-blank (bibPlace (k .first)) (g .word) in (
       m .0,
       record {
         other = g .texts .0 .no-system;
-        keyword = rw (b, g .word, p .same (placeOf (k .first)) (g .word)) (once .0);
+        keyword = rw (b, g .word, p .same (bibPlace (k .first)) (g .word)) (once .0);
         pointer = g .texts .0 .pointer;
-        repeated = rw b (no-and (not (isBlank (pointerOf (placeOf (k .first))))));
+        repeated = rw b (no-and (not (isBlank (pointerOf (bibPlace (k .first))))));
       },
       rw b
           (more-fine identification (n + 1) (before ++ (k .first ∷ [])) (k .first ∷ [])
-          (places ++ (placeOf (k .first) ∷ [])) (k .more) (textsOf ks) (rw length-append (omega arith))
+          (places ++ (bibPlace (k .first) ∷ [])) (k .more) (textsOf ks) (rw length-append (omega arith))
           (place-word before places (k .first) p) (g .blank) (g .texts .1) (g .pointers .1) (m .1)
           (λ n before under l p m. keywords-fine identification n before under
-          (places ++ (placeOf (k .first) ∷ [])) ks p
+          (places ++ (bibPlace (k .first) ∷ [])) ks p
           (each .1) (once .1) m)),
     )
   where
@@ -242,7 +243,7 @@ pub bearing-keywords : (ks : List Keyword) → All GoodKeyword ks → bearing (t
 unfolding bearing textsOf
 bearing-keywords [] g = refl
 bearing-keywords (k ∷ ks) g =
-    rw (word-blank (placeOf (k .first)) (g .0 .word))
+    rw (word-blank (bibPlace (k .first)) (g .0 .word))
     (let a = bearing-append (k .more) (textsOf ks) (g .0 .blank) in
     let e = bearing-keywords ks (g .1) in
     omega arith)

@@ -13,11 +13,11 @@ use Rattle.record.specs.Identifier.{SUBENT, ENDSUBENT}
 use Rattle.record.specs.Expected.{identificationFor}
 use Rattle.rules_state.specs.State.{Context, LAST-SUBENTRY}
 use Rattle.entry.specs.Verdict.{roleOf, isDone}
-use Rattle.good.specs.Parts.{Record, bibRecords, tableRecords, First, Later, subent, bodyOf, laterRecords}
+use Rattle.good.specs.Parts.{Record, bibRecords, tableRecords, Subentry001, Later, subent, bodyOf, laterRecords}
 use Rattle.good.specs.Marks.{Following, nameOf}
 use Rattle.good.specs.Bib.{textsOfPart}
 use Rattle.good.specs.Tables.{cell}
-use Rattle.good.specs.Subentries.{ownNumber, pointersFor, Occurs, GoodLater}
+use Rattle.good.specs.Subentries.{ownNumber, pointersKnown, Occurs, GoodLater}
 use Rattle.good.specs.Totals.{keywordsIn, linesIn, numbersOf}
 use Rattle.good.proofs.Steps.{next, Passes, next-pass}
 use Rattle.good.proofs.Runs.{only-role, pass-only, rest-of, Step}
@@ -27,7 +27,7 @@ use Rattle.good.proofs.Marks.{following-append, following-right, follow
 use Rattle.good.proofs.Systems.{identificationIn}
 use Rattle.good.proofs.TableWalked.{headingRows, columnsIn, afterTable, BehindTable}
 use Rattle.good.proofs.TablesPassed.{pass-table}
-use Rattle.good.proofs.TablesGood.{GoodHere, table-behind, table-pass, regroup}
+use Rattle.good.proofs.TablesGood.{GoodHere, table-behind, table-pass, grouped-rows}
 use Rattle.good.proofs.Subentries.{texts-long, rows-long, part-shown, part-headings, data-due, end-due}
 use Rattle.good.proofs.Subentries.{encloses-of, of-encloses}
 use Rattle.good.proofs.SubentryHeads.{afterHead, Head, pass-head, HeadGood, good-head, head-pass, Begun}
@@ -86,7 +86,7 @@ following-values c accession s rows b h f =
 
 -- ---- from the walk to the subentry
 
-pub record PassedLater (c : Context) (r : Record) (ts : List Record) (z : Context) (accession : List ℕ) (first : First)
+pub record PassedLater (c : Context) (r : Record) (ts : List Record) (z : Context) (accession : List ℕ) (first : Subentry001)
     (number m k l n : ℕ) : Type 0 where
   pub sub : Later
   pub rest : List Record
@@ -103,7 +103,11 @@ later-split : (r : Record) (bib common values : List Record) (e : Record) (ts : 
     → r ∷ (bib ++ (common ++ (values ++ (e ∷ ts)))) ≡ r ∷ (bib ++ (common ++ values) ++ (e ∷ []) ++ ts)
 later-split r bib common values e ts = ap (λ (x : List Record). r ∷ x) (simp append-assoc)
 
-pub pass-later : (c : Context) (accession : List ℕ) (first : First) (number m k l n : ℕ) (r : Record) (ts : List Record)
+-- SUBENT, the head (BIB and COMMON), DATA, ENDSUBENT: each has its theorem, and hands the next one its context. Left
+-- for here is what concerns several parts: the headings together, the pointers of DATA, which may stand in three other
+-- parts, the marks and the number of all records between SUBENT and ENDSUBENT, and that the number is above the last
+-- one.
+pub pass-later : (c : Context) (accession : List ℕ) (first : Subentry001) (number m k l n : ℕ) (r : Record) (ts : List Record)
     (z : Context) → StandsBehind c accession first number m k l n → FirstKnown accession first → 1 ≤ number → 1 ≤ m
     → isDone (z .phase) ≡ true → Step c SUBENT r ts z → PassedLater c r ts z accession first number m k l n
 unfolding afterLater
@@ -151,7 +155,7 @@ pass-later c accession first number m k l n r ts z g f one some done s =
         headings = headings-together first (h .common) (t .part) (f .good .common) (h .good-common) (f .good .headings)
             (h .once) (t .new);
         pointers = rw (part-headings (t .part))
-            (all-places (Occurs (pointersFor first sub)) (cell (headingRows (t .part))) 0 (columnsIn (t .part))
+            (all-places (Occurs (pointersKnown first sub)) (cell (headingRows (t .part))) 0 (columnsIn (t .part))
             (λ x d u p.
             sym (occurs-same first (h .bib) (h .common) long-texts (f .long-texts) long-rows (f .long-rows)
             (part-shown false (h .common) (h .good-common)) (part-shown false (first .common) (f .good .common))
@@ -170,7 +174,7 @@ pass-later c accession first number m k l n r ts z g f one some done s =
 
 -- ---- from the subentry to the walk
 
-later-head : (c : Context) (accession : List ℕ) (first : First) (number m k l n : ℕ) (s : Later)
+later-head : (c : Context) (accession : List ℕ) (first : Subentry001) (number m k l n : ℕ) (s : Later)
     → StandsBehind c accession first number m k l n → FirstKnown accession first → GoodLater accession first s
     → HeadGood (next c SUBENT (s .opening)) accession (ownNumber (s .opening)) (headingRows (first .common))
     (columnsIn (first .common)) (s .bib) (s .common) (tableRecords (s .values))
@@ -184,7 +188,7 @@ later-head c accession first number m k l n s g f p =
       follows = p .encloses .between;
     }
 
-headed : (c : Context) (accession : List ℕ) (first : First) (number m k l n : ℕ) (s : Later)
+headed : (c : Context) (accession : List ℕ) (first : Subentry001) (number m k l n : ℕ) (s : Later)
     → StandsBehind c accession first number m k l n → FirstKnown accession first → GoodLater accession first s
     → Head (next c SUBENT (s .opening)) (s .bib) (s .common)
 headed c accession first number m k l n s g f p =
@@ -196,7 +200,7 @@ record Longs (s : Later) : Type 0 where
   texts : All Long (textsOfPart (s .bib))
   rows : All Long (headingRows (s .common))
 
-longs : (accession : List ℕ) (first : First) (s : Later) → GoodLater accession first s → Longs s
+longs : (accession : List ℕ) (first : Subentry001) (s : Later) → GoodLater accession first s → Longs s
 longs accession first s p =
     let a = following-long (identificationFor accession (ownNumber (s .opening))) 2 (bodyOf s) (p .encloses .between) in
     let b = all-right Long (bibRecords (s .bib)) (tableRecords (s .common) ++ tableRecords (s .values)) a in
@@ -206,7 +210,7 @@ longs accession first s p =
       rows = rows-long (s .common) (all-left Long (tableRecords (s .common)) (tableRecords (s .values)) b);
     }
 
-values-here : (c : Context) (accession : List ℕ) (first : First) (number m k l n : ℕ) (s : Later)
+values-here : (c : Context) (accession : List ℕ) (first : Subentry001) (number m k l n : ℕ) (s : Later)
     → StandsBehind c accession first number m k l n → FirstKnown accession first → GoodLater accession first s
     → GoodHere true (headedBy c s) (s .values) (headingRows (first .common)) (headingRows (s .common))
     (pointersBehind first (s .bib) (s .common))
@@ -219,14 +223,14 @@ values-here c accession first number m k l n s g f p =
           occurs-same first (s .bib) (s .common) (long .texts) (f .long-texts) (long .rows) (f .long-rows)
           (part-shown false (s .common) (p .common)) (part-shown false (first .common) (f .good .common))
           (pointerOf (cell (headingRows (s .values)) x)) q
-          ∙ places-all (Occurs (pointersFor first s)) (cell (headingRows (s .values))) 0 (columnsIn (s .values))
+          ∙ places-all (Occurs (pointersKnown first s)) (cell (headingRows (s .values))) 0 (columnsIn (s .values))
           (rw (part-headings (s .values)) at (p .pointers)) x (omega arith) (omega arith) q;
       follows = following-values c accession s (headingRows (first .common))
           (begun-later c accession first number m k l n (s .opening) g (f .long-rows))
           (headed c accession first number m k l n s g f p) (p .encloses .between);
     }
 
-values-behind : (c : Context) (accession : List ℕ) (first : First) (number m k l n : ℕ) (s : Later)
+values-behind : (c : Context) (accession : List ℕ) (first : Subentry001) (number m k l n : ℕ) (s : Later)
     → StandsBehind c accession first number m k l n → FirstKnown accession first → GoodLater accession first s
     → BehindTable (headedBy c s) (afterTable true (headedBy c s) (s .values)) true (s .values)
 values-behind c accession first number m k l n s g f p =
@@ -236,7 +240,7 @@ values-behind c accession first number m k l n s g f p =
     (headed c accession first number m k l n s g f p))
     (λ e. differ e) (values-here c accession first number m k l n s g f p)
 
-pub later-stands : (c : Context) (accession : List ℕ) (first : First) (number m k l n : ℕ) (s : Later)
+pub later-stands : (c : Context) (accession : List ℕ) (first : Subentry001) (number m k l n : ℕ) (s : Later)
     → StandsBehind c accession first number m k l n → FirstKnown accession first → 1 ≤ number
     → number < ownNumber (s .opening) → GoodLater accession first s
     → StandsBehind (afterLater c s) accession first (ownNumber (s .opening)) (m + 1) (k + keywordsIn (s .bib))
@@ -245,7 +249,7 @@ later-stands c accession first number m k l n s g f one above p =
     stands-later c accession first number m k l n s g (λ e. omega arith)
     (headed c accession first number m k l n s g f p) (values-behind c accession first number m k l n s g f p)
 
-pub later-pass : (c : Context) (accession : List ℕ) (first : First) (number m k l n : ℕ) (s : Later)
+pub later-pass : (c : Context) (accession : List ℕ) (first : Subentry001) (number m k l n : ℕ) (s : Later)
     (rest : List Record)
     (z : Context) → StandsBehind c accession first number m k l n → FirstKnown accession first → 1 ≤ number → 1 ≤ m
     → number < ownNumber (s .opening) → ownNumber (s .opening) ≤ LAST-SUBENTRY
@@ -270,7 +274,7 @@ later-pass c accession first number m k l n s rest z g f one some above most rol
     next-pass c SUBENT r (bodyOf s ++ (s .ending ∷ []) ++ rest) z role
     (opens-takes false c r accession (g .accession-is) (p .opens)
     (number-later c (ownNumber r) (omega arith) (omega arith) most))
-    (rw (regroup (bibRecords (s .bib)) (tableRecords (s .common)) (tableRecords (s .values)) (s .ending) rest)
+    (rw (grouped-rows (bibRecords (s .bib)) (tableRecords (s .common)) (tableRecords (s .values)) (s .ending) rest)
     (head-pass c1 accession (ownNumber r) rows (columnsIn (first .common)) (s .bib) (s .common)
     (tableRecords (s .values))
     (tableRecords (s .values) ++ (s .ending ∷ rest)) z hg

@@ -17,7 +17,8 @@ use Rattle.record.specs.Identifier.{SUBENT, ENDSUBENT}
 use Rattle.record.specs.Expected.{identificationFor}
 use Rattle.rules_state.specs.State.{Context}
 use Rattle.rules_section.specs.Headings.{pointersFor as pointersSeen}
-use Rattle.good.specs.Parts.{Record, Bib, Table, Section, bibRecords, tableRecords, First, Later, bodyOfFirst}
+use Rattle.good.specs.Parts.{Record, Bib, Table, Section, bibRecords, tableRecords, Subentry001, Later}
+use Rattle.good.specs.Parts.{bodyOfFirst}
 use Rattle.good.specs.Bib.{textsOfPart, pointersIn}
 use Rattle.good.specs.Tables.{headingsOfPart}
 use Rattle.good.specs.Subentries.{ownNumber, NoneTwice, pointersOn, GoodFirst}
@@ -35,12 +36,12 @@ use Rattle.good.proofs.Openings.{after-opening, after-endsubent}
 use Rattle.good.proofs.Subentries.{texts-long, rows-long, part-shown, part-words, part-headings, Standing}
 use Rattle.good.proofs.SubentryHeads.{Begun, afterHead, Head, Behind}
 
-pub record FirstKnown (accession : List ℕ) (first : First) : Type 0 where
+pub record FirstKnown (accession : List ℕ) (first : Subentry001) : Type 0 where
   pub good : GoodFirst accession first
   pub long-texts : All Long (textsOfPart (first .bib))
   pub long-rows : All Long (headingRows (first .common))
 
-pub first-known : (accession : List ℕ) (first : First) → GoodFirst accession first → FirstKnown accession first
+pub first-known : (accession : List ℕ) (first : Subentry001) → GoodFirst accession first → FirstKnown accession first
 first-known accession first g =
     let f = following-long (identificationFor accession (ownNumber (first .opening))) 2 (bodyOfFirst first)
     (g .encloses .between) in
@@ -50,7 +51,7 @@ first-known accession first g =
       long-rows = rows-long (first .common) (all-right Long (bibRecords (first .bib)) (tableRecords (first .common)) f);
     }
 
-abbrev pub StandsBehind : Context → List ℕ → First → ℕ → ℕ → ℕ → ℕ → ℕ → Type 0
+abbrev pub StandsBehind : Context → List ℕ → Subentry001 → ℕ → ℕ → ℕ → ℕ → ℕ → Type 0
 StandsBehind c accession first number subentries keywords lines numbers =
     Standing c accession number subentries keywords lines numbers (textsOfPart (first .bib))
     (headingRows (first .common))
@@ -61,7 +62,7 @@ headedBy c s = afterHead (next c SUBENT (s .opening)) (s .bib) (s .common)
 unfoldable pub afterLater : Context → Later → Context
 afterLater c s = next (afterTable true (headedBy c s) (s .values)) ENDSUBENT (s .ending)
 
-pub begun-later : (c : Context) (accession : List ℕ) (first : First) (number m k l n : ℕ) (r : Record)
+pub begun-later : (c : Context) (accession : List ℕ) (first : Subentry001) (number m k l n : ℕ) (r : Record)
     → StandsBehind c accession first number m k l n → All Long (headingRows (first .common))
     → Begun (next c SUBENT r) accession (ownNumber r) (headingRows (first .common))
 begun-later c accession first number m k l n r g long =
@@ -77,7 +78,9 @@ begun-later c accession first number m k l n r g long =
       long = long;
     }
 
-pub stands-later : (c : Context) (accession : List ℕ) (first : First) (number m k l n : ℕ) (s : Later)
+-- Behind a later subentry the judge stands as it stood before it: of 001 it still has the BIB and the heading records,
+-- since ENDSUBENT keeps these only where the number is 1, and each total has grown by what the subentry counts.
+pub stands-later : (c : Context) (accession : List ℕ) (first : Subentry001) (number m k l n : ℕ) (s : Later)
     → StandsBehind c accession first number m k l n → (ownNumber (s .opening) ≡ 1 → ⊥)
     → Head (next c SUBENT (s .opening)) (s .bib) (s .common)
     → BehindTable (headedBy c s) (afterTable true (headedBy c s) (s .values)) true (s .values)
@@ -111,12 +114,12 @@ stands-later c accession first number m k l n s g ne h t =
     five p q r s t = omega arith
 
 -- what DATA looks back at
-abbrev pub pointersBehind : First → Section Bib → Section Table → List ℕ
+abbrev pub pointersBehind : Subentry001 → Section Bib → Section Table → List ℕ
 pointersBehind first bib common =
     pointersSeen (joined (textsOfPart bib)) (joined (textsOfPart (first .bib))) (joined (headingRows common))
     (joined (headingRows (first .common)))
 
-pub data-known : (c : Context) (accession : List ℕ) (first : First) (number m k l n : ℕ) (r : Record)
+pub data-known : (c : Context) (accession : List ℕ) (first : Subentry001) (number m k l n : ℕ) (r : Record)
     (bib : Section Bib)
     (common : Section Table) → StandsBehind c accession first number m k l n → FirstKnown accession first
     → All Long (headingRows common) → Head (next c SUBENT r) bib common
@@ -138,7 +141,7 @@ data-known c accession first number m k l n r bib common g f long h =
     }
 
 -- a pointer found by the judge occurs, and the other way round
-pub occurs-same : (first : First) (bib : Section Bib) (common : Section Table) → All Long (textsOfPart bib)
+pub occurs-same : (first : Subentry001) (bib : Section Bib) (common : Section Table) → All Long (textsOfPart bib)
     → All Long (textsOfPart (first .bib)) → All Long (headingRows common) → All Long (headingRows (first .common))
     → Shown (headingRows common) (columnsIn common) → Shown (headingRows (first .common)) (columnsIn (first .common))
     → (p : ℕ) → isBlank p ≡ false
@@ -150,8 +153,11 @@ occurs-same first bib common a b c d s t p h =
     (pointers-same (textsOfPart bib) (textsOfPart (first .bib)) (headingRows common) (headingRows (first .common))
     (columnsIn common) (columnsIn (first .common)) p a b c d s t h)
 
--- the headings of the three sections together
-pub headings-together : (first : First) (common values : Section Table) → GoodPart false (first .common)
+-- The headings of the three sections together. The definition has one list, "the COMMON of 001, this subentry's COMMON
+-- and its DATA together", in which none occurs twice; the judge looks at one section at a time, behind the earlier
+-- ones. A list that is three lists behind each other has nothing twice exactly when each is new behind those before it
+-- (`once-append`, `once-left`, `once-right`).
+pub headings-together : (first : Subentry001) (common values : Section Table) → GoodPart false (first .common)
     → GoodPart false common → NoneTwice (headingsOfPart (first .common))
     → Behind (shown (headingRows (first .common)) (columnsIn (first .common))) common
     → ((x : ℕ) → x < columnsIn values → NewIn (headingRows (first .common)) (headingRows common) []
@@ -165,7 +171,7 @@ headings-together first common values g h a b new =
     (new-once (headingRows (first .common)) (headingRows common) (headingRows values) (columnsIn (first .common))
     (columnsIn common) (columnsIn values) (part-shown false (first .common) g) (part-shown false common h) new)))
 
-pub together-common : (first : First) (common values : Section Table)
+pub together-common : (first : Subentry001) (common values : Section Table)
     → NoneTwice (headingsOfPart (first .common) ++ (headingsOfPart common ++ headingsOfPart values))
     → Behind (shown (headingRows (first .common)) (columnsIn (first .common))) common
 together-common first common values h =
@@ -173,7 +179,7 @@ together-common first common values h =
     (once-left (equalTo 11) (headingsOfPart (first .common)) (headingsOfPart common) (headingsOfPart values)
     (once-right (equalTo 11) [] (headingsOfPart (first .common)) (headingsOfPart common ++ headingsOfPart values) h))
 
-pub together-new : (first : First) (common values : Section Table) → GoodPart false (first .common)
+pub together-new : (first : Subentry001) (common values : Section Table) → GoodPart false (first .common)
     → GoodPart false common → GoodPart true values
     → NoneTwice (headingsOfPart (first .common) ++ (headingsOfPart common ++ headingsOfPart values))
     → (x : ℕ) → x < columnsIn values

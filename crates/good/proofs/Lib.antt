@@ -4,16 +4,20 @@ pub mod Moves
 pub mod Lists
 pub mod Repeats
 pub mod Marks
+pub mod TextContexts
 pub mod Texts
 pub mod Keywords
 pub mod Systems
 pub mod SystemRoles
+pub mod BibContexts
 pub mod Bibs
 pub mod Rows
+pub mod RowPlaces
 pub mod Rowwise
 pub mod Cells
 pub mod Units
 pub mod Values
+pub mod ValuesByColumn
 pub mod Earlier
 pub mod Headings
 pub mod HeadingsByColumn
@@ -30,5 +34,6 @@ pub mod SubentryHeads
 pub mod FirstSubentry
 pub mod LaterContexts
 pub mod Later
+pub mod AllLater
 pub mod Entries
 pub mod Theorems

@@ -12,16 +12,17 @@ use Rattle.rules_state.specs.State.{Context}
 use Rattle.entry.specs.Verdict.{isDone}
 use Rattle.good.specs.Parts.{Record, concat}
 use Rattle.good.specs.Marks.{Following}
-use Rattle.good.specs.Tables.{GoodValues, numbersIn}
+use Rattle.good.specs.Tables.{GoodValues, numbersInLine}
 use Rattle.good.specs.Totals.{numbersOfLines}
 use Rattle.good.proofs.Steps.{Passes}
 use Rattle.good.proofs.Runs.{Run, afterRun}
 use Rattle.good.proofs.Moves.{Moved, still, moved-on, recount}
 use Rattle.good.proofs.Marks.{following-append, following-left, following-right, following-as}
 use Rattle.good.proofs.Systems.{identificationIn}
-use Rattle.good.proofs.Rows.{Kind, values, roleFor, RowAt, NoEnd, InRow, pass-row, row-pass, row-left}
-use Rattle.good.proofs.Rows.{linesOf as rowLines}
-use Rattle.good.proofs.Values.{behind-values, count-numbers, values-good}
+use Rattle.good.proofs.Rows.{Kind, values, roleFor, linesOf as rowLines}
+use Rattle.good.proofs.RowPlaces.{RowAt, NoEnd, InRow, pass-row, row-pass, row-left}
+use Rattle.good.proofs.ValuesByColumn.{count-numbers, values-good}
+use Rattle.good.proofs.Values.{behind-values}
 
 pub in-row : (d : Bool) (k : Kind) (n last line : ℕ) (c : Context) → RowAt c d k n last line n → 1 ≤ n
     → InRow d k n last line c (recordsFor n)
@@ -97,7 +98,7 @@ behind-lines d n last line c (row ∷ rows) a p b f run =
       at = rw z at (v .at);
       blank = v .blank;
       moved = recount (length (row ++ concat rows)) 0 (linesOf d (suc (length rows)))
-          (numbersIn n row + numbersOfLines n rows)
+          (numbersInLine n row + numbersOfLines n rows)
           (moved-on (w .moved) (v .moved)) (sym m) refl (omega arith) (omega arith);
       section = let x = w .section in let y = v .section in omega arith;
       part = v .part ∙ w .part;
@@ -146,7 +147,7 @@ lines-pass d n last line c (row ∷ rows) rest z a p b f run q =
 -- ---- lines that are good
 
 abbrev pub LinesGood : Bool → ℕ → List (List Record) → Type 0
-LinesGood d n rows = All (GoodValues d n) rows × (d ≡ true → All (λ row. 1 ≤ numbersIn n row) rows)
+LinesGood d n rows = All (GoodValues d n) rows × (d ≡ true → All (λ row. 1 ≤ numbersInLine n row) rows)
 
 pub lines-good : (d : Bool) (n last line : ℕ) (c : Context) (identification : List ℕ) (s : ℕ)
     (rows : List (List Record))

@@ -12,9 +12,9 @@ use Rattle.laws.specs.Walk.{All}
 use Rattle.laws.specs.Blocks.{joined}
 use Rattle.laws.proofs.Blocks.{length-joined}
 use Rattle.record.specs.Word.{pointerOf}
-use Rattle.rules_section.specs.Text.{placeAt, placesOf, pointerAt, pointersOf}
+use Rattle.rules_section.specs.Text.{placeInPart, placesOf, pointerAt, pointersOf}
 use Rattle.good.specs.Parts.{Record}
-use Rattle.good.specs.Bib.{placeOf, pointersIn}
+use Rattle.good.specs.Bib.{bibPlace, pointersIn}
 
 abbrev pub Long : Record → Type 0
 Long r = length r ≡ 81
@@ -46,10 +46,10 @@ drop-record r part n m l e = rw (e, ← l) (drop-append-add r part m)
 pub byte-record : (r part : List ℕ) (n m : ℕ) → length r ≡ 81 → n ≡ 81 + m → getD (r ++ part) n 0 ≡ getD part m 0
 byte-record r part n m l e = rw (e, ← l) (getD-append-add r part m 0)
 
-pub places-joined : (rs : List Record) → All Long rs → placesOf (joined rs) ≡ map placeOf rs
+pub places-joined : (rs : List Record) → All Long rs → placesOf (joined rs) ≡ map bibPlace rs
 unfolding placesOf
 places-joined rs l =
-    all-listed placeAt placeOf
+    all-listed placeInPart bibPlace
     (λ r part h. take-append-le 11 r part (omega arith))
     (λ r part k h. let e : (k + 1) * 81 ≡ 81 + k * 81 = omega arith in ap (take 11) (drop-record r part _ (k * 81) h e))
     rs l
@@ -57,11 +57,11 @@ places-joined rs l =
 pub pointers-joined : (rs : List Record) → All Long rs → pointersOf (joined rs) ≡ pointersIn rs
 unfolding pointersOf
 pointers-joined rs l =
-    all-listed pointerAt (λ r. pointerOf (placeOf r))
+    all-listed pointerAt (λ r. pointerOf (bibPlace r))
     (λ r part h. List·getD-append r part 0 10 (omega arith) ∙ at-ten r (omega arith))
     (λ r part k h.
     let e : (k + 1) * 81 + 10 ≡ 81 + (k * 81 + 10) = omega arith in byte-record r part _ (k * 81 + 10) h e)
     rs l
   where
-    at-ten : (r : List ℕ) → 10 < length r → getD r 10 0 ≡ pointerOf (placeOf r)
+    at-ten : (r : List ℕ) → 10 < length r → getD r 10 0 ≡ pointerOf (bibPlace r)
     at-ten r h = sym (getD-take 11 r 10 0 (omega arith))

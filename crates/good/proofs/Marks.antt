@@ -13,31 +13,31 @@ use Rattle.record.specs.declared.system.Count.{Count}
 use Rattle.record.specs.declared.system.Count.the-variants.{Number, Bad}
 use Rattle.rules_system.specs.System.{countN1, countN2}
 use Rattle.good.specs.Parts.{Record}
-use Rattle.good.specs.Marks.{Following, Says}
+use Rattle.good.specs.Marks.{Following, CountIs}
 use Rattle.good.proofs.Lists.{Long}
 
 -- ---- counts
 
-pub counted-says : (f : List ℕ) → isCount (countOf f) ≡ true → Says f (numberOf (countOf f))
+pub counted-says : (f : List ℕ) → isCount (countOf f) ≡ true → CountIs f (numberOf (countOf f))
 counted-says f e = by-count (countOf f) refl e
   where
     by-count : (x : Count) → countOf f ≡ x → isCount x ≡ true → x ≡ Number (numberOf x)
     by-count (Number n) q h = refl
     by-count Bad q h = differ (sym h)
 
-pub says-as : (f : List ℕ) (m n : ℕ) → Says f m → m ≡ n → Says f n
+pub says-as : (f : List ℕ) (m n : ℕ) → CountIs f m → m ≡ n → CountIs f n
 says-as f m n s e = s ∙ ap Number e
 
-pub says-number : (f : List ℕ) (n : ℕ) → Says f n → numberOf (countOf f) ≡ n
+pub says-number : (f : List ℕ) (n : ℕ) → CountIs f n → numberOf (countOf f) ≡ n
 says-number f n s = ap numberOf s
 
-pub says-count : (f : List ℕ) (n : ℕ) → Says f n → isCount (countOf f) ≡ true
+pub says-count : (f : List ℕ) (n : ℕ) → CountIs f n → isCount (countOf f) ≡ true
 says-count f n s = ap isCount s
 
-pub counted1 : (r : Record) (n : ℕ) → Says (n1 (fieldsOf r)) n → countN1 (fieldsOf r) ≡ n
+pub counted1 : (r : Record) (n : ℕ) → CountIs (n1 (fieldsOf r)) n → countN1 (fieldsOf r) ≡ n
 counted1 r n s = says-number (n1 (fieldsOf r)) n s
 
-pub counted2 : (r : Record) (n : ℕ) → Says (n2 (fieldsOf r)) n → countN2 (fieldsOf r) ≡ n
+pub counted2 : (r : Record) (n : ℕ) → CountIs (n2 (fieldsOf r)) n → countN2 (fieldsOf r) ≡ n
 counted2 r n s = says-number (n2 (fieldsOf r)) n s
 
 -- ---- records that follow one another

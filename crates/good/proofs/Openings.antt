@@ -24,8 +24,8 @@ use Rattle.entry_next.specs.Counted.{trackAfter, afterSystem}
 use Rattle.entry_next.specs.Parts.{seenAfter, partAfter, bibChange}
 use Rattle.rules.proofs.NoColumns.{when-none, none-when}
 use Rattle.good.specs.Parts.{Record}
-use Rattle.good.specs.Marks.{Marked, nameOf, Says}
-use Rattle.good.specs.Subentries.{Opens, ownNumber}
+use Rattle.good.specs.Marks.{Marked, nameOf, CountIs}
+use Rattle.good.specs.Subentries.{OpensSubentry, ownNumber}
 use Rattle.good.specs.Good.{GoodOpening, GoodEnding}
 use Rattle.good.proofs.Steps.{Takes, next, takes-marked}
 use Rattle.good.proofs.Marks.{says-as}
@@ -70,7 +70,7 @@ rules-opening true c r m p q d =
 
 pub takes-opens : (b : Bool) (c : Context) (r : Record) (accession : List ℕ) → c .track .accession ≡ accession
     → nameOf r ≡ nameFor b → Takes c (nameFor b) r
-    → Opens (nameFor b) accession r × (numberDue (c .track) (ownNumber r) ≡ true)
+    → OpensSubentry (nameFor b) accession r × (numberDue (c .track) (ownNumber r) ≡ true)
 takes-opens b c r accession e named t =
     let x = opening-rules b c r t in
     let a = and-left (equalTo 5 (subentAccession (n1 (fieldsOf r))) (c .track .accession))
@@ -88,7 +88,7 @@ takes-opens b c r accession e named t =
     )
 
 pub opens-takes : (b : Bool) (c : Context) (r : Record) (accession : List ℕ) → c .track .accession ≡ accession
-    → Opens (nameFor b) accession r → numberDue (c .track) (ownNumber r) ≡ true → Takes c (nameFor b) r
+    → OpensSubentry (nameFor b) accession r → numberDue (c .track) (ownNumber r) ≡ true → Takes c (nameFor b) r
 opens-takes b c r accession e o n =
     rules-opening b c r (o .marked) (o .numbered) (o .dated)
     (and-both (ap (equalTo 5 (subentAccession (n1 (fieldsOf r)))) e ∙ o .same) n)
@@ -175,11 +175,11 @@ abbrev pub AtEnd : Context → Record → Type 0
 AtEnd c r = Marked (identificationFor (c .track .accession) (c .track .subentry .number)) 99999 r
 
 pub takes-endsubent : (c : Context) (r : Record) → Takes c ENDSUBENT r
-    → AtEnd c r × Says (n1 (fieldsOf r)) (c .track .subentry .records)
+    → AtEnd c r × CountIs (n1 (fieldsOf r)) (c .track .subentry .records)
 unfolding expectedIdentification expectedSequence trueCount
 takes-endsubent c r t = (takes-marked c ENDSUBENT r t, takes-end c ENDSUBENT r end-SUBENT t .0)
 
-pub endsubent-takes : (c : Context) (r : Record) → AtEnd c r → Says (n1 (fieldsOf r)) (c .track .subentry .records)
+pub endsubent-takes : (c : Context) (r : Record) → AtEnd c r → CountIs (n1 (fieldsOf r)) (c .track .subentry .records)
     → Takes c ENDSUBENT r
 unfolding expectedIdentification expectedSequence trueCount
 endsubent-takes c r m s = end-takes c ENDSUBENT r end-SUBENT m s refl

@@ -21,7 +21,8 @@ use Rattle.good.proofs.Runs.{Run, afterRun}
 use Rattle.good.proofs.Moves.{Moved, moved-on, recount}
 use Rattle.good.proofs.Systems.{identificationIn, Here}
 use Rattle.good.proofs.Rows.{Kind, headings, units, values, roleFor, numbersOf, linesOf, joinedBy, lastOf}
-use Rattle.good.proofs.Rows.{row-step, RowAt, NoEnd, row-same}
+use Rattle.good.proofs.Rows.{row-step}
+use Rattle.good.proofs.RowPlaces.{RowAt, NoEnd, row-same}
 
 -- ---- marks
 

@@ -26,7 +26,8 @@ use Rattle.good.proofs.Moves.{Moved, moved-on, recount}
 use Rattle.good.proofs.Lists.{Long}
 use Rattle.good.proofs.Marks.{following-append, following-left, following-right, following-as}
 use Rattle.good.proofs.Systems.{identificationIn}
-use Rattle.good.proofs.Bibs.{afterBib, BehindBib, behind-bib, pass-bib, bib-pass}
+use Rattle.good.proofs.BibContexts.{afterBib, BehindBib, behind-bib}
+use Rattle.good.proofs.Bibs.{pass-bib, bib-pass}
 use Rattle.good.proofs.TableContexts.{PartsKnown}
 use Rattle.good.proofs.TableWalked.{headingRows, columnsIn, afterTable, BehindTable}
 use Rattle.good.proofs.TablesPassed.{pass-table}
@@ -141,6 +142,9 @@ pub record PassedHead (c : Context) (rs : List Record) (z : Context) (accession 
   pub head : Head c bib common
   pub passes : Passes (afterHead c bib common) rest z
 
+-- BIB and COMMON have their own theorems. What lies between them is what COMMON looks back at (`common-known`): the
+-- heading records of 001, and none of its own subentry. So the headings of COMMON come out new behind those of 001
+-- alone.
 pub pass-head : (c : Context) (rs : List Record) (z : Context) (accession : List ℕ) (number : ℕ) (rows : List Record)
     (n : ℕ)
     → Begun c accession number rows → Shown rows n → isDone (z .phase) ≡ true → Passes c rs z

@@ -19,7 +19,7 @@ use Rattle.rules_system.specs.System.{meets, announcedFault, trueCount, keyword
 use Rattle.rules.proofs.NoColumns.{when-none, whens-none}
 use Rattle.rules.proofs.ByKind.{clean-system}
 use Rattle.good.specs.Parts.{Record}
-use Rattle.good.specs.Marks.{Marked, Says}
+use Rattle.good.specs.Marks.{Marked, CountIs}
 use Rattle.good.proofs.Steps.{Takes, MarkedFor, takes-marked, marked-every}
 use Rattle.good.proofs.Marks.{counted-says, says-as, says-number, says-count}
 
@@ -134,8 +134,8 @@ pub record OpenRole (role : ℕ) : Type 0 where
   pub section : opensSection role ≡ true
 
 pub record Announces (role : ℕ) (r : Record) (a b : ℕ) : Type 0 where
-  pub first : Says (n1 (fieldsOf r)) a
-  pub second : Says (n2 (fieldsOf r)) b
+  pub first : CountIs (n1 (fieldsOf r)) a
+  pub second : CountIs (n2 (fieldsOf r)) b
   pub limit1 : meets (limitN1 role) a ≡ true
   pub limit2 : meets (limitN2 role a) b ≡ true
 
@@ -176,7 +176,7 @@ pub record EndRole (role : ℕ) : Type 0 where
   pub end : isEnd role ≡ true
 
 pub takes-end : (c : Context) (role : ℕ) (r : Record) → EndRole role → Takes c role r
-    → Says (n1 (fieldsOf r)) (trueCount (c .track) role) × (keywordsTrue (c .track) role ≡ true)
+    → CountIs (n1 (fieldsOf r)) (trueCount (c .track) role) × (keywordsTrue (c .track) role ≡ true)
 unfolding inForm
 takes-end c role r e t =
     let b = takes-rules c role r (e .system) t in
@@ -190,7 +190,7 @@ takes-end c role r e t =
     )
 
 pub end-takes : (c : Context) (role : ℕ) (r : Record) → EndRole role → MarkedFor c role r
-    → Says (n1 (fieldsOf r)) (trueCount (c .track) role) → keywordsTrue (c .track) role ≡ true → Takes c role r
+    → CountIs (n1 (fieldsOf r)) (trueCount (c .track) role) → keywordsTrue (c .track) role ≡ true → Takes c role r
 unfolding inForm
 end-takes c role r e m s k =
     rules-takes c role r (e .system) m

@@ -21,7 +21,8 @@ use Rattle.good.specs.Parts.{Record}
 use Rattle.good.proofs.Steps.{next}
 use Rattle.good.proofs.Moves.{Moved, quiet}
 use Rattle.good.proofs.Lists.{Long}
-use Rattle.good.proofs.Rows.{headings, endFor, RowAt}
+use Rattle.good.proofs.RowPlaces.{RowAt}
+use Rattle.good.proofs.Rows.{headings, endFor}
 use Rattle.good.proofs.Headings.{HeadingsKnown}
 use Rattle.good.proofs.TableKinds.{openFor, noFor, phaseBehind, lastFor, Limits}
 

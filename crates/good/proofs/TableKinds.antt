@@ -17,7 +17,7 @@ use Rattle.rules_state.specs.State.{Context, MOST-COLUMNS, MOST-LINES}
 use Rattle.rules_system.specs.Every.{expectedIdentification, expectedSequence}
 use Rattle.rules_system.specs.System.{limitN1, limitN2, meets, trueCount, keywordsTrue}
 use Rattle.good.specs.Parts.{Record, Table, Section, present}
-use Rattle.good.specs.Marks.{nameOf, Says}
+use Rattle.good.specs.Marks.{nameOf, CountIs}
 use Rattle.good.specs.Tables.{columnsOf, GoodTable, GoodCommonPart, GoodDataPart}
 use Rattle.good.proofs.Steps.{MarkedFor}
 use Rattle.good.proofs.Marks.{says-as}
@@ -132,7 +132,7 @@ GoodPart true part = GoodDataPart part
 pub record Pieces (d : Bool) (t : Table) (b : ℕ) : Type 0 where
   pub opens : nameOf (t .opening) ≡ openFor d
   pub table : GoodTable t
-  pub second : Says (n2 (fieldsOf (t .opening))) b
+  pub second : CountIs (n2 (fieldsOf (t .opening))) b
   pub limits : Limits d (columnsOf t) b
   pub many : 1 + length (t .lines) ≡ lastFor d b + 1
   pub lines : LinesGood d (columnsOf t) (t .lines)

@@ -18,7 +18,8 @@ use Rattle.good.proofs.Runs.{Run, afterRun}
 use Rattle.good.proofs.Moves.{Moved, moved-on, recount}
 use Rattle.good.proofs.Marks.{following-append, following-as}
 use Rattle.good.proofs.Systems.{identificationIn}
-use Rattle.good.proofs.Rows.{headings, units, values, roleFor, endFor, RowAt, NoEnd}
+use Rattle.good.proofs.RowPlaces.{RowAt, NoEnd}
+use Rattle.good.proofs.Rows.{headings, units, values, roleFor, endFor}
 use Rattle.good.proofs.Rowwise.{BehindRow, countRow}
 use Rattle.good.proofs.Units.{noCount}
 use Rattle.good.proofs.Lines.{no-line, afterLines, LinesRun, linesOf, BehindLines}

@@ -22,7 +22,8 @@ use Rattle.good.proofs.Steps.{next, Passes, next-pass}
 use Rattle.good.proofs.Runs.{only-role, either-left, either-right}
 use Rattle.good.proofs.Marks.{counted-says, says-as, counted2, following-left, following-right, following-as}
 use Rattle.good.proofs.Systems.{identificationIn, Here, free-takes, announces-takes, end-takes}
-use Rattle.good.proofs.Rows.{headings, units, values, endFor, row-pass, row-left, table-end-role}
+use Rattle.good.proofs.Rows.{headings, units, values, endFor}
+use Rattle.good.proofs.RowPlaces.{table-end-role, row-pass, row-left}
 use Rattle.good.proofs.Units.{units-good, behind-units}
 use Rattle.good.proofs.Headings.{behind-headings}
 use Rattle.good.proofs.HeadingsByColumn.{NewIn, headings-good}
@@ -34,8 +35,11 @@ use Rattle.good.proofs.TableContexts.{after-open, PartsKnown, known-ope
 use Rattle.good.proofs.TableWalked.{headingRows, columnsIn, afterHeadings, afterUnits, afterRows, afterTable}
 use Rattle.good.proofs.TableWalked.{Walked, walked-moved, walked-section, BehindTable, behind-none}
 use Rattle.good.proofs.TableWalked.{walked-behind}
-use Rattle.good.proofs.TablesPassed.{spread, last-least}
+use Rattle.good.proofs.TablesPassed.{rows-grouped, last-least}
 
+-- The rows of a good table make the walk: each row's theorem, read from right to left, gives its run in the context
+-- behind the row before, and that context is known because the earlier run is. The result is the same `Walked` that
+-- the other direction ends in.
 good-walked : (d : Bool) (c : Context) (t : Table) (b : ℕ) (first common : List Record) (pointers : List ℕ)
     → PartsKnown first common pointers c → Pieces d t b
     → Following (identificationIn c) (c .track .subentry .records + 3) (rowsOf t)
@@ -112,9 +116,9 @@ good-walked d c t b first common pointers k p f new found =
       lines-behind = behind-lines d a l 1 c3 (t .lines) at2 (lim .least) (b2 .blank) (omega arith) run3;
     }
 
-end-here : (d : Bool) (c : Context) (t : Table) (a b : ℕ) (r : Record) → Walked d c t a b
+marked-ending-here : (d : Bool) (c : Context) (t : Table) (a b : ℕ) (r : Record) → Walked d c t a b
     → Marked (identificationIn c) (c .track .subentry .records + 3 + length (rowsOf t)) r → Here (afterRows d c t) r
-end-here d c t a b r w m =
+marked-ending-here d c t a b r w m =
     let v = walked-moved d c t a b w in
     let x = v .records in
     let i : identificationIn (afterRows d c t) ≡ identificationIn c = rw (v .accession, v .number) in
@@ -122,9 +126,9 @@ end-here d c t a b r w m =
     (rowsOf t) = omega arith in
     rw (i, n) m
 
-pub regroup : (hs us ls : List Record) (e : Record) (ts : List Record)
+pub grouped-rows : (hs us ls : List Record) (e : Record) (ts : List Record)
     → hs ++ (us ++ ls) ++ (e ∷ []) ++ ts ≡ hs ++ (us ++ (ls ++ (e ∷ ts)))
-regroup hs us ls e ts = sym (spread hs us ls e ts)
+grouped-rows hs us ls e ts = sym (rows-grouped hs us ls e ts)
 
 -- a section that is good, with its marks and headings, in a context that knows the earlier parts
 pub record GoodHere (d : Bool) (c : Context) (part : Section Table) (first common : List Record) (pointers : List ℕ)
@@ -197,7 +201,7 @@ table-pass d c (present t) rest z first common pointers k due g p =
     let c4 = afterRows d c t in
     let many = pc .many in
     let te = end-takes c4 (endFor d) (t .ending) (end-for d)
-    (marked-end d c4 (t .ending) (end-here d c t a b (t .ending) w (end .0)))
+    (marked-end d c4 (t .ending) (marked-ending-here d c t a b (t .ending) w (end .0)))
     (says-as (n1 (fieldsOf (t .ending))) (length (rowsOf t)) (trueCount (c4 .track) (endFor d)) (pc .table .between)
     (sym (section-count d c4 ∙ walked-section d c t a b w)))
     (no-keywords d c4) in
@@ -211,7 +215,7 @@ table-pass d c (present t) rest z first common pointers k due g p =
       limit1 = l1;
       limit2 = l2;
     }))
-    (rw (regroup (t .headings) (t .units) (concat (t .lines)) (t .ending) rest)
+    (rw (grouped-rows (t .headings) (t .units) (concat (t .lines)) (t .ending) rest)
     (row-pass d headings a l 1 m (recordsFor a) c1 (t .headings)
     (t .units ++ (concat (t .lines) ++ (t .ending ∷ rest))) z
     (in-row d headings a l 1 c1 (w .opened .at) (lim .least)) (w .heads-long) (w .heads-run)

@@ -20,7 +20,8 @@ use Rattle.good.proofs.Steps.{Takes, next, Passes, takes-marked}
 use Rattle.good.proofs.Runs.{pass-only, pass-either, rest-of, Step, afterRun}
 use Rattle.good.proofs.Marks.{says-as, says-count, following-append, following-as}
 use Rattle.good.proofs.Systems.{identificationIn, Here, here-of, takes-announces, takes-end}
-use Rattle.good.proofs.Rows.{headings, units, values, roleFor, endFor, pass-row, table-end-role, phase-open}
+use Rattle.good.proofs.Rows.{headings, units, values, roleFor, endFor}
+use Rattle.good.proofs.RowPlaces.{table-end-role, phase-open, pass-row}
 use Rattle.good.proofs.Units.{units-good, behind-units}
 use Rattle.good.proofs.Headings.{behind-headings}
 use Rattle.good.proofs.HeadingsByColumn.{NewIn, headings-good}
@@ -65,13 +66,13 @@ pass-none d c r rs z first common pointers h s =
       passes = s .passes;
     }
 
-pub spread : (hs us ls : List Record) (e : Record) (ts : List Record)
+pub rows-grouped : (hs us ls : List Record) (e : Record) (ts : List Record)
     → hs ++ (us ++ (ls ++ (e ∷ ts))) ≡ hs ++ (us ++ ls) ++ (e ∷ []) ++ ts
-spread hs us ls e ts = simp append-assoc
+rows-grouped hs us ls e ts = simp append-assoc
 
-walked-end : (d : Bool) (c : Context) (t : Table) (a b : ℕ) (r : Record) → Walked d c t a b
+here-marked-ending : (d : Bool) (c : Context) (t : Table) (a b : ℕ) (r : Record) → Walked d c t a b
     → Here (afterRows d c t) r → Marked (identificationIn c) (c .track .subentry .records + 3 + length (rowsOf t)) r
-walked-end d c t a b r w m =
+here-marked-ending d c t a b r w m =
     let v = walked-moved d c t a b w in
     let x = v .records in
     let i : identificationIn (afterRows d c t) ≡ identificationIn c = rw (v .accession, v .number) in
@@ -135,7 +136,7 @@ table-of d c t ts z first common pointers k named takes w s =
             (following-append (identificationIn c) (c .track .subentry .records + 3) (rowsOf t) (t .ending ∷ [])
             (walked-following d c t a b w (identificationIn c) (c .track .subentry .records + 3) refl refl (heads .0)
             (us .0) (ls .0)) (
-              walked-end d c t a b (t .ending) w
+              here-marked-ending d c t a b (t .ending) w
                   (end-marked d (afterRows d c t) (t .ending)
                   (takes-marked (afterRows d c t) (endFor d) (t .ending) (s .takes))),
               tt,
@@ -149,6 +150,10 @@ pub last-least : (d : Bool) (a b : ℕ) → Limits d a b → 1 ≤ lastFor d b
 last-least false a b l = omega arith
 last-least true a b l = l .data-least refl
 
+-- The judge's counts say how many records each row takes, so the walk is cut in this order: the record that announces
+-- the section, headings, units, lines, END. Each cut (`pass-row`, `pass-lines`) hands on the rest of the walk, in the
+-- context behind the row. What all rows have shown is collected in `Walked`, and `table-of` reads the definition's
+-- clauses off it.
 pub pass-table : (d : Bool) (c : Context) (rs : List Record) (z : Context) (first common : List Record)
     (pointers : List ℕ)
     → PartsKnown first common pointers c → ((r : Record) → roleOf c r ≡ oneOf (openFor d) (noFor d) (nameOf r))
@@ -187,7 +192,7 @@ pass-table d c rs z first common pointers k due going none done p =
     (table-end-role c4 d values a l (1 + length rows) a e (b3 .at) (omega arith)) p4 in
     let t : Table = record { opening = r; headings = hs; units = us; lines = rows; ending = e } in
     rw (split1 ∙ ap (λ (x : List Record). hs ++ x) (split2 ∙ ap (λ (x : List Record). us ++ x)
-    (split3 ∙ ap (λ (x : List Record). concat rows ++ x) split4)) ∙ spread hs us (concat rows) e ts′)
+    (split3 ∙ ap (λ (x : List Record). concat rows ++ x) split4)) ∙ rows-grouped hs us (concat rows) e ts′)
     (table-of d c t ts′ z first common pointers k (s .named) (s .takes)
     (record {
       limits = lim;

@@ -47,7 +47,7 @@ end-is : (c : Context) → isDone (c .phase) ≡ true → endOf c ≡ accepted (
 unfolding endOf
 end-is c e = rw e
 
-passes-long : (c : Context) (rs : List Record) (z : Context) → Passes c rs z → All Long rs
+pub passes-long : (c : Context) (rs : List Record) (z : Context) → Passes c rs z → All Long rs
 unfolding Passes
 passes-long c [] z p = tt
 passes-long c (r ∷ rs) z p = (p .0 .0, passes-long (next c (roleOf c r) r) rs z (p .1))

@@ -1,6 +1,5 @@
 -- Headings of several sections together, and the pointers that may be named: by the cells of the heading records,
--- unused ones
--- too, as the judge looks at them, and by the lists of headings. Assumes nothing.
+-- unused ones too, as the judge looks at them, and by the lists of headings. Assumes nothing.
 use Prim.Native.Nat.{ℕ, zero, suc, _+_, _-_, _*_, _/_, _%_, _<_, _≤_}
 use mathlib.Core.Path.{_≡_, refl, sym, _∙_, ap}
 use mathlib.Core.Bool.{Bool, true, false, cond}
@@ -32,6 +31,8 @@ use Rattle.good.proofs.HeadingsByColumn.{NewIn}
 
 -- ---- nothing twice, by places
 
+-- `Once` goes along a list and remembers what it has passed; the judge looks back from a place. Both say of the place c
+-- that it differs from everything before the list, and from every lower place of it (`NewAt`).
 module _ {A : Type 0} (same : A → A → Bool) (g : ℕ → A) where
   abbrev NewAt : List A → ℕ → ℕ → Type 0
   NewAt before i c = (anyOf (same (g c)) before ≡ false) × ((x : ℕ) → i ≤ x → x < c → same (g c) (g x) ≡ false)

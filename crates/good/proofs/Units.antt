@@ -12,7 +12,7 @@ use Rattle.laws.specs.Walk.{All}
 use Rattle.laws.proofs.Search.{either}
 use Rattle.columns.specs.Columns.{recordsFor}
 use Rattle.columns.specs.Fields.{fieldAt, fieldsOf, inField}
-use Rattle.record.specs.Word.{isUnit, unitFault, blankTo}
+use Rattle.record.specs.Word.{isUnitWord, unitFault, blankTo}
 use Rattle.rules_state.specs.State.{Context, used}
 use Rattle.rules_state.specs.Role.{NOT-DUE, isUnit as unitRole}
 use Rattle.rules_state.specs.Fault.{fieldColumn}
@@ -25,7 +25,8 @@ use Rattle.good.specs.Tables.{cell, UnitCell, BlankCell, GoodUnits}
 use Rattle.good.proofs.Steps.{Takes, MarkedFor, marked-every}
 use Rattle.good.proofs.Runs.{Run, afterRun}
 use Rattle.good.proofs.Systems.{identificationIn}
-use Rattle.good.proofs.Rows.{units, roleFor, RowAt, NoEnd}
+use Rattle.good.proofs.RowPlaces.{RowAt, NoEnd}
+use Rattle.good.proofs.Rows.{units, roleFor}
 use Rattle.good.proofs.Rowwise.{RowFine, run-row, BehindRow, behind-row, countRow}
 use Rattle.good.proofs.Cells.{field-at, few, few-used, few-below, few-past, Cells, fine-used, fine-unused}
 use Rattle.good.proofs.Cells.{cells-here, used-there, unused-there}
@@ -58,25 +59,25 @@ noCount rest r = 0
 abbrev NothingKnown : Context → List Record → ℕ → Type 0
 NothingKnown c before m = Unit {0}
 
-units-to : (d : Bool) (c : Context) (rest : ℕ) (before : List Record) (m : ℕ) (r : Record)
+takes-units : (d : Bool) (c : Context) (rest : ℕ) (before : List Record) (m : ℕ) (r : Record)
     → c .track .table .rest ≡ rest → Unit {0} → Takes c (roleFor units d) r → UnitsFine rest before m r
 unfolding rule12Unit unitFault
-units-to d c rest before m r e k t =
+takes-units d c rest before m r e k t =
     let h = where-none (inField (unitFault (used (c .track))) (fieldsOf r)) fieldColumn 6 (unit-rule d c r t) in
     record {
       used = λ j l a.
-          not-false (isUnit (fieldAt r j))
+          not-false (isUnitWord (fieldAt r j))
           (rw (few-used (c .track) rest e, lt-ltb j (few rest) (few-below rest j l a), field-at r j l) at (h j l));
       unused = λ j l a.
           not-false (blankTo 11 (fieldAt r j))
           (rw (few-used (c .track) rest e, le-ltb j (few rest) (few-past rest j l a), field-at r j l) at (h j l));
     }
 
-units-from : (d : Bool) (c : Context) (rest : ℕ) (before : List Record) (m : ℕ) (r : Record)
+units-takes : (d : Bool) (c : Context) (rest : ℕ) (before : List Record) (m : ℕ) (r : Record)
     → c .track .table .rest ≡ rest → Unit {0} → MarkedFor c (roleFor units d) r → UnitsFine rest before m r
     → Takes c (roleFor units d) r
 unfolding rule12Unit unitFault
-units-from d c rest before m r e k mk f =
+units-takes d c rest before m r e k mk f =
     rule-unit d c r mk
     (none-where (inField (unitFault (used (c .track))) (fieldsOf r)) fieldColumn 6
     (λ j l.
@@ -92,17 +93,17 @@ run-units : (d : Bool) (n last line rest : ℕ) (c : Context) (identification : 
     → Run NoEnd (roleFor units d) c rs
     ↔ (All NoEnd rs × Following identification s rs × RowFine UnitsFine noCount rest before m rs)
 run-units d =
-    run-row d units noCount UnitsFine NothingKnown (units-to d) (units-from d) (λ c rest before m r e k l t. tt)
+    run-row d units noCount UnitsFine NothingKnown (takes-units d) (units-takes d) (λ c rest before m r e k l t. tt)
 
-cells-units : (rest : ℕ) (before : List Record) (m : ℕ) (rs : List Record)
+units-row-fine : (rest : ℕ) (before : List Record) (m : ℕ) (rs : List Record)
     → ((c : ℕ) → c < length rs * 6 → c < rest → UnitCell (cell rs c))
     → ((c : ℕ) → rest ≤ c → c < length rs * 6 → BlankCell (cell rs c))
     → RowFine UnitsFine noCount rest before m rs
 unfolding RowFine
-cells-units rest before m [] u v = tt
-cells-units rest before m (r ∷ rs) u v = (
+units-row-fine rest before m [] u v = tt
+units-row-fine rest before m (r ∷ rs) u v = (
   cells-here UnitCell BlankCell rest r rs u v,
-  cells-units (rest - 6) (before ++ (r ∷ [])) (m + 0) rs (used-there UnitCell rest r rs u)
+  units-row-fine (rest - 6) (before ++ (r ∷ [])) (m + 0) rs (used-there UnitCell rest r rs u)
       (unused-there BlankCell rest r rs v),
 )
 
@@ -126,7 +127,7 @@ units-good d n last line c rs a p l =
             },
           ),
       λ g.
-          w .1 (g .1 .no-end, g .0, cells-units n [] 0 rs (λ x y z. g .1 .used x z) (g .1 .unused)),
+          w .1 (g .1 .no-end, g .0, units-row-fine n [] 0 rs (λ x y z. g .1 .used x z) (g .1 .unused)),
     )
 
 pub behind-units : (d : Bool) (n last line rest : ℕ) (c : Context) (rs : List Record) → RowAt c d units n last line rest

@@ -11,47 +11,47 @@ use Rattle.columns.specs.Text.{isBlank}
 use Rattle.record.specs.Word.{equalTo, blankTo, isWord, pointerOf, badPointer}
 use Rattle.record.specs.Identifier.{BIB, NOBIB, ENDBIB, OTHER}
 use Rattle.good.specs.Parts.{Record, Keyword, Bib, Section, present, absent, textsOf}
-use Rattle.good.specs.Marks.{nameOf, Says, Once}
+use Rattle.good.specs.Marks.{nameOf, CountIs, Once}
 
 -- "BIB: columns 1-10 a keyword (word) or blank, 11 a pointer or blank, 12-66 text."
-abbrev pub placeOf : Record → List ℕ
-placeOf r = fieldAt r 0
+abbrev pub bibPlace : Record → List ℕ
+bibPlace r = fieldAt r 0
 
 -- any system identifier inside BIB is not due; "11 a pointer or blank"
 pub record Text (r : Record) : Type 0 where
   pub no-system : nameOf r ≡ OTHER
-  pub pointer : badPointer (placeOf r) ≡ false
+  pub pointer : badPointer (bibPlace r) ≡ false
 
 -- "Blank means no pointer."
 abbrev pub samePointer : ℕ → ℕ → Bool
 samePointer p q = not (isBlank p) && eqb p q
 
 abbrev pub pointersIn : List Record → List ℕ
-pointersIn rs = map (λ r. pointerOf (placeOf r)) rs
+pointersIn rs = map (λ r. pointerOf (bibPlace r)) rs
 
 -- one keyword and what stands under it: "a keyword (word)"; then columns 1-10 are blank; "no pointer twice under one
 -- keyword"
 pub record GoodKeyword (k : Keyword) : Type 0 where
-  pub word : isWord 10 (placeOf (k .first)) ≡ true
-  pub blank : All (λ r. blankTo 10 (placeOf r) ≡ true) (k .more)
+  pub word : isWord 10 (bibPlace (k .first)) ≡ true
+  pub blank : All (λ r. blankTo 10 (bibPlace r) ≡ true) (k .more)
   pub texts : All Text (k .first ∷ k .more)
   pub pointers : Once samePointer [] (pointersIn (k .first ∷ k .more))
 
 abbrev pub keywordPlaces : List Keyword → List (List ℕ)
-keywordPlaces ks = map (λ k. placeOf (k .first)) ks
+keywordPlaces ks = map (λ k. bibPlace (k .first)) ks
 
 -- "No keyword occurs twice in a section". "The first record has a keyword" by the parts: a section consists of keywords
 -- with their records. "BIB | keywords, at least 1 | records, at least N1", and each keyword has a record; "ENDBIB .. |
 -- records between"
 pub record GoodBib (b : Bib) : Type 0 where
   pub opens : nameOf (b .opening) ≡ BIB
-  pub keywords : Says (n1 (fieldsOf (b .opening))) (length (b .keywords))
+  pub keywords : CountIs (n1 (fieldsOf (b .opening))) (length (b .keywords))
   pub least : 1 ≤ length (b .keywords)
-  pub records : Says (n2 (fieldsOf (b .opening))) (length (textsOf (b .keywords)))
+  pub records : CountIs (n2 (fieldsOf (b .opening))) (length (textsOf (b .keywords)))
   pub each : All GoodKeyword (b .keywords)
   pub once : Once (equalTo 10) [] (keywordPlaces (b .keywords))
   pub ends : nameOf (b .ending) ≡ ENDBIB
-  pub between : Says (n1 (fieldsOf (b .ending))) (length (textsOf (b .keywords)))
+  pub between : CountIs (n1 (fieldsOf (b .ending))) (length (textsOf (b .keywords)))
 
 -- "BIB section or NOBIB"
 abbrev pub GoodBibPart : Section Bib → Type 0

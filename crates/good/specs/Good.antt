@@ -12,8 +12,8 @@ use Rattle.record.specs.System.{isEntryN1, isDate}
 use Rattle.record.specs.Expected.{accessionOf, identificationFor, entryAccession}
 use Rattle.rules_state.specs.State.{MOST-RECORDS}
 use Rattle.good.specs.Parts.{Record, Entry, recordsOf}
-use Rattle.good.specs.Marks.{Marked, nameOf, Says}
-use Rattle.good.specs.Subentries.{GoodFirst, GoodSubentry, Rising}
+use Rattle.good.specs.Marks.{Marked, nameOf, CountIs}
+use Rattle.good.specs.Subentries.{GoodFirst, GoodSubentry, NumbersRise}
 
 -- ---- a good entry
 
@@ -27,23 +27,23 @@ pub record GoodOpening (r : Record) : Type 0 where
 -- "ENDENTRY | subentries, NOSUBENT included"; "999 on ENDENTRY"; "99999 on .. ENDENTRY"
 pub record GoodEnding (accession : List ℕ) (subentries : ℕ) (r : Record) : Type 0 where
   pub named : nameOf r ≡ ENDENTRY
-  pub counted : Says (n1 (fieldsOf r)) subentries
+  pub counted : CountIs (n1 (fieldsOf r)) subentries
   pub marked : Marked (identificationFor accession 999) 99999 r
 
 -- SUBENTs and NOSUBENTs
 abbrev pub subentriesOf : Entry → ℕ
 subentriesOf e = 1 + length (e .later)
 
-pub record Good (e : Entry) : Type 0 where
+pub record GoodEntry (e : Entry) : Type 0 where
   pub opening : GoodOpening (e .opening)
   pub first : GoodFirst (accessionOf (e .opening)) (e .first)
   pub later : All (GoodSubentry (accessionOf (e .opening)) (e .first)) (e .later)
-  pub rising : Rising 1 (e .later)
+  pub rising : NumbersRise 1 (e .later)
   pub ending : GoodEnding (accessionOf (e .opening)) (subentriesOf e) (e .ending)
 
 -- "An entry is 1 to 20,000 records.": the bytes of its records, one behind the other
 pub record GoodBytes (s : List ℕ) : Type 0 where
   pub entry : Entry
-  pub good : Good entry
+  pub good : GoodEntry entry
   pub same : s ≡ joined (recordsOf entry)
   pub most : length (recordsOf entry) ≤ MOST-RECORDS

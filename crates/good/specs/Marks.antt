@@ -39,8 +39,8 @@ abbrev pub nameOf : Record → ℕ
 nameOf r = identifierOf (fieldAt r 0)
 
 -- "A count is blanks, then digits up to the last column.": the field says this number
-abbrev pub Says : List ℕ → ℕ → Type 0
-Says f n = countOf f ≡ Number n
+abbrev pub CountIs : List ℕ → ℕ → Type 0
+CountIs f n = countOf f ≡ Number n
 
 -- ---- lists in which nothing occurs twice
 

@@ -37,7 +37,7 @@ pub data Section (A : Type 0) : Type 0 where
   absent : Record → Section A
 
 -- 001: SUBENT, BIB section or NOBIB, COMMON section or NOCOMMON, ENDSUBENT
-pub record First : Type 0 where
+pub record Subentry001 : Type 0 where
   pub opening : Record
   pub bib : Section Bib
   pub common : Section Table
@@ -58,7 +58,7 @@ pub data Subentry : Type 0 where
 
 pub record Entry : Type 0 where
   pub opening : Record
-  pub first : First
+  pub first : Subentry001
   pub later : List Subentry
   pub ending : Record
 
@@ -84,13 +84,13 @@ tableRecords (present t) = t .opening ∷ (rowsOf t ++ (t .ending ∷ []))
 tableRecords (absent r) = r ∷ []
 
 -- the records between SUBENT and ENDSUBENT
-abbrev pub bodyOfFirst : First → List Record
+abbrev pub bodyOfFirst : Subentry001 → List Record
 bodyOfFirst s = bibRecords (s .bib) ++ tableRecords (s .common)
 
 abbrev pub bodyOf : Later → List Record
 bodyOf s = bibRecords (s .bib) ++ (tableRecords (s .common) ++ tableRecords (s .values))
 
-abbrev pub firstRecords : First → List Record
+abbrev pub firstRecords : Subentry001 → List Record
 firstRecords s = s .opening ∷ (bodyOfFirst s ++ (s .ending ∷ []))
 
 abbrev pub laterRecords : Subentry → List Record

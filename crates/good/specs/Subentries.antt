@@ -14,8 +14,8 @@ use Rattle.record.specs.Identifier.{SUBENT, NOSUBENT, ENDSUBENT}
 use Rattle.record.specs.System.{isSubentN1, isDate, subentryOf}
 use Rattle.record.specs.Expected.{identificationFor, subentIdentification, subentAccession}
 use Rattle.rules_state.specs.State.{LAST-SUBENTRY}
-use Rattle.good.specs.Parts.{Record, First, Later, Subentry, nosubent, subent, bodyOfFirst, bodyOf}
-use Rattle.good.specs.Marks.{Marked, Following, nameOf, Says, Once}
+use Rattle.good.specs.Parts.{Record, Subentry001, Later, Subentry, nosubent, subent, bodyOfFirst, bodyOf}
+use Rattle.good.specs.Marks.{Marked, Following, nameOf, CountIs, Once}
 use Rattle.good.specs.Bib.{GoodBibPart, pointersIn, textsOfPart}
 use Rattle.good.specs.Tables.{GoodCommonPart, GoodDataPart, headingsOfPart}
 
@@ -23,7 +23,7 @@ use Rattle.good.specs.Tables.{GoodCommonPart, GoodDataPart, headingsOfPa
 
 -- "SUBENT, NOSUBENT | 3 blanks, accession, 3 digits | date"; "the entry's accession throughout"; "Sequence 00001 on ..
 -- SUBENT and NOSUBENT"; "On .. SUBENT and NOSUBENT, number 5 compares bytes with the record's own N1"
-pub record Opens (name : ℕ) (accession : List ℕ) (r : Record) : Type 0 where
+pub record OpensSubentry (name : ℕ) (accession : List ℕ) (r : Record) : Type 0 where
   pub named : nameOf r ≡ name
   pub numbered : isSubentN1 (n1 (fieldsOf r)) ≡ true
   pub dated : isDate (n2 (fieldsOf r)) ≡ true
@@ -38,13 +38,13 @@ ownNumber r = subentryOf (n1 (fieldsOf r))
 pub record Encloses (accession : List ℕ) (opening : Record) (body : List Record) (ending : Record) : Type 0 where
   pub between : Following (identificationFor accession (ownNumber opening)) 2 body
   pub named : nameOf ending ≡ ENDSUBENT
-  pub counted : Says (n1 (fieldsOf ending)) (length body)
+  pub counted : CountIs (n1 (fieldsOf ending)) (length body)
   pub marked : Marked (identificationFor accession (ownNumber opening)) 99999 ending
 
 -- ---- headings and pointers
 
 -- "No heading with its pointer occurs twice within the COMMON of 001, this subentry's COMMON and its DATA together."
-abbrev pub headingsTogether : First → Later → List (List ℕ)
+abbrev pub headingsTogether : Subentry001 → Later → List (List ℕ)
 headingsTogether first s =
     headingsOfPart (first .common) ++ (headingsOfPart (s .common) ++ headingsOfPart (s .values))
 
@@ -57,8 +57,8 @@ pointersOn headings = map pointerOf headings
 
 -- "A pointer on a DATA heading must occur in BIB column 11 of this subentry or 001, or on a heading of either one's
 -- COMMON."
-abbrev pub pointersFor : First → Later → List ℕ
-pointersFor first s =
+abbrev pub pointersKnown : Subentry001 → Later → List ℕ
+pointersKnown first s =
     pointersIn (textsOfPart (s .bib))
     ++ (pointersIn (textsOfPart (first .bib))
     ++ (pointersOn (headingsOfPart (s .common)) ++ pointersOn (headingsOfPart (first .common))))
@@ -70,8 +70,8 @@ Occurs pointers h = isBlank (pointerOf h) ≡ false → anyOf (eqb (pointerOf h)
 -- ---- subentries
 
 -- "The first subentry is SUBENT 001."
-pub record GoodFirst (accession : List ℕ) (s : First) : Type 0 where
-  pub opens : Opens SUBENT accession (s .opening)
+pub record GoodFirst (accession : List ℕ) (s : Subentry001) : Type 0 where
+  pub opens : OpensSubentry SUBENT accession (s .opening)
   pub number : ownNumber (s .opening) ≡ 1
   pub bib : GoodBibPart (s .bib)
   pub common : GoodCommonPart (s .common)
@@ -79,17 +79,17 @@ pub record GoodFirst (accession : List ℕ) (s : First) : Type 0 where
   pub encloses : Encloses accession (s .opening) (bodyOfFirst s) (s .ending)
 
 -- a later one with its records
-pub record GoodLater (accession : List ℕ) (first : First) (s : Later) : Type 0 where
-  pub opens : Opens SUBENT accession (s .opening)
+pub record GoodLater (accession : List ℕ) (first : Subentry001) (s : Later) : Type 0 where
+  pub opens : OpensSubentry SUBENT accession (s .opening)
   pub bib : GoodBibPart (s .bib)
   pub common : GoodCommonPart (s .common)
   pub values : GoodDataPart (s .values)
   pub headings : NoneTwice (headingsTogether first s)
-  pub pointers : All (Occurs (pointersFor first s)) (headingsOfPart (s .values))
+  pub pointers : All (Occurs (pointersKnown first s)) (headingsOfPart (s .values))
   pub encloses : Encloses accession (s .opening) (bodyOf s) (s .ending)
 
-abbrev pub GoodSubentry : List ℕ → First → Subentry → Type 0
-GoodSubentry accession first (nosubent r) = Opens NOSUBENT accession r
+abbrev pub GoodSubentry : List ℕ → Subentry001 → Subentry → Type 0
+GoodSubentry accession first (nosubent r) = OpensSubentry NOSUBENT accession r
 GoodSubentry accession first (subent s) = GoodLater accession first s
 
 abbrev pub subentryNumber : Subentry → ℕ
@@ -97,7 +97,7 @@ subentryNumber (nosubent r) = ownNumber r
 subentryNumber (subent s) = ownNumber (s .opening)
 
 -- "Later numbers rise strictly, up to 998."
-unfoldable pub Rising : ℕ → List Subentry → Type 0
-Rising number [] = Unit
-Rising number (s ∷ ss) =
-    (number < subentryNumber s) × (subentryNumber s ≤ LAST-SUBENTRY) × Rising (subentryNumber s) ss
+unfoldable pub NumbersRise : ℕ → List Subentry → Type 0
+NumbersRise number [] = Unit
+NumbersRise number (s ∷ ss) =
+    (number < subentryNumber s) × (subentryNumber s ≤ LAST-SUBENTRY) × NumbersRise (subentryNumber s) ss

@@ -11,13 +11,13 @@ use Rattle.number.specs.declared.form.Form.{Form}
 use Rattle.number.specs.declared.form.Form.the-variants as Form
 use Rattle.columns.specs.Columns.{recordsFor}
 use Rattle.columns.specs.Fields.{fieldAt, fieldsOf, n1, n2}
-use Rattle.record.specs.Word.{isWord, badPointer, isUnit, blankTo}
+use Rattle.record.specs.Word.{isWord, badPointer, isUnitWord, blankTo}
 use Rattle.record.specs.Identifier.{COMMON, NOCOMMON, ENDCOMMON, DATA, NODATA, ENDDATA, isEnd}
 use Rattle.record.specs.System.{countOf, isCount, numberOf}
 use Rattle.record.specs.Numbers.{formAt, saysNumber, noValue}
 use Rattle.rules_state.specs.State.{MOST-COLUMNS, MOST-LINES}
 use Rattle.good.specs.Parts.{Record, Table, Section, present, absent, rowsOf}
-use Rattle.good.specs.Marks.{nameOf, Says}
+use Rattle.good.specs.Marks.{nameOf, CountIs}
 
 -- ---- rows
 
@@ -31,7 +31,7 @@ cell row c = fieldAt (getD row (c / 6) []) (c % 6)
 
 -- "With k = columns/6 rounded up": a row of n columns has k records; each used column has one property, and "unused
 -- fields are blank"; no record begins with a system identifier "beginning with END"
-pub record Row (Used Unused : List ℕ → Type 0) (n : ℕ) (row : List Record) : Type 0 where
+pub record GoodRow (Used Unused : List ℕ → Type 0) (n : ℕ) (row : List Record) : Type 0 where
   pub records : length row ≡ recordsFor n
   pub used : (c : ℕ) → c < n → Used (cell row c)
   pub unused : (c : ℕ) → n ≤ c → c < length row * 6 → Unused (cell row c)
@@ -44,14 +44,14 @@ pub record Heading (f : List ℕ) : Type 0 where
 
 -- "A unit is a word in ten columns, eleventh blank."
 abbrev pub UnitCell : List ℕ → Type 0
-UnitCell f = isUnit f ≡ true
+UnitCell f = isUnitWord f ≡ true
 
 abbrev pub BlankCell : List ℕ → Type 0
 BlankCell f = blankTo 11 f ≡ true
 
 -- "COMMON values are never blank. DATA values may be": none is malformed; what a field says is what it reads to
-abbrev pub Value : Bool → List ℕ → Type 0
-Value optional f = noValue optional (formAt f) ≡ false
+abbrev pub GoodValue : Bool → List ℕ → Type 0
+GoodValue optional f = noValue optional (formAt f) ≡ false
 
 abbrev pub BlankValue : List ℕ → Type 0
 BlankValue f = formAt f ≡ Form.Blank
@@ -60,17 +60,17 @@ abbrev pub isNumber : List Record → ℕ → Bool
 isNumber row c = saysNumber (formAt (cell row c))
 
 -- the numbers of a line
-unfoldable pub numbersIn : ℕ → List Record → ℕ
-numbersIn n row = howMany (isNumber row) 0 n
+unfoldable pub numbersInLine : ℕ → List Record → ℕ
+numbersInLine n row = howMany (isNumber row) 0 n
 
 abbrev pub GoodHeadings : ℕ → List Record → Type 0
-GoodHeadings n row = Row Heading BlankCell n row
+GoodHeadings n row = GoodRow Heading BlankCell n row
 
 abbrev pub GoodUnits : ℕ → List Record → Type 0
-GoodUnits n row = Row UnitCell BlankCell n row
+GoodUnits n row = GoodRow UnitCell BlankCell n row
 
 abbrev pub GoodValues : Bool → ℕ → List Record → Type 0
-GoodValues optional n row = Row (Value optional) BlankValue n row
+GoodValues optional n row = GoodRow (GoodValue optional) BlankValue n row
 
 -- the headings of a table, by column
 unfoldable pub headingsOf : Table → List (List ℕ)
@@ -85,14 +85,14 @@ pub record GoodTable (t : Table) : Type 0 where
   pub most : columnsOf t ≤ MOST-COLUMNS
   pub headings : GoodHeadings (columnsOf t) (t .headings)
   pub units : GoodUnits (columnsOf t) (t .units)
-  pub between : Says (n1 (fieldsOf (t .ending))) (length (rowsOf t))
+  pub between : CountIs (n1 (fieldsOf (t .ending))) (length (rowsOf t))
 
 -- "COMMON has exactly 3k records": headings, units and one line, and N2 says so
 pub record GoodCommon (t : Table) : Type 0 where
   pub opens : nameOf (t .opening) ≡ COMMON
   pub table : GoodTable t
   pub one : length (t .lines) ≡ 1
-  pub records : Says (n2 (fieldsOf (t .opening))) (3 * recordsFor (columnsOf t))
+  pub records : CountIs (n2 (fieldsOf (t .opening))) (3 * recordsFor (columnsOf t))
   pub values : All (GoodValues false (columnsOf t)) (t .lines)
   pub ends : nameOf (t .ending) ≡ ENDCOMMON
 
@@ -100,11 +100,11 @@ pub record GoodCommon (t : Table) : Type 0 where
 pub record GoodData (t : Table) : Type 0 where
   pub opens : nameOf (t .opening) ≡ DATA
   pub table : GoodTable t
-  pub lines : Says (n2 (fieldsOf (t .opening))) (length (t .lines))
+  pub lines : CountIs (n2 (fieldsOf (t .opening))) (length (t .lines))
   pub least : 1 ≤ length (t .lines)
   pub most : length (t .lines) ≤ MOST-LINES
   pub values : All (GoodValues true (columnsOf t)) (t .lines)
-  pub numbers : All (λ row. 1 ≤ numbersIn (columnsOf t) row) (t .lines)
+  pub numbers : All (λ row. 1 ≤ numbersInLine (columnsOf t) row) (t .lines)
   pub ends : nameOf (t .ending) ≡ ENDDATA
 
 -- "COMMON section or NOCOMMON", "DATA section or NODATA"

@@ -6,7 +6,7 @@ use mathlib.Core.List.{List, [], _∷_}
 use lib.ListN.{length}
 use Rattle.rules_state.specs.declared.state.Totals.{Totals}
 use Rattle.good.specs.Parts.{Record, Bib, Table, Section, present, absent, Subentry, nosubent, subent, Entry}
-use Rattle.good.specs.Tables.{columnsOf, numbersIn}
+use Rattle.good.specs.Tables.{columnsOf, numbersInLine}
 use Rattle.good.specs.Good.{subentriesOf}
 
 abbrev pub keywordsIn : Section Bib → ℕ
@@ -19,7 +19,7 @@ linesIn (absent r) = 0
 
 unfoldable pub numbersOfLines : ℕ → List (List Record) → ℕ
 numbersOfLines n [] = 0
-numbersOfLines n (row ∷ rows) = numbersIn n row + numbersOfLines n rows
+numbersOfLines n (row ∷ rows) = numbersInLine n row + numbersOfLines n rows
 
 abbrev pub numbersOf : Section Table → ℕ
 numbersOf (present t) = numbersOfLines (columnsOf t) (t .lines)

@@ -38,8 +38,8 @@ use Rattle.questions.specs.Row.{rowOf}
 use Rattle.questions_places.specs.Place.{COMMON-SECTION, DATA-SECTION, fieldsAt, shapeOf, headingPlace, unitPlace}
 use Rattle.questions_places.specs.Place.{fieldOf, byteOf}
 use Rattle.questions.specs.Ask.{sectionIn, noSection, noLine, noColumn, sectionRefusals, valueRefusal}
-use Rattle.questions.specs.Ask.{valueBy, valueOf, columnRefusal, headingBy, headingOf, unitBy, unitOf}
-use Rattle.inside.specs.Inside.{Opens, isSaid, ValueAnswered, HeadingAnswered, UnitAnswered}
+use Rattle.questions.specs.Ask.{valueBy, valueAsked, columnRefusal, headingBy, headingAsked, unitBy, unitAsked}
+use Rattle.inside.specs.Inside.{OpensSection, isSaid, ValueAnswered, HeadingAnswered, UnitAnswered}
 use Rattle.questions.proofs.Refusals.{section-none}
 use Rattle.inside.proofs.Contexts.{walked}
 use Rattle.inside.proofs.Laid.{rowRole}
@@ -60,7 +60,7 @@ sectionOf true = table
 sectionOf false = common
 
 -- a section that opens is one of the two
-which : (s : List ℕ) (accepted : Accepted s) (n section a : ℕ) → Opens s n section a
+pub which : (s : List ℕ) (accepted : Accepted s) (n section a : ℕ) → OpensSection s n section a
     → (b : Bool) × ((section ≡ sectionNo b) × Opening s n (sectionOf b) a)
 which s accepted n section a o = by-tests (eqb section 1) refl (eqb section 2) refl (o .role)
   where
@@ -112,7 +112,7 @@ module _ (s : List ℕ) (accepted : Accepted s) (n : ℕ) (b : Bool) (a : ℕ) (
   pub at-record : at .0 ≡ suc a
   at-record = rw at-named (row-names s accepted n (sectionOf b) a o)
 
-  begun : Opened b s a
+  pub begun : Opened b s a
   begun = opened b s (length s / 81) (walked s accepted) a (o .there) (by-section b (o .role))
     where
       by-section : (b : Bool) → roleAt s a ≡ opener (sectionOf b) → roleAt s a ≡ sectionRole b
@@ -268,7 +268,7 @@ module _ (s : List ℕ) (accepted : Accepted s) (n : ℕ) (b : Bool) (a : ℕ) (
 
 -- THE THEOREM, for values
 pub value-answered : ValueAnswered
-unfolding valueOf
+unfolding valueAsked
 value-answered s n section line column accepted i =
     let (b, (e, o)) = which s accepted n section (i .index) (i .opens) in
     rw e
@@ -282,13 +282,13 @@ value-answered s n section line column accepted i =
 
 -- for headings and for units
 pub heading-answered : HeadingAnswered
-unfolding headingOf
+unfolding headingAsked
 heading-answered s n section column accepted i =
     let (b, (e, o)) = which s accepted n section (i .index) (i .opens) in
     rw e (heading-there s accepted n b (i .index) o column (i .from) (i .to))
 
 pub unit-answered : UnitAnswered
-unfolding unitOf
+unfolding unitAsked
 unit-answered s n section column accepted i =
     let (b, (e, o)) = which s accepted n section (i .index) (i .opens) in
     rw e (unit-there s accepted n b (i .index) o column (i .from) (i .to))

@@ -20,7 +20,8 @@ use Rattle.rules_state.specs.declared.state.Phase.the-variants.{InCommon, InDat
 use Rattle.rules_state.specs.declared.state.Table.{Table}
 use Rattle.rules_state.specs.declared.state.Track.{Track}
 use Rattle.rules_state.specs.State.{Context, HEADINGS, UNITS, VALUES}
-use Rattle.rules_state.specs.Role.{COMMON-HEADING, COMMON-UNIT, COMMON-VALUE, DATA-HEADING, DATA-UNIT, DATA-VALUE, NOT-DUE}
+use Rattle.rules_state.specs.Role.{COMMON-HEADING, COMMON-UNIT, COMMON-VALUE, DATA-HEADING, DATA-UNIT, DATA-VALUE}
+use Rattle.rules_state.specs.Role.{NOT-DUE}
 use Rattle.rules_state.specs.Role.{allRead, tableRole, roleIn}
 use Rattle.rules_section.specs.Values.{valuesFor}
 use Rattle.entry_next.specs.Counted.{headingsRead, unitsRead, valuesRead, afterInside, trackAfter}

@@ -10,3 +10,7 @@ pub mod RecordsFrom
 pub mod TextsSeen
 pub mod PassageAnswered
 pub mod Answered
+pub mod NotRefused
+pub mod Asked
+pub mod PassageAsked
+pub mod Placed

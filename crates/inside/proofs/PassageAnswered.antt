@@ -16,7 +16,7 @@ use Rattle.columns.specs.Text.{isBlank}
 use Rattle.record.specs.Word.{equalTo, pointerOf}
 use Rattle.columns.specs.declared.columns.RecordNo.{RecordNo}
 use Rattle.record.proofs.EqualColumns.{equal-both, equal-taken}
-use Rattle.rules_section.specs.Text.{placeAt}
+use Rattle.rules_section.specs.Text.{placeInPart}
 use Rattle.entry.specs.Verdict.{judgeOf, Accepted}
 use Rattle.entry.specs.Answer.{firstOf, refusal}
 use Rattle.questions.specs.declared.row.Row.{Row}
@@ -26,7 +26,7 @@ use Rattle.questions_places.specs.Place.{firstByte}
 use Rattle.questions_places.specs.Passage.{textRecord, textAt, hasKeyword, isKeyword, begins, beginsWith}
 use Rattle.questions_places.specs.Passage.{firstText, passageUnder, passageOf}
 use Rattle.questions.specs.Ask.{noSection, noPassage, sectionRefusals, passageRefusal, passageBy}
-use Rattle.questions.specs.Ask.{passageAnswer}
+use Rattle.questions.specs.Ask.{passageAsked}
 use Rattle.questions.proofs.Refusals.{section-none}
 use Rattle.questions.proofs.RowChanges.{bib}
 use Rattle.inside.specs.Inside.{TextOf, InsidePassage, RunFrom, PassageAnswered}
@@ -47,23 +47,23 @@ module _ (s : List ℕ) (accepted : Accepted s) (n : ℕ) (keyword : List ℕ) (
   k = x .keyword-at
 
   -- no record before k has its keyword
-  keyword-first : (j : ℕ) → TextOf s n j → j < k → isKeyword keyword (placeAt s j) ≡ false
-  keyword-first j t h = by-test (equalTo 10 (placeAt s j) keyword) refl
+  keyword-first : (j : ℕ) → TextOf s n j → j < k → isKeyword keyword (placeInPart s j) ≡ false
+  keyword-first j t h = by-test (equalTo 10 (placeInPart s j) keyword) refl
     where
-      by-test : (b : Bool) → equalTo 10 (placeAt s j) keyword ≡ b → isKeyword keyword (placeAt s j) ≡ false
+      by-test : (b : Bool) → equalTo 10 (placeInPart s j) keyword ≡ b → isKeyword keyword (placeInPart s j) ≡ false
       by-test true e =
           let u = x .under in
           differ
-          (sym (equal-both 10 (placeAt s k) (placeAt s j) keyword (x .same) e)
+          (sym (equal-both 10 (placeInPart s k) (placeInPart s j) keyword (x .same) e)
           ∙ keyword-once s accepted n k j (u .text) t h (u .keyword))
-      by-test false e = and-none (hasKeyword (placeAt s j)) (equalTo 10 (placeAt s j) keyword) e
+      by-test false e = and-none (hasKeyword (placeInPart s j)) (equalTo 10 (placeInPart s j) keyword) e
 
   -- no record from k on, before i, begins with its pointer
-  pointer-first : (j : ℕ) → k ≤ j → j < i → beginsWith pointer (placeAt s j) ≡ false
+  pointer-first : (j : ℕ) → k ≤ j → j < i → beginsWith pointer (placeInPart s j) ≡ false
   pointer-first j h l =
       let u = x .under in
-      let f = placeAt s i in
-      let g = placeAt s j in
+      let f = placeInPart s i in
+      let g = placeInPart s j in
       let e : pointerOf f ≡ pointer = eqb-true (pointerOf f) pointer (and-right (begins f) _ (x .begun)) in
       let filled : not (isBlank (pointerOf f)) ≡ true =
       or-other (hasKeyword f) _ (and-left (begins f) _ (x .begun)) (u .last i (omega arith) (omega arith)) in
@@ -88,7 +88,7 @@ module _ (s : List ℕ) (accepted : Accepted s) (n : ℕ) (keyword : List ℕ) (
   section-record : section .0 ≡ suc a
   section-record = row-names s accepted n bib a o
 
-  text-at : (m : ℕ) → m < N → textAt s section m ≡ placeAt s (suc a + m)
+  text-at : (m : ℕ) → m < N → textAt s section m ≡ placeInPart s (suc a + m)
   text-at m h =
       let t = text-laid s accepted n a o m h .there in
       let e : textRecord section m .0 ≡ suc (suc a + m) = omega (arith, section-record) in
@@ -110,7 +110,7 @@ module _ (s : List ℕ) (accepted : Accepted s) (n : ℕ) (keyword : List ℕ) (
       ((omega arith, omega arith), (omega arith, omega arith))
 
   -- what holds of a record holds of the text at its place
-  text-test : (test : List ℕ → Bool) (b : Bool) (m j : ℕ) → m < N → suc a + m ≡ j → test (placeAt s j) ≡ b
+  text-test : (test : List ℕ → Bool) (b : Bool) (m j : ℕ) → m < N → suc a + m ≡ j → test (placeInPart s j) ≡ b
       → test (textAt s section m) ≡ b
   text-test test b m j h e t = rw (text-at m h, e) t
 
@@ -201,15 +201,15 @@ module _ (s : List ℕ) (accepted : Accepted s) (n : ℕ) (keyword : List ℕ) (
       let f = first-byte in
       omega arith
 
-  answered : (passageAnswer s n keyword pointer .answer .number ≡ 0)
-      × ((passageAnswer s n keyword pointer .first ≡ i * 81)
-      × (passageAnswer s n keyword pointer .length ≡ (end - p) * 81))
-  unfolding passageAnswer passageBy
+  answered : (passageAsked s n keyword pointer .answer .number ≡ 0)
+      × ((passageAsked s n keyword pointer .first ≡ i * 81)
+      × (passageAsked s n keyword pointer .length ≡ (end - p) * 81))
+  unfolding passageAsked passageBy
   answered =
       rw (passage-found, none-refused, le-leb _ _ lies) (refl, (first-byte, refl))
 
   -- the records of the run do not begin another
-  run-inside : (j : ℕ) → i < j → j < suc a + end → TextOf s n j × (begins (placeAt s j) ≡ false)
+  run-inside : (j : ℕ) → i < j → j < suc a + end → TextOf s n j × (begins (placeInPart s j) ≡ false)
   run-inside j h l =
       let ((d, e), (b, c)) = places in
       let (v, w) = end-bounds in
@@ -221,14 +221,14 @@ module _ (s : List ℕ) (accepted : Accepted s) (n : ℕ) (keyword : List ℕ) (
       (rw z at (text-laid s accepted n a o m (omega arith)), rw (text-at m (omega arith), z) at none)
 
   -- the one behind it does
-  run-ends : TextOf s n (suc a + end) → begins (placeAt s (suc a + end)) ≡ true
+  run-ends : TextOf s n (suc a + end) → begins (placeInPart s (suc a + end)) ≡ true
   run-ends t =
       let ((d, e), (b, c)) = places in
       let l = text-behind s accepted n a o (suc a + end) t .1 in
       let here = first-holds (λ m. begins (textAt s section m)) (p + 1) (N - (p + 1)) (omega arith) in
       rw (text-at end (omega arith)) at here
 
-  run-from : RunFrom s n i (passageAnswer s n keyword pointer)
+  run-from : RunFrom s n i (passageAsked s n keyword pointer)
   run-from =
       let ((d, e), (b, c)) = places in
       let (v, w) = end-bounds in
@@ -251,10 +251,10 @@ begun-inside s n i accepted t e =
         record {
           index = i;
           text = t;
-          begun = rw (e, eq-eqb (pointerOf (placeAt s i)) (pointerOf (placeAt s i)) refl);
+          begun = rw (e, eq-eqb (pointerOf (placeInPart s i)) (pointerOf (placeInPart s i)) refl);
           keyword-at = k;
           under = u;
-          same = equal-taken 10 (placeAt s k);
+          same = equal-taken 10 (placeInPart s k);
         },
         refl,
       ),

@@ -14,10 +14,10 @@ use Rattle.laws.proofs.Listing.{any-none}
 use Rattle.columns.specs.Fields.{fieldsOf}
 use Rattle.record.specs.Word.{equalTo, pointerOf}
 use Rattle.columns.proofs.ReadColumns.{field-of}
-use Rattle.rules_section.specs.Text.{placeAt, placesOf, pointersOf, pointerAt}
+use Rattle.rules_section.specs.Text.{placeInPart, placesOf, pointersOf, pointerAt}
 
 -- columns 1 to 11 are the first field
-pub place-field : (s : List ℕ) (i : ℕ) → getD (fieldsOf (blockAt 81 s i)) 0 [] ≡ placeAt s i
+pub place-field : (s : List ℕ) (i : ℕ) → getD (fieldsOf (blockAt 81 s i)) 0 [] ≡ placeInPart s i
 place-field s i =
     let r = drop (i * 81) s in
     field-of (take 81 r) 0 (omega arith) ∙ take-take 11 81 r (omega arith)
@@ -47,7 +47,7 @@ module _ (s : List ℕ) (b e : ℕ) (fits : (b + e) * 81 ≤ length s) where
       omega arith
 
   -- columns 1 to 11 of the record q of them
-  record-place : (q : ℕ) → q < e → placeAt (recordsFrom s b e) q ≡ placeAt s (b + q)
+  record-place : (q : ℕ) → q < e → placeInPart (recordsFrom s b e) q ≡ placeInPart s (b + q)
   record-place q h =
       let l = drop (b * 81) s in
       let r = drop ((b + q) * 81) s in
@@ -59,7 +59,7 @@ module _ (s : List ℕ) (b e : ℕ) (fits : (b + e) * 81 ≤ length s) where
       ∙ ap (take w) (drop-drop (q * 81) (b * 81) s ∙ ap (λ (n : ℕ). drop n s) y) in
       ap (take 11) here ∙ take-take 11 w r (omega arith)
 
-  record-pointer : (q : ℕ) → q < e → pointerAt (recordsFrom s b e) q ≡ pointerOf (placeAt s (b + q))
+  record-pointer : (q : ℕ) → q < e → pointerAt (recordsFrom s b e) q ≡ pointerOf (placeInPart s (b + q))
   record-pointer q h =
       let part = recordsFrom s b e in
       sym (getD-take 11 (drop (q * 81) part) 10 0 (omega arith) ∙ getD-drop (q * 81) part 10 0)
@@ -68,7 +68,7 @@ module _ (s : List ℕ) (b e : ℕ) (fits : (b + e) * 81 ≤ length s) where
 -- none of them has these ten columns, or this pointer
 module _ (s : List ℕ) (b e : ℕ) (fits : (b + e) * 81 ≤ length s) where
   pub not-among : (f : List ℕ) → anyOf (equalTo 10 f) (placesOf (recordsFrom s b e)) ≡ false → (q : ℕ) → q < e
-      → equalTo 10 f (placeAt s (b + q)) ≡ false
+      → equalTo 10 f (placeInPart s (b + q)) ≡ false
   unfolding placesOf
   not-among f none q h =
       let n = records-count s b e fits in
@@ -76,7 +76,7 @@ module _ (s : List ℕ) (b e : ℕ) (fits : (b + e) * 81 ≤ length s) where
       (any-none (equalTo 10 f) _ 0 (length (recordsFrom s b e) / 81) none q (omega arith) (omega arith))
 
   pub not-pointed : (p : ℕ) → anyOf (eqb p) (pointersOf (recordsFrom s b e)) ≡ false → (q : ℕ) → q < e
-      → eqb p (pointerOf (placeAt s (b + q))) ≡ false
+      → eqb p (pointerOf (placeInPart s (b + q))) ≡ false
   unfolding pointersOf
   not-pointed p none q h =
       let n = records-count s b e fits in

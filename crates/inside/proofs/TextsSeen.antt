@@ -22,7 +22,8 @@ use Rattle.rules_state.specs.declared.fault.Fault.the-variants.{Fine}
 use Rattle.rules_state.specs.declared.state.Track.{Track}
 use Rattle.rules_state.specs.State.{Seen, Context}
 use Rattle.rules_state.specs.Role.{TEXT}
-use Rattle.rules_section.specs.Text.{placeAt, placesOf, pointersOf, keywordFault, rule10, pointerRepeated, rule11Text}
+use Rattle.rules_section.specs.Text.{placeInPart, placesOf, pointersOf, keywordFault, rule10, pointerRepeated}
+use Rattle.rules_section.specs.Text.{rule11Text}
 use Rattle.rules.specs.Order.{faultOf}
 use Rattle.rules.specs.Clean.{Clean}
 use Rattle.rules.proofs.NoColumns.{when-none}
@@ -119,12 +120,12 @@ module _ (s : List ℕ) (accepted : Accepted s) where
       let e : suc a + suc m ≡ suc i = omega arith in
       let t = text-laid s accepted n a o m (omega arith) in
       rw (e, context-next s i)
-      (bib-joined (contextAt s i) (blockAt 81 s i) (t .role) (placeAt s i) (place-field s i)
+      (bib-joined (contextAt s i) (blockAt 81 s i) (t .role) (placeInPart s i) (place-field s i)
       ∙ ap (λ (x : List ℕ). x ++ blockAt 81 s i) (bib-seen n a o m (omega arith)) ∙ records-next s (suc a) m)
 
   -- "No keyword occurs twice in a section"
-  pub keyword-once : (n i j : ℕ) → TextOf s n i → TextOf s n j → j < i → hasKeyword (placeAt s i) ≡ true
-      → equalTo 10 (placeAt s i) (placeAt s j) ≡ false
+  pub keyword-once : (n i j : ℕ) → TextOf s n i → TextOf s n j → j < i → hasKeyword (placeInPart s i) ≡ true
+      → equalTo 10 (placeInPart s i) (placeInPart s j) ≡ false
   keyword-once n i j t u l k =
       let b = text-placed s accepted n i t in
       let a = b .at in
@@ -132,7 +133,7 @@ module _ (s : List ℕ) (accepted : Accepted s) where
       let x = text-behind s accepted n a (b .opening) j u .0 in
       let c = contextAt s i in
       let r = blockAt 81 s i in
-      let f = placeAt s i in
+      let f = placeInPart s i in
       let h = b .here in
       let none =
       fine-keyword (c .track) (c .seen) (roleAt s i) (fieldsOf r) r (fine-at i (t .there)) (t .role) f
@@ -145,35 +146,36 @@ module _ (s : List ℕ) (accepted : Accepted s) where
       (not-among s (suc a) m room f (rw seen at none) (j - suc a) (omega arith))
 
   -- the records under a keyword
-  under-seen : (n k e : ℕ) → TextOf s n k → hasKeyword (placeAt s k) ≡ true
-      → ((j : ℕ) → k < j → j ≤ k + e → TextOf s n j × (hasKeyword (placeAt s j) ≡ false))
+  under-seen : (n k e : ℕ) → TextOf s n k → hasKeyword (placeInPart s k) ≡ true
+      → ((j : ℕ) → k < j → j ≤ k + e → TextOf s n j × (hasKeyword (placeInPart s j) ≡ false))
       → contextAt s (suc k + e) .seen .under ≡ recordsFrom s k (suc e)
   under-seen n k zero t h rest =
       let e : suc k + 0 ≡ suc k = omega arith in
       rw (e, context-next s k)
-      (under-begun (contextAt s k) (blockAt 81 s k) (t .role) (placeAt s k) (place-field s k)
-      (not-true (blankTo 10 (placeAt s k)) h))
+      (under-begun (contextAt s k) (blockAt 81 s k) (t .role) (placeInPart s k) (place-field s k)
+      (not-true (blankTo 10 (placeInPart s k)) h))
   under-seen n k (suc e) t h rest =
       let i = suc k + e in
       let x : suc k + suc e ≡ suc i = omega arith in
       let y : k + suc e ≡ i = omega arith in
       let (u, b) = rest i (omega arith) (omega arith) in
       rw (x, context-next s i)
-      (under-joined (contextAt s i) (blockAt 81 s i) (u .role) (placeAt s i) (place-field s i)
-      (not-false (blankTo 10 (placeAt s i)) b)
+      (under-joined (contextAt s i) (blockAt 81 s i) (u .role) (placeInPart s i) (place-field s i)
+      (not-false (blankTo 10 (placeInPart s i)) b)
       ∙ ap (λ (p : List ℕ). p ++ blockAt 81 s i)
       (under-seen n k e t h (λ j p q. rest j p (omega arith)))
       ∙ rw y at (records-next s k (suc e)))
 
   -- "no pointer twice under one keyword"
   pub pointer-once : (n k i j : ℕ) → Under s n k i → TextOf s n i → k ≤ j → j < i
-      → isBlank (pointerOf (placeAt s i)) ≡ false → eqb (pointerOf (placeAt s i)) (pointerOf (placeAt s j)) ≡ false
+      → isBlank (pointerOf (placeInPart s i)) ≡ false
+      → eqb (pointerOf (placeInPart s i)) (pointerOf (placeInPart s j)) ≡ false
   pointer-once n k i j u t p l q =
       let e = i - suc k in
       let x : suc k + e ≡ i = omega arith in
       let c = contextAt s i in
       let r = blockAt 81 s i in
-      let f = placeAt s i in
+      let f = placeInPart s i in
       let none =
       fine-pointer (c .track) (c .seen) (roleAt s i) (fieldsOf r) r (fine-at i (t .there)) (t .role) f
       (place-field s i) (not-false (blankTo 10 f) (u .last i (omega arith) (omega arith))) q in
@@ -186,7 +188,7 @@ module _ (s : List ℕ) (accepted : Accepted s) where
       let z : k + (j - k) ≡ j = omega arith in
       rw z at (not-pointed s k (suc e) room (pointerOf f) (rw seen at none) (j - k) (omega arith))
 
-  own : (n i : ℕ) → TextOf s n i → hasKeyword (placeAt s i) ≡ true → Under s n i i
+  own : (n i : ℕ) → TextOf s n i → hasKeyword (placeInPart s i) ≡ true → Under s n i i
   own n i t e = record { text = t; keyword = e; before = omega arith; last = λ j p q. absurd (omega arith) }
 
   -- "The first record has a keyword", and each of the others stands under its own or the last before it
@@ -198,16 +200,16 @@ module _ (s : List ℕ) (accepted : Accepted s) where
       let t = text-laid s accepted n a o 0 h in
       let z = texts-stand s accepted n a o 0 (omega arith) .before in
       let k =
-      fine-first (c .track) (c .seen) (roleAt s i) (fieldsOf r) r (fine-at i (t .there)) (t .role) (placeAt s i)
+      fine-first (c .track) (c .seen) (roleAt s i) (fieldsOf r) r (fine-at i (t .there)) (t .role) (placeInPart s i)
       (place-field s i) z in
       (i, own n i t k)
   under-at n a o (suc m) h =
       let i = suc a + suc m in
       let (k, u) = under-at n a o m (omega arith) in
-      by-test (text-laid s accepted n a o (suc m) h) k u (hasKeyword (placeAt s i)) refl
+      by-test (text-laid s accepted n a o (suc m) h) k u (hasKeyword (placeInPart s i)) refl
     where
       by-test : TextOf s n (suc a + suc m) → (k : ℕ) → Under s n k (suc a + m) → (b : Bool)
-          → hasKeyword (placeAt s (suc a + suc m)) ≡ b → (k : ℕ) × Under s n k (suc a + suc m)
+          → hasKeyword (placeInPart s (suc a + suc m)) ≡ b → (k : ℕ) × Under s n k (suc a + suc m)
       by-test t k u true e = (suc a + suc m, own n (suc a + suc m) t e)
       by-test t k u false e = (
         k,

@@ -17,14 +17,14 @@ use Rattle.record.specs.Word.{equalTo, pointerOf}
 use Rattle.record.specs.Identifier.{COMMON, DATA}
 use Rattle.columns.specs.declared.columns.LineNo.{LineNo}
 use Rattle.rules_system.specs.System.{countN1, countN2}
-use Rattle.rules_section.specs.Text.{placeAt}
+use Rattle.rules_section.specs.Text.{placeInPart}
 use Rattle.rules_state.specs.Role.{TEXT, NOT-DUE}
 use Rattle.entry.specs.Verdict.{Accepted}
 use Rattle.entry.specs.Contexts.{contextAt, roleAt}
 use Rattle.questions_places.specs.Place.{COMMON-SECTION, DATA-SECTION}
 use Rattle.questions.specs.declared.ask.PartAnswer.{PartAnswer}
 use Rattle.questions_places.specs.Passage.{hasKeyword, begins, beginsWith}
-use Rattle.questions.specs.Ask.{valueOf, headingOf, unitOf, passageAnswer}
+use Rattle.questions.specs.Ask.{valueAsked, headingAsked, unitAsked, passageAsked}
 
 -- ---- tables
 
@@ -33,7 +33,7 @@ abbrev pub openedBy : ℕ → ℕ
 openedBy section = cond (eqb section COMMON-SECTION) COMMON (cond (eqb section DATA-SECTION) DATA NOT-DUE)
 
 -- the record with the index i opens that section of the subentry n
-pub record Opens (s : List ℕ) (n section i : ℕ) : Type 0 where
+pub record OpensSection (s : List ℕ) (n section i : ℕ) : Type 0 where
   pub there : i < length s / 81
   pub role : roleAt s i ≡ openedBy section
   pub subentry : contextAt s i .track .subentry .number ≡ n
@@ -41,21 +41,21 @@ pub record Opens (s : List ℕ) (n section i : ℕ) : Type 0 where
 -- "columns, 1-18": the columns that a section's own record announces
 pub record InsideColumn (s : List ℕ) (n section column : ℕ) : Type 0 where
   pub index : ℕ
-  pub opens : Opens s n section index
+  pub opens : OpensSection s n section index
   pub from : 1 ≤ column
   pub to : column ≤ countN1 (fieldsOf (blockAt 81 s index))
 
 -- "lines, 1-20,000"; "COMMON has line 1 only"
-abbrev pub linesIn : ℕ → List ℕ → ℕ
-linesIn section r = cond (eqb section COMMON-SECTION) 1 (countN2 (fieldsOf r))
+abbrev pub linesAnnounced : ℕ → List ℕ → ℕ
+linesAnnounced section r = cond (eqb section COMMON-SECTION) 1 (countN2 (fieldsOf r))
 
 pub record InsideValue (s : List ℕ) (n section : ℕ) (line : LineNo) (column : ℕ) : Type 0 where
   pub index : ℕ
-  pub opens : Opens s n section index
+  pub opens : OpensSection s n section index
   pub column-from : 1 ≤ column
   pub column-to : column ≤ countN1 (fieldsOf (blockAt 81 s index))
   pub line-from : 1 ≤ line .0
-  pub line-to : line .0 ≤ linesIn section (blockAt 81 s index)
+  pub line-to : line .0 ≤ linesAnnounced section (blockAt 81 s index)
 
 -- ---- text records
 
@@ -73,19 +73,19 @@ pub record TextOf (s : List ℕ) (n i : ℕ) : Type 0 where
 -- the record i stands under the keyword of the text record k: its own, or that of the last before it that has one
 pub record Under (s : List ℕ) (n k i : ℕ) : Type 0 where
   pub text : TextOf s n k
-  pub keyword : hasKeyword (placeAt s k) ≡ true
+  pub keyword : hasKeyword (placeInPart s k) ≡ true
   pub before : k ≤ i
-  pub last : (j : ℕ) → k < j → j ≤ i → hasKeyword (placeAt s j) ≡ false
+  pub last : (j : ℕ) → k < j → j ≤ i → hasKeyword (placeInPart s j) ≡ false
 
 -- "A passage is the run of records from a keyword (pointer of that record, or none) or from a pointer": the record at
 -- the index begins it; the keyword is ten bytes
 pub record InsidePassage (s : List ℕ) (n : ℕ) (keyword : List ℕ) (pointer : ℕ) : Type 0 where
   pub index : ℕ
   pub text : TextOf s n index
-  pub begun : beginsWith pointer (placeAt s index) ≡ true
+  pub begun : beginsWith pointer (placeInPart s index) ≡ true
   pub keyword-at : ℕ
   pub under : Under s n keyword-at index
-  pub same : equalTo 10 (placeAt s keyword-at) keyword ≡ true
+  pub same : equalTo 10 (placeInPart s keyword-at) keyword ≡ true
 
 -- the part is that run, "up to the next pointer or keyword" or the end of the section
 pub record RunFrom (s : List ℕ) (n i : ℕ) (part : PartAnswer) : Type 0 where
@@ -93,8 +93,8 @@ pub record RunFrom (s : List ℕ) (n i : ℕ) (part : PartAnswer) : Type 0 where
   pub past : ℕ
   pub some : i < past
   pub bytes : part .length ≡ (past - i) * 81
-  pub inside : (j : ℕ) → i < j → j < past → TextOf s n j × (begins (placeAt s j) ≡ false)
-  pub ends : TextOf s n past → begins (placeAt s past) ≡ true
+  pub inside : (j : ℕ) → i < j → j < past → TextOf s n j × (begins (placeInPart s j) ≡ false)
+  pub ends : TextOf s n past → begins (placeInPart s past) ≡ true
 
 -- ---- what is claimed of them
 
@@ -107,31 +107,32 @@ isSaid (Refused n) = false
 abbrev pub ValueAnswered : Type 0
 ValueAnswered =
     (s : List ℕ) (n section : ℕ) (line : LineNo) (column : ℕ) → Accepted s → InsideValue s n section line column
-    → (valueOf s n section line column .answer .number ≡ 0) × (isSaid (valueOf s n section line column .value) ≡ true)
+    → (valueAsked s n section line column .answer .number ≡ 0)
+    × (isSaid (valueAsked s n section line column .value) ≡ true)
 
 -- a heading and a unit are ten columns of the entry
 abbrev pub HeadingAnswered : Type 0
 HeadingAnswered =
     (s : List ℕ) (n section column : ℕ) → Accepted s → InsideColumn s n section column
-    → (headingOf s n section column .answer .number ≡ 0) × (headingOf s n section column .length ≡ 10)
+    → (headingAsked s n section column .answer .number ≡ 0) × (headingAsked s n section column .length ≡ 10)
 
 abbrev pub UnitAnswered : Type 0
 UnitAnswered =
     (s : List ℕ) (n section column : ℕ) → Accepted s → InsideColumn s n section column
-    → (unitOf s n section column .answer .number ≡ 0) × (unitOf s n section column .length ≡ 10)
+    → (unitAsked s n section column .answer .number ≡ 0) × (unitAsked s n section column .length ≡ 10)
 
 -- "The first record has a keyword": a text record that begins a passage does so under the keyword of some record k
 abbrev pub BegunInside : Type 0
 BegunInside =
-    (s : List ℕ) (n i : ℕ) → Accepted s → TextOf s n i → begins (placeAt s i) ≡ true
-    → (k : ℕ) × ((x : InsidePassage s n (take 10 (placeAt s k)) (pointerOf (placeAt s i))) × (x .index ≡ i))
+    (s : List ℕ) (n i : ℕ) → Accepted s → TextOf s n i → begins (placeInPart s i) ≡ true
+    → (k : ℕ) × ((x : InsidePassage s n (take 10 (placeInPart s k)) (pointerOf (placeInPart s i))) × (x .index ≡ i))
 
 -- a passage is its whole records
 abbrev pub PassageAnswered : Type 0
 PassageAnswered =
     (s : List ℕ) (n : ℕ) (keyword : List ℕ) (pointer : ℕ) → Accepted s → (x : InsidePassage s n keyword pointer)
-    → (passageAnswer s n keyword pointer .answer .number ≡ 0)
-    × RunFrom s n (x .index) (passageAnswer s n keyword pointer)
+    → (passageAsked s n keyword pointer .answer .number ≡ 0)
+    × RunFrom s n (x .index) (passageAsked s n keyword pointer)
 
 -- "No keyword occurs twice in a section, and no pointer twice under one keyword": a keyword and a pointer have one
 -- passage

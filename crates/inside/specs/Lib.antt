@@ -1,1 +1,3 @@
 pub mod Inside
+pub mod Asked
+pub mod Placed

@@ -16,10 +16,10 @@ use lib.Dec.{eqb}
 use lib.IntN.{ℤ, pos, _+ℤ_, _-ℤ_}
 use lib.ListN.{length, length-append, length-replicate}
 use lib.Signed.{mag}
-use Rattle.number.specs.Grammar.{Digits, text, numFrom, num, minus}
+use Rattle.number.specs.Grammar.{Digits, digitsText, numFrom, num, minus}
 use Rattle.number.specs.Grammar.{Opening, bySign, byMark, byBare, openText, below, Tail, plain, power, tailText}
-use Rattle.number.specs.Grammar.{GoodTail, Field, write, Good}
-use Rattle.number.specs.Value.{decimal, zeroDecimal, signedBy, exponentOf, trim, valueOf, meaning, Within}
+use Rattle.number.specs.Grammar.{GoodTail, Field, write, GoodField}
+use Rattle.number.specs.Value.{decimal, zeroDecimal, signedBy, exponentOf, trim, valueOf, meaning, WithinColumns}
 use Rattle.number.proofs.Tens.{ten-suc, ten-pos, ten-le, ten-gap, ten-lt}
 use Rattle.number.proofs.Sums.{upOf, downOf, power-sum, diff-size, size-least, size-most}
 use Rattle.number.proofs.Equation.{trim-bare}
@@ -40,7 +40,7 @@ num-lt l h = omega (arith, numFrom-lt 0 l h)
 
 -- ---- columns
 
-pub text-length : (ds : List ℕ) → length (text ds) ≡ length ds
+pub text-length : (ds : List ℕ) → length (digitsText ds) ≡ length ds
 text-length [] = refl
 text-length (d ∷ ds) = ap suc (text-length ds)
 
@@ -75,7 +75,7 @@ tail-room w n (plain k) h l m c =
     omega arith
 tail-room w n (power o ds) h l m c =
     let x = length ds in
-    let q : length (openText o ++ text ds) ≡ length (openText o) + x = simp (length-append, text-length) refl in
+    let q : length (openText o ++ digitsText ds) ≡ length (openText o) + x = simp (length-append, text-length) refl in
     let o1 = open-length o in
     let g : 10 ^ x + 9 * (n - 1) ≤ 10 ^ (x + (n - 1)) = ten-gap x (n - 1) in
     let i : 10 ^ (x + (n - 1)) ≤ 10 ^ (w - 3) = ten-le (omega arith) in
@@ -111,7 +111,7 @@ module _ (w : ℕ) (g : Bool) (N n places : ℕ) (t : Tail) (room : sizeOf t + n
       down true = omega arith
       down false = omega arith
 
-  above : 0 < N → Within w (decimal g (trim N .number) (exponentOf t -ℤ pos places +ℤ pos (trim N .zeros)))
+  above : 0 < N → WithinColumns w (decimal g (trim N .number) (exponentOf t -ℤ pos places +ℤ pos (trim N .zeros)))
   above h =
       let r = trim-bare N h in
       let c = trim N .number in
@@ -127,7 +127,7 @@ module _ (w : ℕ) (g : Bool) (N n places : ℕ) (t : Tail) (room : sizeOf t + n
       }
 
   within-by : (z : Bool) → eqb N 0 ≡ z
-      → Within w (cond z zeroDecimal (decimal g (trim N .number) (exponentOf t -ℤ pos places +ℤ pos (trim N .zeros))))
+      → WithinColumns w (cond z zeroDecimal (decimal g (trim N .number) (exponentOf t -ℤ pos places +ℤ pos (trim N .zeros))))
   within-by true e =
       record {
         coefficient = ten-pos (w - 1);
@@ -136,7 +136,7 @@ module _ (w : ℕ) (g : Bool) (N n places : ℕ) (t : Tail) (room : sizeOf t + n
       }
   within-by false e = above (omega (arith, eqb-false N 0 e))
 
-pub within : (w : ℕ) (f : Field) → Good f → 4 ≤ w → length (write f) ≤ w → Within w (meaning f)
+pub within : (w : ℕ) (f : Field) → GoodField f → 4 ≤ w → length (write f) ≤ w → WithinColumns w (meaning f)
 unfolding valueOf
 within w f h l m =
     let ds = f .whole ++ f .part in

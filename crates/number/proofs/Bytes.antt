@@ -8,7 +8,7 @@ use borrow.Author.Tests.{ne-eqb, eqb-true, le-leb, leb-true}
 use lib.Dec.{leb, eqb}
 use Rattle.number.specs.Grammar.{signByte}
 use Rattle.number.specs.Reading as R
-use Rattle.number.specs.Reading.{Kind, column, columnOf, Scan, Bad, on}
+use Rattle.number.specs.Reading.{Kind, column, columnOf, Scan, Bad, byKind}
 
 pub data Seen (b : ℕ) : Type 0 where
   a-blank : b ≡ 32 → Seen b
@@ -50,7 +50,8 @@ module _ (Q : Scan → Type 0) (b : ℕ)
     (blank : Scan) (digit : ℕ → Scan) (point : Scan) (sign : Bool → Scan) (mark : Scan)
     (at-blank : b ≡ 32 → Q blank) (at-digit : (d : ℕ) → d < 10 → b ≡ 48 + d → Q (digit d)) (at-point : b ≡ 46 → Q point)
     (at-sign : (g : Bool) → b ≡ signByte g → Q (sign g)) (at-mark : b ≡ 69 → Q mark) (at-other : Q Bad) where
-  by-seen : Seen b → Q (on (columnOf b .kind) blank (digit (columnOf b .value)) point (sign (columnOf b .minus)) mark)
+  by-seen : Seen b
+      → Q (byKind (columnOf b .kind) blank (digit (columnOf b .value)) point (sign (columnOf b .minus)) mark)
   by-seen (a-blank e) = rw e (at-blank e)
   by-seen (a-digit d l e k) = rw k (at-digit d l e)
   by-seen (a-point e) = rw e (at-point e)
@@ -58,12 +59,12 @@ module _ (Q : Scan → Type 0) (b : ℕ)
   by-seen (a-mark e) = rw e (at-mark e)
   by-seen (no-such k) = rw k at-other
 
-  pub on-byte : Q (on (columnOf b .kind) blank (digit (columnOf b .value)) point (sign (columnOf b .minus)) mark)
+  pub on-byte : Q (byKind (columnOf b .kind) blank (digit (columnOf b .value)) point (sign (columnOf b .minus)) mark)
   on-byte = by-seen (seen b)
 
 -- what holds of each answer at its kind holds of the one that is chosen
 pub on-each : (Q : Kind → Scan → Type 0) (k : Kind) {b d p s m : Scan}
-    → Q R.blank b → Q R.digit d → Q R.point p → Q R.sign s → Q R.mark m → Q R.other Bad → Q k (on k b d p s m)
+    → Q R.blank b → Q R.digit d → Q R.point p → Q R.sign s → Q R.mark m → Q R.other Bad → Q k (byKind k b d p s m)
 on-each Q R.blank b d p s m o = b
 on-each Q R.digit b d p s m o = d
 on-each Q R.point b d p s m o = p

@@ -12,10 +12,10 @@ use lib.Signed.{_≤ℤ_}
 use Rattle.number.specs.declared.value.Decimal.{Decimal}
 use Rattle.number.specs.declared.value.Reading.{Reading}
 use Rattle.number.specs.declared.value.Reading.the-variants.{Blank, Number, Refused}
-use Rattle.number.specs.Grammar.{blanks, Field, Good, write, Spells, Letter}
-use Rattle.number.specs.Value.{Value, valueOf, meaning, Reads, Says, blank, number, malformed, Within}
+use Rattle.number.specs.Grammar.{blanks, Field, GoodField, write, Spells, Letter}
+use Rattle.number.specs.Value.{Value, valueOf, meaning, Reads, Says, blank, number, malformed, WithinColumns}
 use Rattle.number.specs.Reading.{Lead, finish, readField, answer}
-use Rattle.number.specs.Form.{formOf, refusalOf}
+use Rattle.number.specs.Form.{formOf, formRefusal}
 use Rattle.number.proofs.Equation as Equation
 use Rattle.number.proofs.Spelling as Spelling
 use Rattle.number.proofs.Follow as Follow
@@ -41,7 +41,7 @@ pub spelt-once : {l : List ℕ} {f g : Field} → Spells l f → Spells l g → 
 spelt-once s t = Spelling.once s t
 
 -- a field reads to its value
-pub reads-field : (f : Field) → Good f → readField (write f) ≡ Number (meaning f)
+pub reads-field : (f : Field) → GoodField f → readField (write f) ≡ Number (meaning f)
 reads-field f h = Follow.reads-field f h
 
 -- ---- reading
@@ -77,10 +77,10 @@ pub says-once : {l : List ℕ} {r s : Reading} → Says l r → Says l s → r �
 says-once x y = sym (Agree.said-so x) ∙ Agree.said-so y
 
 -- its form has the number of what it reads to
-pub form-refusal : (l : List ℕ) → refusalOf (formOf (readField l)) ≡ answer (readField l) .refusal
+pub form-refusal : (l : List ℕ) → formRefusal (formOf (readField l)) ≡ answer (readField l) .refusal
 form-refusal l = by-says (Agree.says l)
   where
-    by-says : {r : Reading} → Says l r → refusalOf (formOf r) ≡ answer r .refusal
+    by-says : {r : Reading} → Says l r → formRefusal (formOf r) ≡ answer r .refusal
     by-says (blank b) = refl
     by-says (number r) = refl
     by-says (malformed b n) = refl
@@ -98,7 +98,7 @@ number-letters l h i m = Letters.letters l Lead h i m
 -- ---- sizes
 
 -- what a field of at most w columns says is no larger than w columns allow; by `read-wider` w may be taken as 4 or more
-pub read-bounds : (w : ℕ) (l : List ℕ) (v : Decimal) → 4 ≤ w → length l ≤ w → readField l ≡ Number v → Within w v
+pub read-bounds : (w : ℕ) (l : List ℕ) (v : Decimal) → 4 ≤ w → length l ≤ w → readField l ≡ Number v → WithinColumns w v
 read-bounds w l v h m e =
     let r = reads-exactly l v .0 e in
     let f = r .field in

@@ -9,7 +9,7 @@ use lib.ListN.{length, getD}
 use Rattle.number.specs.declared.value.Reading.the-variants.{Refused}
 use Rattle.number.specs.Grammar.{Letter, blank, digit, point, sign, mark}
 use Rattle.number.specs.Reading.{other, column, columnOf, Scan, Lead, Signed, Whole, Point, Fraction, Gap, Mark}
-use Rattle.number.specs.Reading.{MarkGap, PowerSign, Power, Bad, stepOf, scanOf, finish}
+use Rattle.number.specs.Reading.{MarkGap, PowerSign, Power, Bad, scanStep, scanOf, finish}
 use Rattle.number.proofs.Bytes.{Seen, a-blank, a-digit, a-point, a-sign, a-mark, no-such, seen}
 
 pub scan-bad : (l : List ℕ) → scanOf Bad l ≡ Bad
@@ -20,7 +20,7 @@ pub bad-says : finish Bad ≡ Refused 15
 unfolding finish
 bad-says = refl
 
-other-bad : (s : Scan) → stepOf s (column other 0 false) ≡ Bad
+other-bad : (s : Scan) → scanStep s (column other 0 false) ≡ Bad
 other-bad Lead = refl
 other-bad (Signed n) = refl
 other-bad (Whole n c) = refl
@@ -46,4 +46,4 @@ letters (b ∷ l) s h zero m = by-seen (seen b)
     by-seen (a-mark e) = mark e
     by-seen (no-such k) =
         absurd (h (ap (λ (x : Scan). finish (scanOf x l)) (rw k (other-bad s)) ∙ ap finish (scan-bad l) ∙ bad-says))
-letters (b ∷ l) s h (suc i) m = letters l (stepOf s (columnOf b)) h i (le-of-suc-le-suc m)
+letters (b ∷ l) s h (suc i) m = letters l (scanStep s (columnOf b)) h i (le-of-suc-le-suc m)

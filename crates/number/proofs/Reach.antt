@@ -10,10 +10,11 @@ use Prim.Native.Nat.{ℕ, zero, suc, _+_, _*_, _<_, _≤_}
 use native.Mathlib.Nat.{zero-add}
 use native.Mathlib.Omega.{arith}
 use lib.ListN.{length, length-append}
-use Rattle.number.specs.Grammar.{blanks, Digits, text, numFrom, num, Sign, unsigned, signed, signByte, signText}
+use Rattle.number.specs.Grammar.{blanks, Digits, digitsText, numFrom, num, Sign, unsigned, signed, signByte}
+use Rattle.number.specs.Grammar.{signText}
 use Rattle.number.specs.Grammar.{minus, Opening, bySign, byMark, byBare, openText, below}
 use Rattle.number.specs.Reading.{columnOf, Mantissa, mantissa, longer, Scan, Lead, Signed, Whole, Point, Fraction}
-use Rattle.number.specs.Reading.{Gap, Mark, MarkGap, PowerSign, Power, Bad, stepOf, scanOf}
+use Rattle.number.specs.Reading.{Gap, Mark, MarkGap, PowerSign, Power, Bad, scanStep, scanOf}
 use Rattle.number.proofs.Bytes.{on-byte}
 
 -- ---- one element more
@@ -22,7 +23,7 @@ blanks-more : (k : ℕ) → blanks k ++ (32 ∷ []) ≡ blanks (suc k)
 blanks-more zero = refl
 blanks-more (suc k) = rw (blanks-more k) refl
 
-pub text-append : (a b : List ℕ) → text (a ++ b) ≡ text a ++ text b
+pub text-append : (a b : List ℕ) → digitsText (a ++ b) ≡ digitsText a ++ digitsText b
 text-append [] b = refl
 text-append (d ∷ a) b = rw (text-append a b) refl
 
@@ -48,7 +49,7 @@ pub record Wholes (p : List ℕ) (g : Bool) (c : ℕ) : Type 0 where
   pub lead : ℕ
   pub sign : Sign
   pub whole : List ℕ
-  pub same : p ≡ blanks lead ++ (signText sign ++ text whole)
+  pub same : p ≡ blanks lead ++ (signText sign ++ digitsText whole)
   pub sense : minus sign ≡ g
   pub number : num whole ≡ c
   pub digits : Digits whole
@@ -60,7 +61,7 @@ pub record Pointed (p : List ℕ) (m : Mantissa) : Type 0 where
   pub sign : Sign
   pub whole : List ℕ
   pub part : List ℕ
-  pub same : p ≡ blanks lead ++ (signText sign ++ (text whole ++ (46 ∷ text part)))
+  pub same : p ≡ blanks lead ++ (signText sign ++ (digitsText whole ++ (46 ∷ digitsText part)))
   pub sense : mantissa (minus sign) (num (whole ++ part)) (length part) ≡ m
   pub digits : Digits (whole ++ part)
   pub some : 1 ≤ length (whole ++ part)
@@ -75,7 +76,7 @@ pub record Behind (p : List ℕ) (m : Mantissa) (more : List ℕ) : Type 0 where
 pub record Raised (p : List ℕ) (m : Mantissa) (s : Bool) (e : ℕ) : Type 0 where
   pub opening : Opening
   pub power : List ℕ
-  pub behind : Behind p m (openText opening ++ text power)
+  pub behind : Behind p m (openText opening ++ digitsText power)
   pub sense : below opening ≡ s
   pub number : num power ≡ e
   pub digits : Digits power
@@ -125,7 +126,7 @@ module _ (p : List ℕ) (b : ℕ) where
         some = omega arith;
       }
 
-  reach-step : (s : Scan) → Reach p s → Next (stepOf s (columnOf b))
+  reach-step : (s : Scan) → Reach p s → Next (scanStep s (columnOf b))
   reach-step Lead (n, e) =
       on-byte Next b Lead (λ d. Whole false d) (Point false) (λ g. Signed g) Bad
       (λ q. (suc n, rw (e, q) (blanks-more n)))
@@ -252,7 +253,7 @@ module _ (p : List ℕ) (b : ℕ) where
 reach-all : (l p : List ℕ) (s : Scan) → Reach p s → Reach (p ++ l) (scanOf s l)
 reach-all [] p s r = rw append-nil r
 reach-all (b ∷ l) p s r =
-    rw (← append-assoc p (b ∷ []) l) (reach-all l (p ++ (b ∷ [])) (stepOf s (columnOf b)) (reach-step p b s r))
+    rw (← append-assoc p (b ∷ []) l) (reach-all l (p ++ (b ∷ [])) (scanStep s (columnOf b)) (reach-step p b s r))
 
 -- what a whole list looks like, by where its reading ends
 pub reached : (l : List ℕ) → Reach l (scanOf Lead l)

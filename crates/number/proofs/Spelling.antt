@@ -12,9 +12,9 @@ use native.Mathlib.Omega.{arith}
 use borrow.Author.Tests.{ne-eqb, le-leb}
 use lib.Dec.{eqb, leb}
 use lib.ListN.{length, length-replicate}
-use Rattle.number.specs.Grammar.{blanks, Digits, text, Sign, unsigned, signed, signByte, signText, Opening}
+use Rattle.number.specs.Grammar.{blanks, Digits, digitsText, Sign, unsigned, signed, signByte, signText, Opening}
 use Rattle.number.specs.Grammar.{bySign, byMark, byBare, openText, Tail, plain, power, tailText, GoodTail, Field}
-use Rattle.number.specs.Grammar.{write, Good, Spells}
+use Rattle.number.specs.Grammar.{write, GoodField, Spells}
 
 -- ---- a run, and what stands behind it
 
@@ -75,7 +75,7 @@ gap-once k j x y hx hy e =
 abbrev digital : ℕ → Bool
 digital b = cond (leb 48 b) (leb b 57) false
 
-text-all : (ds : List ℕ) → Digits ds → All digital (text ds)
+text-all : (ds : List ℕ) → Digits ds → All digital (digitsText ds)
 text-all [] h = tt
 text-all (d ∷ ds) h =
     let l : d < 10 = h .0 in
@@ -84,16 +84,16 @@ text-all (d ∷ ds) h =
 digit-same : (d e : ℕ) → 48 + d ≡ 48 + e → d ≡ e
 digit-same d e q = omega arith
 
-text-once : (ds es : List ℕ) → text ds ≡ text es → ds ≡ es
+text-once : (ds es : List ℕ) → digitsText ds ≡ digitsText es → ds ≡ es
 text-once [] [] e = refl
 text-once [] (b ∷ es) e = never e
 text-once (a ∷ ds) [] e = never (sym e)
 text-once (a ∷ ds) (b ∷ es) e = rw (digit-same a b (head-same e), text-once ds es (tail-same e)) refl
 
 digits-once : (ds es x y : List ℕ) → Digits ds → Digits es → Stops digital x → Stops digital y
-    → text ds ++ x ≡ text es ++ y → (ds ≡ es) × (x ≡ y)
+    → digitsText ds ++ x ≡ digitsText es ++ y → (ds ≡ es) × (x ≡ y)
 digits-once ds es x y hd he hx hy e =
-    let (f, g) = run-once digital (text ds) (text es) x y (text-all ds hd) (text-all es he) hx hy e in
+    let (f, g) = run-once digital (digitsText ds) (digitsText es) x y (text-all ds hd) (text-all es he) hx hy e in
     (text-once ds es f, g)
 
 pub digits-right : (a b : List ℕ) → Digits (a ++ b) → Digits b
@@ -121,13 +121,13 @@ sign-blank false = refl
 sign-blank true = refl
 
 -- digits with their point hold no sign in front
-no-sign : {A : Type 0} (g : Bool) (ds x y : List ℕ) → text ds ++ (46 ∷ x) ≡ signByte g ∷ y → A
+no-sign : {A : Type 0} (g : Bool) (ds x y : List ℕ) → digitsText ds ++ (46 ∷ x) ≡ signByte g ∷ y → A
 no-sign g [] x y e = let q = head-same e in absurd (omega (arith, sign-low g))
 no-sign g (d ∷ ds) x y e = let q = head-same e in absurd (omega (arith, sign-low g))
 
 sign-once : (s t : Sign) (ds es x y : List ℕ)
-    → signText s ++ (text ds ++ (46 ∷ x)) ≡ signText t ++ (text es ++ (46 ∷ y))
-    → (s ≡ t) × (text ds ++ (46 ∷ x) ≡ text es ++ (46 ∷ y))
+    → signText s ++ (digitsText ds ++ (46 ∷ x)) ≡ signText t ++ (digitsText es ++ (46 ∷ y))
+    → (s ≡ t) × (digitsText ds ++ (46 ∷ x) ≡ digitsText es ++ (46 ∷ y))
 sign-once unsigned unsigned ds es x y e = (refl, e)
 sign-once unsigned (signed h) ds es x y e = no-sign h ds x _ e
 sign-once (signed g) unsigned ds es x y e = no-sign g es y _ (sym e)
@@ -136,7 +136,7 @@ sign-once (signed g) (signed h) ds es x y e = (ap signed (sign-same g h (head-sa
 digit-blank : (d : ℕ) → blank (48 + d) ≡ false
 digit-blank d = ne-eqb (48 + d) 32 (λ e. omega arith)
 
-front-stops : (s : Sign) (ds x : List ℕ) → Stops blank (signText s ++ (text ds ++ (46 ∷ x)))
+front-stops : (s : Sign) (ds x : List ℕ) → Stops blank (signText s ++ (digitsText ds ++ (46 ∷ x)))
 front-stops unsigned [] x = refl
 front-stops unsigned (d ∷ ds) x = digit-blank d
 front-stops (signed g) ds x = sign-blank g
@@ -163,12 +163,12 @@ gap-stops (bySign k g) x = sign-blank g
 gap-stops (byMark k g) x = refl
 gap-stops (byBare k j) x = refl
 
-text-stops : (ds : List ℕ) → Stops blank (text ds)
+text-stops : (ds : List ℕ) → Stops blank (digitsText ds)
 text-stops [] = tt
 text-stops (d ∷ ds) = digit-blank d
 
 -- a sign is no blank and no digit
-no-bare : {A : Type 0} (g : Bool) (j : ℕ) (ds x : List ℕ) → signByte g ∷ x ≡ blanks j ++ text ds → A
+no-bare : {A : Type 0} (g : Bool) (j : ℕ) (ds x : List ℕ) → signByte g ∷ x ≡ blanks j ++ digitsText ds → A
 no-bare g zero [] x e = never (sym e)
 no-bare g zero (d ∷ ds) x e = let q = head-same e in absurd (omega (arith, sign-low g))
 no-bare g (suc j) ds x e = clash blank (sym (head-same e)) refl (sign-blank g)
@@ -176,7 +176,8 @@ no-bare g (suc j) ds x e = clash blank (sym (head-same e)) refl (sign-blank g)
 no-mark : {A : Type 0} (g : Bool) {x y : List ℕ} → signByte g ∷ x ≡ 69 ∷ y → A
 no-mark g e = let q = head-same e in absurd (omega (arith, sign-low g))
 
-after-once : (o p : Opening) (ds es : List ℕ) → gapOf o ≡ gapOf p → afterGap o ++ text ds ≡ afterGap p ++ text es
+after-once : (o p : Opening) (ds es : List ℕ) → gapOf o ≡ gapOf p
+    → afterGap o ++ digitsText ds ≡ afterGap p ++ digitsText es
     → (o ≡ p) × (ds ≡ es)
 after-once (bySign k g) (bySign j h) ds es q e =
     (rw (q, sign-same g h (head-same e)) refl, text-once ds es (tail-same e))
@@ -190,15 +191,16 @@ after-once (byMark k g) (byBare j i) ds es q e = no-bare g i es _ (tail-same e)
 after-once (byBare k i) (bySign j h) ds es q e = no-mark h (sym e)
 after-once (byBare k i) (byMark j h) ds es q e = no-bare h i ds _ (sym (tail-same e))
 after-once (byBare k i) (byBare j l) ds es q e =
-    let (f, g) = gap-once i l (text ds) (text es) (text-stops ds) (text-stops es) (tail-same e) in
+    let (f, g) = gap-once i l (digitsText ds) (digitsText es) (text-stops ds) (text-stops es) (tail-same e) in
     (rw (q, f) refl, text-once ds es g)
 
-power-once : (o p : Opening) (ds es : List ℕ) → openText o ++ text ds ≡ openText p ++ text es → power o ds ≡ power p es
+power-once : (o p : Opening) (ds es : List ℕ) → openText o ++ digitsText ds ≡ openText p ++ digitsText es
+    → power o ds ≡ power p es
 power-once o p ds es e =
     let (f, g) =
-    gap-once (gapOf o) (gapOf p) (afterGap o ++ text ds) (afterGap p ++ text es)
-    (gap-stops o (text ds)) (gap-stops p (text es))
-    (sym (open-parts o (text ds)) ∙ e ∙ open-parts p (text es)) in
+    gap-once (gapOf o) (gapOf p) (afterGap o ++ digitsText ds) (afterGap p ++ digitsText es)
+    (gap-stops o (digitsText ds)) (gap-stops p (digitsText es))
+    (sym (open-parts o (digitsText ds)) ∙ e ∙ open-parts p (digitsText es)) in
     let (q, r) = after-once o p ds es f g in
     rw (q, r) refl
 
@@ -209,10 +211,10 @@ all-right test [] q h = h
 all-right test (b ∷ p) q h = all-right test p q (h .1)
 
 -- an exponent has a digit, which is no blank
-no-power : {A : Type 0} (k : ℕ) (o : Opening) (ds : List ℕ) → 1 ≤ length ds → blanks k ≡ openText o ++ text ds → A
+no-power : {A : Type 0} (k : ℕ) (o : Opening) (ds : List ℕ) → 1 ≤ length ds → blanks k ≡ openText o ++ digitsText ds → A
 no-power k o [] l e = absurd (omega arith)
 no-power k o (d ∷ ds) l e =
-    let h = all-right blank (openText o) (text (d ∷ ds)) (subst (λ (x : List ℕ). All blank x) e (blanks-all k)) in
+    let h = all-right blank (openText o) (digitsText (d ∷ ds)) (subst (λ (x : List ℕ). All blank x) e (blanks-all k)) in
     clash blank {a = 48 + d} refl (h .0) (digit-blank d)
 
 tail-once : (t u : Tail) → GoodTail t → GoodTail u → tailText t ≡ tailText u → t ≡ u
@@ -233,7 +235,7 @@ open-stops (byBare (suc k) j) x = refl
 tail-stops : (t : Tail) → Stops digital (tailText t)
 tail-stops (plain zero) = tt
 tail-stops (plain (suc k)) = refl
-tail-stops (power o ds) = open-stops o (text ds)
+tail-stops (power o ds) = open-stops o (digitsText ds)
 
 -- ---- the field
 
@@ -242,14 +244,14 @@ same-field : {k j : ℕ} {s t : Sign} {a b c d : List ℕ} {u v : Tail} → k �
     (record { lead = j; sign = t; whole = b; part = d; tail = v })
 same-field e f g h i = rw (e, f, g, h, i) refl
 
-write-once : (f g : Field) → Good f → Good g → write f ≡ write g → f ≡ g
+write-once : (f g : Field) → GoodField f → GoodField g → write f ≡ write g → f ≡ g
 unfolding write
 write-once f g hf hg e =
-    let x = text (f .part) ++ tailText (f .tail) in
-    let y = text (g .part) ++ tailText (g .tail) in
+    let x = digitsText (f .part) ++ tailText (f .tail) in
+    let y = digitsText (g .part) ++ tailText (g .tail) in
     let (a, e₁) =
-    gap-once (f .lead) (g .lead) (signText (f .sign) ++ (text (f .whole) ++ (46 ∷ x)))
-    (signText (g .sign) ++ (text (g .whole) ++ (46 ∷ y)))
+    gap-once (f .lead) (g .lead) (signText (f .sign) ++ (digitsText (f .whole) ++ (46 ∷ x)))
+    (signText (g .sign) ++ (digitsText (g .whole) ++ (46 ∷ y)))
     (front-stops (f .sign) (f .whole) x) (front-stops (g .sign) (g .whole) y) e in
     let (b, e₂) = sign-once (f .sign) (g .sign) (f .whole) (g .whole) x y e₁ in
     let (c, e₃) =

@@ -16,7 +16,7 @@ use lib.Seq.{drop-cons}
 use Rattle.number.specs.declared.value.Reading.the-variants.{Blank, Refused}
 use Rattle.number.specs.Reading as R
 use Rattle.number.specs.Reading.{Column, column, columnOf, Mantissa, mantissa, Scan, Lead, Signed, Whole, Point}
-use Rattle.number.specs.Reading.{Fraction, Gap, Mark, MarkGap, PowerSign, Power, Bad, stepOf, scanOf, said}
+use Rattle.number.specs.Reading.{Fraction, Gap, Mark, MarkGap, PowerSign, Power, Bad, scanStep, scanOf, saidBy}
 use Rattle.number.specs.Reading.{finish}
 use Rattle.number.specs.Reading.{readField}
 use Rattle.number.specs.declared.walk.Front.{Front}
@@ -33,15 +33,16 @@ never e = absurd (subst (λ (t : Bool). T t) e tt)
 -- ---- the laws
 
 module _ (s : List ℕ) (t : Scan) (i : ℕ) where
-  scan-go : i < length s → scanOf t (drop i s) ≡ scanOf (stepOf t (columnOf (getD s i 0))) (drop (i + 1) s)
+  scan-go : i < length s → scanOf t (drop i s) ≡ scanOf (scanStep t (columnOf (getD s i 0))) (drop (i + 1) s)
   scan-go h = rw (add-one, drop-cons s i 0) refl
 
   -- on to the next column
-  pub moves : (k : Column) → i < length s → columnOf (getD s i 0) ≡ k → readFrom t i s ≡ readFrom (stepOf t k) (i + 1) s
-  moves k h e = ap finish (scan-go h ∙ ap (λ (x : Column). scanOf (stepOf t x) (drop (i + 1) s)) e)
+  pub moves : (k : Column) → i < length s → columnOf (getD s i 0) ≡ k
+      → readFrom t i s ≡ readFrom (scanStep t k) (i + 1) s
+  moves k h e = ap finish (scan-go h ∙ ap (λ (x : Column). scanOf (scanStep t x) (drop (i + 1) s)) e)
 
   -- a column that fits nothing
-  pub stuck : i < length s → stepOf t (columnOf (getD s i 0)) ≡ Bad → readFrom t i s ≡ Refused 15
+  pub stuck : i < length s → scanStep t (columnOf (getD s i 0)) ≡ Bad → readFrom t i s ≡ Refused 15
   stuck h e =
       ap finish (scan-go h ∙ ap (λ (x : Scan). scanOf x (drop (i + 1) s)) e ∙ scan-bad (drop (i + 1) s)) ∙ bad-says
 
@@ -51,7 +52,7 @@ module _ (s : List ℕ) (t : Scan) (i : ℕ) where
 
 -- a column that two places take alike
 pub alike : (s : List ℕ) (t u : Scan) (i : ℕ) → i < length s
-    → stepOf t (columnOf (getD s i 0)) ≡ stepOf u (columnOf (getD s i 0)) → readFrom t i s ≡ readFrom u i s
+    → scanStep t (columnOf (getD s i 0)) ≡ scanStep u (columnOf (getD s i 0)) → readFrom t i s ≡ readFrom u i s
 alike s t u i h e =
     ap finish (scan-go s t i h ∙ ap (λ (x : Scan). scanOf x (drop (i + 1) s)) e ∙ sym (scan-go s u i h))
 
@@ -92,25 +93,25 @@ module _ (b : ℕ) where
 -- ---- bytes that fit nothing, or that two places take alike
 
 module _ (b : ℕ) (m : Mantissa) where
-  pub bad-power : (g : Bool) (e : ℕ) → digital b ≡ false → stepOf (Power m g e) (columnOf b) ≡ Bad
+  pub bad-power : (g : Bool) (e : ℕ) → digital b ≡ false → scanStep (Power m g e) (columnOf b) ≡ Bad
   bad-power g e h =
       on-byte (λ s. s ≡ Bad) b Bad (λ d. Power m g (e * 10 + d)) Bad (λ g. Bad) Bad
       (λ q. refl) (λ d l q. digit-no b h d l q) (λ q. refl) (λ g q. refl) (λ q. refl) refl
 
-  pub bad-power-sign : (g : Bool) → digital b ≡ false → stepOf (PowerSign m g) (columnOf b) ≡ Bad
+  pub bad-power-sign : (g : Bool) → digital b ≡ false → scanStep (PowerSign m g) (columnOf b) ≡ Bad
   bad-power-sign g h =
       on-byte (λ s. s ≡ Bad) b Bad (λ d. Power m g d) Bad (λ g. Bad) Bad
       (λ q. refl) (λ d l q. digit-no b h d l q) (λ q. refl) (λ g q. refl) (λ q. refl) refl
 
-  pub bad-mark-gap : (b ≡ 32 → ⊥) → digital b ≡ false → stepOf (MarkGap m) (columnOf b) ≡ Bad
+  pub bad-mark-gap : (b ≡ 32 → ⊥) → digital b ≡ false → scanStep (MarkGap m) (columnOf b) ≡ Bad
   bad-mark-gap n h =
       on-byte (λ s. s ≡ Bad) b (MarkGap m) (λ d. Power m false d) Bad (λ g. Bad) Bad
       (λ q. absurd (n q)) (λ d l q. digit-no b h d l q) (λ q. refl) (λ g q. refl) (λ q. refl) refl
 
-  pub mark-alike : (b ≡ 45 → ⊥) → (b ≡ 43 → ⊥) → stepOf (Mark m) (columnOf b) ≡ stepOf (MarkGap m) (columnOf b)
+  pub mark-alike : (b ≡ 45 → ⊥) → (b ≡ 43 → ⊥) → scanStep (Mark m) (columnOf b) ≡ scanStep (MarkGap m) (columnOf b)
   mark-alike x y = by-seen (seen b)
     where
-      by-seen : Seen b → stepOf (Mark m) (columnOf b) ≡ stepOf (MarkGap m) (columnOf b)
+      by-seen : Seen b → scanStep (Mark m) (columnOf b) ≡ scanStep (MarkGap m) (columnOf b)
       by-seen (a-blank e) = rw e refl
       by-seen (a-digit d l e k) = rw k refl
       by-seen (a-point e) = rw e refl
@@ -119,10 +120,10 @@ module _ (b : ℕ) (m : Mantissa) where
       by-seen (a-mark e) = rw e refl
       by-seen (no-such k) = rw k refl
 
-  pub fraction-alike : digital b ≡ false → stepOf (Fraction m) (columnOf b) ≡ stepOf (Gap m) (columnOf b)
+  pub fraction-alike : digital b ≡ false → scanStep (Fraction m) (columnOf b) ≡ scanStep (Gap m) (columnOf b)
   fraction-alike h = by-seen (seen b)
     where
-      by-seen : Seen b → stepOf (Fraction m) (columnOf b) ≡ stepOf (Gap m) (columnOf b)
+      by-seen : Seen b → scanStep (Fraction m) (columnOf b) ≡ scanStep (Gap m) (columnOf b)
       by-seen (a-blank e) = rw e refl
       by-seen (a-digit d l e k) = digit-no b h d l e
       by-seen (a-point e) = rw e refl
@@ -130,10 +131,10 @@ module _ (b : ℕ) (m : Mantissa) where
       by-seen (a-mark e) = rw e refl
       by-seen (no-such k) = rw k refl
 
-  pub bad-gap : (b ≡ 32 → ⊥) → (b ≡ 69 → ⊥) → (b ≡ 45 → ⊥) → (b ≡ 43 → ⊥) → stepOf (Gap m) (columnOf b) ≡ Bad
+  pub bad-gap : (b ≡ 32 → ⊥) → (b ≡ 69 → ⊥) → (b ≡ 45 → ⊥) → (b ≡ 43 → ⊥) → scanStep (Gap m) (columnOf b) ≡ Bad
   bad-gap w z x y = by-seen (seen b)
     where
-      by-seen : Seen b → stepOf (Gap m) (columnOf b) ≡ Bad
+      by-seen : Seen b → scanStep (Gap m) (columnOf b) ≡ Bad
       by-seen (a-blank e) = absurd (w e)
       by-seen (a-digit d l e k) = rw k refl
       by-seen (a-point e) = rw e refl
@@ -143,26 +144,26 @@ module _ (b : ℕ) (m : Mantissa) where
       by-seen (no-such k) = rw k refl
 
 module _ (b : ℕ) (g : Bool) where
-  pub bad-whole : (c : ℕ) → digital b ≡ false → (b ≡ 46 → ⊥) → stepOf (Whole g c) (columnOf b) ≡ Bad
+  pub bad-whole : (c : ℕ) → digital b ≡ false → (b ≡ 46 → ⊥) → scanStep (Whole g c) (columnOf b) ≡ Bad
   bad-whole c h n =
       on-byte (λ s. s ≡ Bad) b Bad (λ d. Whole g (c * 10 + d)) (Fraction (mantissa g c 0)) (λ g. Bad) Bad
       (λ q. refl) (λ d l q. digit-no b h d l q) (λ q. absurd (n q)) (λ g q. refl) (λ q. refl) refl
 
-  pub bad-point : digital b ≡ false → stepOf (Point g) (columnOf b) ≡ Bad
+  pub bad-point : digital b ≡ false → scanStep (Point g) (columnOf b) ≡ Bad
   bad-point h =
       on-byte (λ s. s ≡ Bad) b Bad (λ d. Fraction (mantissa g d 1)) Bad (λ g. Bad) Bad
       (λ q. refl) (λ d l q. digit-no b h d l q) (λ q. refl) (λ g q. refl) (λ q. refl) refl
 
-  pub bad-signed : digital b ≡ false → (b ≡ 46 → ⊥) → stepOf (Signed g) (columnOf b) ≡ Bad
+  pub bad-signed : digital b ≡ false → (b ≡ 46 → ⊥) → scanStep (Signed g) (columnOf b) ≡ Bad
   bad-signed h n =
       on-byte (λ s. s ≡ Bad) b Bad (λ d. Whole g d) (Point g) (λ g. Bad) Bad
       (λ q. refl) (λ d l q. digit-no b h d l q) (λ q. absurd (n q)) (λ g q. refl) (λ q. refl) refl
 
 lead-alike : (b : ℕ) → (b ≡ 32 → ⊥) → (b ≡ 45 → ⊥) → (b ≡ 43 → ⊥)
-    → stepOf Lead (columnOf b) ≡ stepOf (Signed false) (columnOf b)
+    → scanStep Lead (columnOf b) ≡ scanStep (Signed false) (columnOf b)
 lead-alike b w x y = by-seen (seen b)
   where
-    by-seen : Seen b → stepOf Lead (columnOf b) ≡ stepOf (Signed false) (columnOf b)
+    by-seen : Seen b → scanStep Lead (columnOf b) ≡ scanStep (Signed false) (columnOf b)
     by-seen (a-blank e) = absurd (w e)
     by-seen (a-digit d l e k) = rw k refl
     by-seen (a-point e) = rw e refl
@@ -205,11 +206,11 @@ pub ends-fraction : (m : Mantissa) → finish (Fraction m) ≡ finish (Gap m)
 unfolding finish
 ends-fraction m = refl
 
-pub ends-gap : (m : Mantissa) → finish (Gap m) ≡ said m false 0
+pub ends-gap : (m : Mantissa) → finish (Gap m) ≡ saidBy m false 0
 unfolding finish
 ends-gap m = refl
 
-pub ends-power : (m : Mantissa) (g : Bool) (e : ℕ) → finish (Power m g e) ≡ said m g e
+pub ends-power : (m : Mantissa) (g : Bool) (e : ℕ) → finish (Power m g e) ≡ saidBy m g e
 unfolding finish
 ends-power m g e = refl
 

@@ -11,8 +11,8 @@ use Rattle.laws.specs.Members.{listOf}
 use Rattle.laws.proofs.Members.{list-at}
 use Rattle.number.specs.Reading as R
 use Rattle.number.specs.Reading.{Kind, Column, columnOf, Scan, Lead, Signed, Whole, Point, Fraction, Gap, Mark}
-use Rattle.number.specs.Reading.{MarkGap, PowerSign, Power, Bad, stepOf, scanOf, finish}
-use Rattle.number.specs.Form.{formOf, kindNumber, placeNumber, kindTable, nextTable, endOf}
+use Rattle.number.specs.Reading.{MarkGap, PowerSign, Power, Bad, scanStep, scanOf, finish}
+use Rattle.number.specs.Form.{formOf, kindNumber, placeNumber, kindTable, nextTable, formAtEnd}
 use Rattle.number.proofs.Bytes.{on-each}
 
 -- ---- the kinds
@@ -60,7 +60,7 @@ leads-bad R.sign = refl
 leads-bad R.mark = refl
 leads-bad R.other = refl
 
-leads : (t : Scan) (k : Column) → LeadsTo (placeNumber t) (k .kind) (stepOf t k)
+leads : (t : Scan) (k : Column) → LeadsTo (placeNumber t) (k .kind) (scanStep t k)
 unfolding nextTable listOf
 leads Lead k = on-each (LeadsTo 0) (k .kind) refl refl refl refl refl refl
 leads (Signed n) k = on-each (LeadsTo 1) (k .kind) refl refl refl refl refl refl
@@ -75,22 +75,22 @@ leads (Power m s e) k = on-each (LeadsTo 9) (k .kind) refl refl refl refl refl r
 leads Bad k = leads-bad (k .kind)
 
 pub next-right : (t : Scan) (b : ℕ) → b < 256
-    → getD nextTable (placeNumber t * 8 + getD kindTable b 0) 0 ≡ placeNumber (stepOf t (columnOf b))
+    → getD nextTable (placeNumber t * 8 + getD kindTable b 0) 0 ≡ placeNumber (scanStep t (columnOf b))
 next-right t b h = rw (kind-at b h) (leads t (columnOf b))
 
 -- ---- the columns
 
 scan-suc : (s : List ℕ) (t : Scan) (i : ℕ) → i < length s
-    → scanOf t (take (suc i) s) ≡ stepOf (scanOf t (take i s)) (columnOf (getD s i 0))
+    → scanOf t (take (suc i) s) ≡ scanStep (scanOf t (take i s)) (columnOf (getD s i 0))
 scan-suc [] t i h = absurd (not-suc-le-zero h)
 scan-suc (b ∷ s) t zero h = refl
-scan-suc (b ∷ s) t (suc i) h = scan-suc s (stepOf t (columnOf b)) i (le-of-suc-le-suc h)
+scan-suc (b ∷ s) t (suc i) h = scan-suc s (scanStep t (columnOf b)) i (le-of-suc-le-suc h)
 
 pub scan-take : (s : List ℕ) (t : Scan) (i : ℕ) → i < length s
-    → scanOf t (take (i + 1) s) ≡ stepOf (scanOf t (take i s)) (columnOf (getD s i 0))
+    → scanOf t (take (i + 1) s) ≡ scanStep (scanOf t (take i s)) (columnOf (getD s i 0))
 scan-take s t i h = rw (add-one i) (scan-suc s t i h)
 
-pub ends : (t : Scan) → endOf (placeNumber t) ≡ formOf (finish t)
+pub ends : (t : Scan) → formAtEnd (placeNumber t) ≡ formOf (finish t)
 unfolding finish
 ends Lead = refl
 ends (Signed n) = refl

@@ -13,7 +13,7 @@ use Rattle.number.specs.declared.form.Form.{Form}
 use Rattle.number.specs.declared.form.Form.the-variants as F
 use Rattle.number.specs.Reading.{Kind, blank, digit, point, sign, mark, other, column, columnOf, Scan}
 use Rattle.number.specs.Reading.{Lead, Signed, Whole, Point, Fraction, Gap, Mark, MarkGap, PowerSign, Power, Bad}
-use Rattle.number.specs.Reading.{Mantissa, mantissa, stepOf}
+use Rattle.number.specs.Reading.{Mantissa, mantissa, scanStep}
 
 -- the form of what is read
 abbrev pub formOf : Reading → Form
@@ -22,10 +22,10 @@ formOf (R.Number v) = F.Number
 formOf (R.Refused n) = F.Malformed
 
 -- document 01's number for each form
-abbrev pub refusalOf : Form → ℕ
-refusalOf F.Blank = 0
-refusalOf F.Number = 0
-refusalOf F.Malformed = 15
+abbrev pub formRefusal : Form → ℕ
+formRefusal F.Blank = 0
+formRefusal F.Number = 0
+formRefusal F.Malformed = 15
 
 -- ---- the kinds and the places by number
 
@@ -53,14 +53,15 @@ placeNumber (PowerSign m s) = 8
 placeNumber (Power m s e) = 9
 placeNumber Bad = 10
 
-abbrev pub none : Mantissa
-none = mantissa false 0 0
+abbrev pub noMantissa : Mantissa
+noMantissa = mantissa false 0 0
 
 abbrev pub placeAt : ℕ → Scan
 placeAt k =
     getD
-    (Lead ∷ Signed false ∷ Whole false 0 ∷ Point false ∷ Fraction none ∷ Gap none ∷ Mark none ∷ MarkGap none
-    ∷ PowerSign none false ∷ Power none false 0 ∷ [])
+    (Lead ∷ Signed false ∷ Whole false 0 ∷ Point false ∷ Fraction noMantissa ∷ Gap noMantissa ∷ Mark noMantissa
+    ∷ MarkGap noMantissa
+    ∷ PowerSign noMantissa false ∷ Power noMantissa false 0 ∷ [])
     k Bad
 
 -- ---- the tables
@@ -71,7 +72,7 @@ kindTable = listOf (λ b. kindNumber (columnOf b .kind)) 0 256
 
 -- eight entries for each of the 11 places, of which the kinds take six
 unfoldable pub nextTable : List ℕ
-nextTable = listOf (λ k. placeNumber (stepOf (placeAt (k / 8)) (column (kindAt (k % 8)) 0 false))) 0 88
+nextTable = listOf (λ k. placeNumber (scanStep (placeAt (k / 8)) (column (kindAt (k % 8)) 0 false))) 0 88
 
 -- what a caller lends
 pub record Tables (kinds nexts : List ℕ) : Type 0 where
@@ -79,8 +80,8 @@ pub record Tables (kinds nexts : List ℕ) : Type 0 where
   pub nexts-right : nexts ≡ nextTable
 
 -- the form of a field whose reading ends at a place
-abbrev pub endOf : ℕ → Form
-endOf place =
+abbrev pub formAtEnd : ℕ → Form
+formAtEnd place =
     cond (eqb place 0) F.Blank
     (cond (eqb place 4) F.Number
     (cond (eqb place 5) F.Number

@@ -22,9 +22,9 @@ Digits [] = Unit {0}
 Digits (d ∷ ds) = (d < 10) × Digits ds
 
 -- its characters
-abbrev pub text : List ℕ → List ℕ
-text [] = []
-text (d ∷ ds) = (48 + d) ∷ text ds
+abbrev pub digitsText : List ℕ → List ℕ
+digitsText [] = []
+digitsText (d ∷ ds) = (48 + d) ∷ digitsText ds
 
 -- its number, behind a number that was read before it
 abbrev pub numFrom : ℕ → List ℕ → ℕ
@@ -78,7 +78,7 @@ pub data Tail : Type 0 where
 
 abbrev pub tailText : Tail → List ℕ
 tailText (plain k) = blanks k
-tailText (power o ds) = openText o ++ text ds
+tailText (power o ds) = openText o ++ digitsText ds
 
 abbrev pub GoodTail : Tail → Type 0
 GoodTail (plain k) = Unit {0}
@@ -98,19 +98,19 @@ unfoldable pub write : Field → List ℕ
 write f =
     blanks (f .lead)
     ++ (signText (f .sign)
-    ++ (text (f .whole)
-    ++ (46 ∷ (text (f .part)
+    ++ (digitsText (f .whole)
+    ++ (46 ∷ (digitsText (f .part)
     ++ tailText (f .tail)))))
 
 -- "digits with exactly one point, at least one digit"
-pub record Good (f : Field) : Type 0 where
+pub record GoodField (f : Field) : Type 0 where
   pub digits : Digits (f .whole ++ f .part)
   pub some : 1 ≤ length (f .whole ++ f .part)
   pub tail : GoodTail (f .tail)
 
 -- the columns l are the field f; that they are one field only is the law `spelt-once`
 pub record Spells (l : List ℕ) (f : Field) : Type 0 where
-  pub good : Good f
+  pub good : GoodField f
   pub same : write f ≡ l
 
 -- the characters of which fields are made

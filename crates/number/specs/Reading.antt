@@ -64,49 +64,50 @@ pub data Scan : Type 0 where
   Bad : Scan
 
 -- one answer for each kind
-abbrev pub on : Kind → Scan → Scan → Scan → Scan → Scan → Scan
-on blank b d p s e = b
-on digit b d p s e = d
-on point b d p s e = p
-on sign b d p s e = s
-on mark b d p s e = e
-on other b d p s e = Bad
+abbrev pub byKind : Kind → Scan → Scan → Scan → Scan → Scan → Scan
+byKind blank b d p s e = b
+byKind digit b d p s e = d
+byKind point b d p s e = p
+byKind sign b d p s e = s
+byKind mark b d p s e = e
+byKind other b d p s e = Bad
 
 -- where it stands one column later: at a blank, a digit, a point, a sign, an E
-abbrev pub stepOf : Scan → Column → Scan
-stepOf Lead k = on (k .kind) Lead (Whole false (k .value)) (Point false) (Signed (k .minus)) Bad
-stepOf (Signed n) k = on (k .kind) Bad (Whole n (k .value)) (Point n) Bad Bad
-stepOf (Whole n c) k = on (k .kind) Bad (Whole n (c * 10 + k .value)) (Fraction (mantissa n c 0)) Bad Bad
-stepOf (Point n) k = on (k .kind) Bad (Fraction (mantissa n (k .value) 1)) Bad Bad Bad
-stepOf (Fraction m) k = on (k .kind) (Gap m) (Fraction (longer m (k .value))) Bad (PowerSign m (k .minus)) (Mark m)
-stepOf (Gap m) k = on (k .kind) (Gap m) Bad Bad (PowerSign m (k .minus)) (Mark m)
-stepOf (Mark m) k = on (k .kind) (MarkGap m) (Power m false (k .value)) Bad (PowerSign m (k .minus)) Bad
-stepOf (MarkGap m) k = on (k .kind) (MarkGap m) (Power m false (k .value)) Bad Bad Bad
-stepOf (PowerSign m s) k = on (k .kind) Bad (Power m s (k .value)) Bad Bad Bad
-stepOf (Power m s e) k = on (k .kind) Bad (Power m s (e * 10 + k .value)) Bad Bad Bad
-stepOf Bad k = Bad
+abbrev pub scanStep : Scan → Column → Scan
+scanStep Lead k = byKind (k .kind) Lead (Whole false (k .value)) (Point false) (Signed (k .minus)) Bad
+scanStep (Signed n) k = byKind (k .kind) Bad (Whole n (k .value)) (Point n) Bad Bad
+scanStep (Whole n c) k = byKind (k .kind) Bad (Whole n (c * 10 + k .value)) (Fraction (mantissa n c 0)) Bad Bad
+scanStep (Point n) k = byKind (k .kind) Bad (Fraction (mantissa n (k .value) 1)) Bad Bad Bad
+scanStep (Fraction m) k =
+    byKind (k .kind) (Gap m) (Fraction (longer m (k .value))) Bad (PowerSign m (k .minus)) (Mark m)
+scanStep (Gap m) k = byKind (k .kind) (Gap m) Bad Bad (PowerSign m (k .minus)) (Mark m)
+scanStep (Mark m) k = byKind (k .kind) (MarkGap m) (Power m false (k .value)) Bad (PowerSign m (k .minus)) Bad
+scanStep (MarkGap m) k = byKind (k .kind) (MarkGap m) (Power m false (k .value)) Bad Bad Bad
+scanStep (PowerSign m s) k = byKind (k .kind) Bad (Power m s (k .value)) Bad Bad Bad
+scanStep (Power m s e) k = byKind (k .kind) Bad (Power m s (e * 10 + k .value)) Bad Bad Bad
+scanStep Bad k = Bad
 
 abbrev pub scanOf : Scan → List ℕ → Scan
 scanOf s [] = s
-scanOf s (b ∷ l) = scanOf (stepOf s (columnOf b)) l
+scanOf s (b ∷ l) = scanOf (scanStep s (columnOf b)) l
 
 -- ---- what is read
 
 -- digits with a written exponent, below zero or not
-abbrev pub said : Mantissa → Bool → ℕ → Reading
-said m below e = Number (valueOf (m .negative) (m .number) (signedBy below e -ℤ pos (m .places)))
+abbrev pub saidBy : Mantissa → Bool → ℕ → Reading
+saidBy m below e = Number (valueOf (m .negative) (m .number) (signedBy below e -ℤ pos (m .places)))
 
 unfoldable pub finish : Scan → Reading
 finish Lead = Blank
 finish (Signed n) = Refused 15
 finish (Whole n c) = Refused 15
 finish (Point n) = Refused 15
-finish (Fraction m) = said m false 0
-finish (Gap m) = said m false 0
+finish (Fraction m) = saidBy m false 0
+finish (Gap m) = saidBy m false 0
 finish (Mark m) = Refused 15
 finish (MarkGap m) = Refused 15
 finish (PowerSign m s) = Refused 15
-finish (Power m s e) = said m s e
+finish (Power m s e) = saidBy m s e
 finish Bad = Refused 15
 
 -- what a field says: "blank is said as blank", "15 malformed"

@@ -99,7 +99,7 @@ meaning f = valueOf (minus (f .sign)) (digitsOf f) (powerOf f)
 -- ---- how large it can be
 
 -- v is no larger than w columns allow: one goes to the point, and two more to an exponent's sign and a digit before it
-pub record Within (w : ℕ) (v : Decimal) : Type 0 where
+pub record WithinColumns (w : ℕ) (v : Decimal) : Type 0 where
   pub coefficient : v .coefficient < 10 ^ (w - 1)
   pub least : negℤ (pos (10 ^ (w - 3))) ≤ℤ v .power
   pub most : v .power <ℤ pos (10 ^ (w - 3))

@@ -9,14 +9,14 @@ use Rattle.number.specs.declared.value.Reading.{Reading}
 use Rattle.number.specs.declared.value.Reading.the-variants.{Refused}
 use Rattle.number.specs.declared.walk.Front.{Front}
 use Rattle.number.specs.declared.walk.Exponent.{Exponent}
-use Rattle.number.specs.Reading.{Mantissa, mantissa, Scan, Lead, Fraction, Gap, scanOf, said, finish, readField}
+use Rattle.number.specs.Reading.{Mantissa, mantissa, Scan, Lead, Fraction, Gap, scanOf, saidBy, finish, readField}
 
 -- what is read from column i on, where the reading stands at t
 abbrev pub readFrom : Scan → ℕ → List ℕ → Reading
 readFrom t i s = finish (scanOf t (drop i s))
 
 -- i is a column of a field of at most eleven, or its end
-pub record Inside (s : List ℕ) (i : ℕ) : Type 0 where
+pub record Reached (s : List ℕ) (i : ℕ) : Type 0 where
   pub short : length s ≤ 11
   pub inside : i ≤ length s
 
@@ -66,7 +66,7 @@ abbrev pub badExponent : Exponent
 badExponent = record { formed = false; below = false; size = 0 }
 
 abbrev pub raised : Exponent → Mantissa → Reading
-raised r m = cond (r .formed) (said m (r .below) (r .size)) (Refused 15)
+raised r m = cond (r .formed) (saidBy m (r .below) (r .size)) (Refused 15)
 
 -- from t at column i the reading comes to r, whatever the digits were
 pub record Raises (s : List ℕ) (i : ℕ) (t : Mantissa → Scan) (r : Exponent) : Type 0 where

@@ -2,8 +2,8 @@
 // table of the places to which they lead.
 ghost use mathlib.Core.Path.{_≡_};
 ghost use Prim.Native.Nat.{_<_};
-ghost use Rattle.number.specs.Reading.{Scan, columnOf, stepOf, readField};
-ghost use Rattle.number.specs.Form.{formOf, kindTable, nextTable, placeNumber, endOf, Tables};
+ghost use Rattle.number.specs.Reading.{Scan, columnOf, scanStep, readField};
+ghost use Rattle.number.specs.Form.{formOf, kindTable, nextTable, placeNumber, formAtEnd, Tables};
 
 pub enum Form {
     Blank,
@@ -79,7 +79,7 @@ pub fn nexts() -> [u8; 88]
 
 fn next_place(kinds: &[u8; 256], nexts: &[u8; 88], place: u8, b: u8) -> u8
     requires { ⌜ Tables (now kinds) (now nexts) × (place < 11) ⌝ }
-    ensures { λ r. ⌜ ((t : Scan) → place ≡ placeNumber t → r ≡ placeNumber (stepOf t (columnOf b))) ⌝ }
+    ensures { λ r. ⌜ ((t : Scan) → place ≡ placeNumber t → r ≡ placeNumber (scanStep t (columnOf b))) ⌝ }
 {
     let k = kinds[b as usize];
     let at = (place as usize) * 8 + (k as usize);
@@ -87,7 +87,7 @@ fn next_place(kinds: &[u8; 256], nexts: &[u8; 88], place: u8, b: u8) -> u8
 }
 
 fn form_at(place: u8) -> Form
-    ensures { λ r. ⌜ r ≡ endOf place ⌝ }
+    ensures { λ r. ⌜ r ≡ formAtEnd place ⌝ }
 {
     if place == 0 {
         return Form::Blank;

@@ -7,7 +7,7 @@ ghost use lib.ListN.{length};
 ghost use Rattle.number.specs.Value.{signedBy, valueOf};
 ghost use Rattle.number.specs.Reading.{Signed, Whole, Point, Gap, Mark, MarkGap, PowerSign, Power, readField};
 ghost use Rattle.number.specs.Walk.{digital, pastSign, badFront, badExponent};
-ghost use Rattle.number.specs.Walk.{Inside, Raises, Points, Passes, Leads};
+ghost use Rattle.number.specs.Walk.{Reached, Raises, Points, Passes, Leads};
 use crate::signed::difference;
 use crate::value::Decimal;
 use crate::value::Reading;
@@ -82,7 +82,7 @@ fn bad_exponent() -> Exponent
 }
 
 fn in_power(s: &[u8], from: usize, below: bool, first: u32) -> Exponent
-    requires { ⌜ Inside (now s) from × ((first + 1) * 1000 ≤ 10 ^ from) ⌝ }
+    requires { ⌜ Reached (now s) from × ((first + 1) * 1000 ≤ 10 ^ from) ⌝ }
     ensures { λ r. ⌜ Raises (now (s .entry)) from (λ m. Power m below first) r ⌝ }
 {
     let mut size = first;
@@ -105,7 +105,7 @@ fn in_power(s: &[u8], from: usize, below: bool, first: u32) -> Exponent
 }
 
 fn in_power_sign(s: &[u8], i: usize, below: bool) -> Exponent
-    requires { ⌜ Inside (now s) i × (3 ≤ i) ⌝ }
+    requires { ⌜ Reached (now s) i × (3 ≤ i) ⌝ }
     ensures { λ r. ⌜ Raises (now (s .entry)) i (λ m. PowerSign m below) r ⌝ }
 {
     if i < s.len() {
@@ -120,7 +120,7 @@ fn in_power_sign(s: &[u8], i: usize, below: bool) -> Exponent
 }
 
 fn in_mark_gap(s: &[u8], from: usize) -> Exponent
-    requires { ⌜ Inside (now s) from × (3 ≤ from) ⌝ }
+    requires { ⌜ Reached (now s) from × (3 ≤ from) ⌝ }
     ensures { λ r. ⌜ Raises (now (s .entry)) from (λ m. MarkGap m) r ⌝ }
 {
     let mut i = from;
@@ -139,7 +139,7 @@ fn in_mark_gap(s: &[u8], from: usize) -> Exponent
 }
 
 fn in_mark(s: &[u8], i: usize) -> Exponent
-    requires { ⌜ Inside (now s) i × (3 ≤ i) ⌝ }
+    requires { ⌜ Reached (now s) i × (3 ≤ i) ⌝ }
     ensures { λ r. ⌜ Raises (now (s .entry)) i (λ m. Mark m) r ⌝ }
 {
     if i < s.len() {
@@ -156,7 +156,7 @@ fn in_mark(s: &[u8], i: usize) -> Exponent
 }
 
 fn in_gap(s: &[u8], from: usize) -> Exponent
-    requires { ⌜ Inside (now s) from × (2 ≤ from) ⌝ }
+    requires { ⌜ Reached (now s) from × (2 ≤ from) ⌝ }
     ensures { λ r. ⌜ Raises (now (s .entry)) from (λ m. Gap m) r ⌝ }
 {
     let mut i = from;
@@ -197,7 +197,7 @@ fn bad_front() -> Front
 }
 
 fn in_fraction(s: &[u8], from: usize, first: u64, behind: u32) -> Front
-    requires { ⌜ Inside (now s) from × ((first < 10 ^ from) × (behind ≤ from)) ⌝ }
+    requires { ⌜ Reached (now s) from × ((first < 10 ^ from) × (behind ≤ from)) ⌝ }
     ensures { λ r. ⌜ Passes (now (s .entry)) from first behind r ⌝ }
 {
     let mut number = first;
@@ -228,7 +228,7 @@ fn in_fraction(s: &[u8], from: usize, first: u64, behind: u32) -> Front
 }
 
 fn in_whole(s: &[u8], from: usize, first: u64) -> Front
-    requires { ⌜ Inside (now s) from × ((first < 10 ^ from) × (1 ≤ from)) ⌝ }
+    requires { ⌜ Reached (now s) from × ((first < 10 ^ from) × (1 ≤ from)) ⌝ }
     ensures { λ r. ⌜ Points (now (s .entry)) from (λ g. Whole g first) r ⌝ }
 {
     let mut number = first;
@@ -255,7 +255,7 @@ fn in_whole(s: &[u8], from: usize, first: u64) -> Front
 }
 
 fn in_point(s: &[u8], i: usize) -> Front
-    requires { ⌜ Inside (now s) i × (1 ≤ i) ⌝ }
+    requires { ⌜ Reached (now s) i × (1 ≤ i) ⌝ }
     ensures { λ r. ⌜ Points (now (s .entry)) i (λ g. Point g) r ⌝ }
 {
     if i < s.len() {
@@ -275,7 +275,7 @@ fn in_point(s: &[u8], i: usize) -> Front
 }
 
 fn in_signed(s: &[u8], i: usize) -> Front
-    requires { ⌜ Inside (now s) i ⌝ }
+    requires { ⌜ Reached (now s) i ⌝ }
     ensures { λ r. ⌜ Points (now (s .entry)) i (λ g. Signed g) r ⌝ }
 {
     if i < s.len() {

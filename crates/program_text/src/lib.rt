@@ -1,6 +1,8 @@
 // What the programs of this repository have in common: words and numbers on standard output, and numbers in the lines
 // that they read.
-ghost use Prim.Native.Nat.{_≤_};
+ghost use mathlib.Core.Path.{_≡_};
+ghost use Prim.Native.Nat.{_≤_, _-_};
+ghost use Rattle.program_text.specs.Line.{byteAt, withDigit, numberOver};
 
 // A word, and a number behind it.
 pub fn say(word: &[u8], n: u64) {
@@ -38,34 +40,43 @@ pub fn say_power(p: i32) {
 }
 
 // The byte at `i`; past the end of the line it is blank.
-pub fn byte_at(line: &[u8], i: usize) -> u8 {
-    if i < line.len() { line[i] } else { b' ' }
+pub fn byte_at(line: &[u8], i: usize) -> u8
+    ensures { λ r. ⌜ r ≡ byteAt (now (line .entry)) i ⌝ }
+{
+    if i < line.len() {
+        return line[i];
+    }
+    b' '
 }
 
-// A number with one digit more at its end; 0 behind anything else, and behind nine digits.
-fn with_digit(n: u32, digit: u8) -> u32
+// A number with one digit more at its end; 0 where it has nine digits, or the byte is none.
+fn with_digit(n: u32, b: u8) -> u32
+    ensures { λ r. ⌜ r ≡ withDigit n b ⌝ }
     ensures { λ r. ⌜ r ≤ 999999999 ⌝ }
 {
-    if n > 99999999 {
+    if 99999999 < n {
         return 0;
     }
-    if digit < b'0' {
+    if b < b'0' {
         return 0;
     }
-    if digit > b'9' {
+    if b'9' < b {
         return 0;
     }
-    n * 10 + (digit - b'0') as u32
+    let digit = (b - b'0') as u32;
+    n * 10 + digit
 }
 
-// The number at the end of the columns of a line from `from` up to `past`, at most nine digits long.
+// The number that the columns of a line from `from` up to `past` end in, of nine digits at most.
 pub fn number_in(line: &[u8], from: usize, past: usize) -> u32
+    ensures { λ r. ⌜ r ≡ numberOver (now (line .entry)) from (past - from) ⌝ }
     ensures { λ r. ⌜ r ≤ 999999999 ⌝ }
 {
     let mut n: u32 = 0;
     let mut i = from;
     while i < past {
-        n = with_digit(n, byte_at(line, i));
+        let b = byte_at(line, i);
+        n = with_digit(n, b);
         i += 1;
     }
     n

@@ -22,7 +22,7 @@ use Rattle.questions_places.specs.declared.place.Shape.{Shape}
 use Rattle.questions_places.specs.Place.{shapeOf, headingPlace, unitPlace, fieldOf, firstByte, byteOf}
 use Rattle.questions_places.specs.Passage.{passageOf}
 use Rattle.questions.specs.Ask.{sectionIn, columnRefusal, passageRefusal, noPart, partFrom}
-use Rattle.questions.specs.Ask.{partWith, Lies, headingBy, unitBy, passageBy, Inside}
+use Rattle.questions.specs.Ask.{partWith, Lies, headingBy, unitBy, passageBy, InShape}
 
 module _ (s : List ℕ) (v : Verdict) (number from bytes pointer : ℕ) where
   from-lies : Lies s (partFrom s (answerOf 0) from bytes pointer)
@@ -74,7 +74,7 @@ module _ (s : List ℕ) (v : Verdict) (x : Row) where
 
 -- the record of a value is one of 32 bits
 pub value-placed : (section : RecordNo) (shape : Shape) (line : LineNo) (column : ℕ) → section .0 ≤ MOST-RECORDS
-    → shape .columns ≤ MOST-COLUMNS → shape .lines ≤ MOST-LINES → Inside shape line column
+    → shape .columns ≤ MOST-COLUMNS → shape .lines ≤ MOST-LINES → InShape shape line column
     → InTable section (shape .columns) line column
 unfolding placeOf
 value-placed section shape line column a b c i =

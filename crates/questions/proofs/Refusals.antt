@@ -14,7 +14,7 @@ use Rattle.rules.proofs.DueRecords.{within-bounds}
 use Rattle.questions.specs.declared.row.Row.{Row}
 use Rattle.questions_places.specs.declared.place.Shape.{Shape}
 use Rattle.questions.specs.Ask.{isSubent, noSection, sectionRefusals}
-use Rattle.questions.specs.Ask.{Inside, valueRefusal, columnRefusal}
+use Rattle.questions.specs.Ask.{InShape, valueRefusal, columnRefusal}
 
 abbrev three : Bool → Bool → Bool → List Refusal → List Refusal
 three a b c ys = refusal 31 a ∷ refusal 32 b ∷ refusal 33 c ∷ ys
@@ -60,7 +60,7 @@ last-two false false false true false h = absurd (omega arith)
 module _ (s : List ℕ) (v : Verdict) (x : Row) (at : RecordNo) (shape : Shape) where
   -- a value that is not refused has its line and its column
   pub value-inside : (line : LineNo) (column : ℕ) → valueRefusal s v x at shape line column ≡ 0
-      → Inside shape line column
+      → InShape shape line column
   unfolding valueRefusal
   value-inside line column e =
       let (l, k) =

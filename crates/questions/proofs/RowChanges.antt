@@ -14,7 +14,7 @@ use Rattle.columns.specs.Fields.{n1}
 use Rattle.rules_state.specs.declared.state.Track.{Track}
 use Rattle.rules_state.specs.Role.{opensSubentry}
 use Rattle.questions.specs.declared.row.Row.{Row}
-use Rattle.questions.specs.Row.{withFirst, withBib, withCommon, withData, noted, subentryIn, notedAs}
+use Rattle.questions.specs.Row.{withFirstAt, withBibAt, withCommonAt, withDataAt, noted, subentryIn, notedAs}
 
 -- the sections that a row names
 pub data Section : Type 0 where
@@ -40,7 +40,7 @@ module _ (t : Track) (role : ℕ) (fs : List (List ℕ)) (x : Row) where
   abbrev noting-of : Bool → Bool → Bool → Bool → Bool → Row
   noting-of a o b c d =
       let at = recordOf (t .records) in
-      cond a (cond o (withFirst x at) (cond b (withBib x at) (cond c (withCommon x at) (cond d (withData x at) x)))) x
+      cond a (cond o (withFirstAt x at) (cond b (withBibAt x at) (cond c (withCommonAt x at) (cond d (withDataAt x at) x)))) x
 
   pub number-stays : notedAs t role fs x .number ≡ x .number
   unfolding notedAs noted

@@ -97,7 +97,7 @@ pub row-start : (s : List ℕ) (number : ℕ) → rowAt s number 0 ≡ emptyRow 
 unfolding rowAt
 row-start s number = refl
 
--- where no entry is accepted the row is empty
+-- in a refused entry the row is empty
 pub refused-row : (s : List ℕ) (number : ℕ) → (judgeOf s .refusal ≡ 0 → ⊥) → rowOf s number ≡ emptyRow number
 unfolding rowOf
 refused-row s number h = rw (ne-eqb (judgeOf s .refusal) 0 h)

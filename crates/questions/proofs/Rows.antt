@@ -12,7 +12,8 @@ use Rattle.rules_state.specs.declared.state.Track.{Track}
 use Rattle.rules_state.specs.State.{MOST-RECORDS}
 use Rattle.rules_state.specs.Role.{opensSubentry}
 use Rattle.questions.specs.declared.row.Row.{Row}
-use Rattle.questions.specs.Row.{NONE, emptyRow, withFirst, withBib, withCommon, withData, noted, subentryIn}
+use Rattle.questions.specs.Row.{NONE, emptyRow, withFirstAt, withBibAt, withCommonAt, withDataAt, noted}
+use Rattle.questions.specs.Row.{subentryIn}
 use Rattle.questions.specs.Row.{notedAs, Met}
 use Rattle.questions_places.specs.Place.{COMMON-SECTION, DATA-SECTION}
 use Rattle.questions.specs.Ask.{sectionIn}
@@ -26,7 +27,7 @@ module _ (x : Row) (m : Met x) where
   met-noted role at h = by-test (opensSubentry role) (eqb role BIB) (eqb role COMMON) (eqb role DATA)
     where
       by-test : (a b c d : Bool)
-          → Met (cond a (withFirst x at) (cond b (withBib x at) (cond c (withCommon x at) (cond d (withData x at) x))))
+          → Met (cond a (withFirstAt x at) (cond b (withBibAt x at) (cond c (withCommonAt x at) (cond d (withDataAt x at) x))))
       by-test true b c d = record { first = h; bib = m .bib; common = m .common; «data» = m .«data» }
       by-test false true c d = record { first = m .first; bib = h; common = m .common; «data» = m .«data» }
       by-test false false true d = record { first = m .first; bib = m .bib; common = h; «data» = m .«data» }

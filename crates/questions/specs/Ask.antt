@@ -68,7 +68,7 @@ abbrev pub noPassage : Passage → Bool
 noPassage p = eqb (p .records) 0
 
 -- a line and a column that a table has
-pub record Inside (shape : Shape) (line : LineNo) (column : ℕ) : Type 0 where
+pub record InShape (shape : Shape) (line : LineNo) (column : ℕ) : Type 0 where
   pub line-from : 1 ≤ line .0
   pub line-to : line .0 ≤ shape .lines
   pub column-from : 1 ≤ column
@@ -87,7 +87,7 @@ abbrev pub valueWith : Verdict → ℕ → Reading → ValueAnswer
 valueWith v number value =
     record { answer = answerFor v number; value = cond (eqb number 0) value Blank }
 
--- "Value gives blank or number": that an answered one is never malformed is the law `value-answered`
+-- "Value gives blank or number": that an answered one is never malformed is the law `answered-said`
 unfoldable pub valueBy : List ℕ → Verdict → Row → ℕ → LineNo → ℕ → ValueAnswer
 valueBy s v x section line column =
     let at = sectionIn x section in
@@ -95,8 +95,8 @@ valueBy s v x section line column =
     valueWith v (valueRefusal s v x at shape line column)
     (readField (fieldOf s (placeOf at (shape .columns) line column)))
 
-unfoldable pub valueOf : List ℕ → ℕ → ℕ → LineNo → ℕ → ValueAnswer
-valueOf s n section line column = valueBy s (judgeOf s) (rowOf s n) section line column
+unfoldable pub valueAsked : List ℕ → ℕ → ℕ → LineNo → ℕ → ValueAnswer
+valueAsked s n section line column = valueBy s (judgeOf s) (rowOf s n) section line column
 
 -- ---- parts of the entry
 
@@ -136,8 +136,8 @@ headingBy s v x section column =
     partWith s v (columnRefusal s v x at (shapeOf s section at) column)
     (byteOf heading) 10 (pointerOf (fieldOf s heading))
 
-unfoldable pub headingOf : List ℕ → ℕ → ℕ → ℕ → PartAnswer
-headingOf s n section column = headingBy s (judgeOf s) (rowOf s n) section column
+unfoldable pub headingAsked : List ℕ → ℕ → ℕ → ℕ → PartAnswer
+headingAsked s n section column = headingBy s (judgeOf s) (rowOf s n) section column
 
 unfoldable pub unitBy : List ℕ → Verdict → Row → ℕ → ℕ → PartAnswer
 unitBy s v x section column =
@@ -146,8 +146,8 @@ unitBy s v x section column =
     partWith s v (columnRefusal s v x at shape column)
     (byteOf (unitPlace at (shape .columns) column)) 10 (pointerOf (fieldOf s (headingPlace at column)))
 
-unfoldable pub unitOf : List ℕ → ℕ → ℕ → ℕ → PartAnswer
-unitOf s n section column = unitBy s (judgeOf s) (rowOf s n) section column
+unfoldable pub unitAsked : List ℕ → ℕ → ℕ → ℕ → PartAnswer
+unitAsked s n section column = unitBy s (judgeOf s) (rowOf s n) section column
 
 unfoldable pub passageRefusal : List ℕ → Verdict → Row → Passage → ℕ
 passageRefusal s v x p =
@@ -159,5 +159,5 @@ passageBy s v x keyword pointer =
     let p = passageOf s (x .bib) keyword pointer in
     partWith s v (passageRefusal s v x p) (firstByte (p .first)) (p .records * 81) pointer
 
-unfoldable pub passageAnswer : List ℕ → ℕ → List ℕ → ℕ → PartAnswer
-passageAnswer s n keyword pointer = passageBy s (judgeOf s) (rowOf s n) keyword pointer
+unfoldable pub passageAsked : List ℕ → ℕ → List ℕ → ℕ → PartAnswer
+passageAsked s n keyword pointer = passageBy s (judgeOf s) (rowOf s n) keyword pointer

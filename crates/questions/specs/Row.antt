@@ -26,20 +26,20 @@ NONE = record { 0 = 0 }
 abbrev pub emptyRow : ℕ → Row
 emptyRow number = record { number = number; first = NONE; bib = NONE; common = NONE; «data» = NONE }
 
-abbrev pub withFirst : Row → RecordNo → Row
-withFirst x at =
+abbrev pub withFirstAt : Row → RecordNo → Row
+withFirstAt x at =
     record { number = x .number; first = at; bib = x .bib; common = x .common; «data» = x .«data» }
 
-abbrev pub withBib : Row → RecordNo → Row
-withBib x at =
+abbrev pub withBibAt : Row → RecordNo → Row
+withBibAt x at =
     record { number = x .number; first = x .first; bib = at; common = x .common; «data» = x .«data» }
 
-abbrev pub withCommon : Row → RecordNo → Row
-withCommon x at =
+abbrev pub withCommonAt : Row → RecordNo → Row
+withCommonAt x at =
     record { number = x .number; first = x .first; bib = x .bib; common = at; «data» = x .«data» }
 
-abbrev pub withData : Row → RecordNo → Row
-withData x at =
+abbrev pub withDataAt : Row → RecordNo → Row
+withDataAt x at =
     record { number = x .number; first = x .first; bib = x .bib; common = x .common; «data» = at }
 
 -- ---- what a record leaves in the row of a subentry
@@ -47,10 +47,10 @@ withData x at =
 -- a record of that subentry, by its role and number
 unfoldable pub noted : Row → ℕ → RecordNo → Row
 noted x role at =
-    cond (opensSubentry role) (withFirst x at)
-    (cond (eqb role BIB) (withBib x at)
-    (cond (eqb role COMMON) (withCommon x at)
-    (cond (eqb role DATA) (withData x at) x)))
+    cond (opensSubentry role) (withFirstAt x at)
+    (cond (eqb role BIB) (withBibAt x at)
+    (cond (eqb role COMMON) (withCommonAt x at)
+    (cond (eqb role DATA) (withDataAt x at) x)))
 
 -- a record of the subentry with a number
 abbrev pub notedIn : Row → ℕ → ℕ → RecordNo → Row

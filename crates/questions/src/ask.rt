@@ -6,9 +6,9 @@ ghost use Rattle.columns.specs.Text.{within};
 ghost use Rattle.entry.specs.Answer.{firstOf, answerOf};
 ghost use Rattle.questions.specs.Row.{Met};
 ghost use Rattle.questions.specs.Ask.{isSubent, sectionIn, sectionRefusals};
-ghost use Rattle.questions.specs.Ask.{valueRefusal, valueBy, valueOf, noPart, partFrom, Lies, bytesIn};
-ghost use Rattle.questions.specs.Ask.{columnRefusal, headingBy, headingOf, unitBy, unitOf, passageRefusal};
-ghost use Rattle.questions.specs.Ask.{passageBy, passageAnswer};
+ghost use Rattle.questions.specs.Ask.{valueRefusal, valueBy, valueAsked, noPart, partFrom, Lies, bytesIn};
+ghost use Rattle.questions.specs.Ask.{columnRefusal, headingBy, headingAsked, unitBy, unitAsked, passageRefusal};
+ghost use Rattle.questions.specs.Ask.{passageBy, passageAsked};
 use crate::row::Row;
 use crate::row::locate;
 use columns::columns::LineNo;
@@ -283,7 +283,7 @@ fn passage_by(entry: &[u8], v: Verdict, row: Row, keyword: [u8; 10], pointer: u8
 
 // The value in a line and a column of COMMON (section 1) or DATA (section 2) of a subentry.
 pub fn value(entry: &[u8], number: u32, section: u32, line: LineNo, column: u32) -> ValueAnswer
-    ensures { λ r. ⌜ r ≡ valueOf (now (entry .entry)) number section line column ⌝ }
+    ensures { λ r. ⌜ r ≡ valueAsked (now (entry .entry)) number section line column ⌝ }
 {
     let found = locate(entry, number);
     let v = found.verdict;
@@ -293,7 +293,7 @@ pub fn value(entry: &[u8], number: u32, section: u32, line: LineNo, column: u32)
 
 // The heading of a column, ten columns, and its pointer.
 pub fn heading(entry: &[u8], number: u32, section: u32, column: u32) -> PartAnswer
-    ensures { λ r. ⌜ r ≡ headingOf (now (entry .entry)) number section column ⌝ }
+    ensures { λ r. ⌜ r ≡ headingAsked (now (entry .entry)) number section column ⌝ }
 {
     let found = locate(entry, number);
     let v = found.verdict;
@@ -303,7 +303,7 @@ pub fn heading(entry: &[u8], number: u32, section: u32, column: u32) -> PartAnsw
 
 // The unit of a column, ten columns, and the heading's pointer.
 pub fn unit(entry: &[u8], number: u32, section: u32, column: u32) -> PartAnswer
-    ensures { λ r. ⌜ r ≡ unitOf (now (entry .entry)) number section column ⌝ }
+    ensures { λ r. ⌜ r ≡ unitAsked (now (entry .entry)) number section column ⌝ }
 {
     let found = locate(entry, number);
     let v = found.verdict;
@@ -313,7 +313,7 @@ pub fn unit(entry: &[u8], number: u32, section: u32, column: u32) -> PartAnswer
 
 // The passage of a subentry with a keyword and a pointer, whole records.
 pub fn passage(entry: &[u8], number: u32, keyword: [u8; 10], pointer: u8) -> PartAnswer
-    ensures { λ r. ⌜ r ≡ passageAnswer (now (entry .entry)) number keyword pointer ⌝ }
+    ensures { λ r. ⌜ r ≡ passageAsked (now (entry .entry)) number keyword pointer ⌝ }
 {
     let found = locate(entry, number);
     let v = found.verdict;
@@ -323,21 +323,21 @@ pub fn passage(entry: &[u8], number: u32, keyword: [u8; 10], pointer: u8) -> Par
 
 // The parts themselves; a refused one is empty.
 pub fn heading_part<'a>(entry: &'a [u8], number: u32, section: u32, column: u32) -> &'a [u8]
-    ensures { λ r. ⌜ now r ≡ bytesIn (now (entry .entry)) (headingOf (now (entry .entry)) number section column) ⌝ }
+    ensures { λ r. ⌜ now r ≡ bytesIn (now (entry .entry)) (headingAsked (now (entry .entry)) number section column) ⌝ }
 {
     let part = heading(entry, number, section, column);
     part_of(entry, part)
 }
 
 pub fn unit_part<'a>(entry: &'a [u8], number: u32, section: u32, column: u32) -> &'a [u8]
-    ensures { λ r. ⌜ now r ≡ bytesIn (now (entry .entry)) (unitOf (now (entry .entry)) number section column) ⌝ }
+    ensures { λ r. ⌜ now r ≡ bytesIn (now (entry .entry)) (unitAsked (now (entry .entry)) number section column) ⌝ }
 {
     let part = unit(entry, number, section, column);
     part_of(entry, part)
 }
 
 pub fn passage_part<'a>(entry: &'a [u8], number: u32, keyword: [u8; 10], pointer: u8) -> &'a [u8]
-    ensures { λ r. ⌜ now r ≡ bytesIn (now (entry .entry)) (passageAnswer (now (entry .entry)) number keyword pointer) ⌝ }
+    ensures { λ r. ⌜ now r ≡ bytesIn (now (entry .entry)) (passageAsked (now (entry .entry)) number keyword pointer) ⌝ }
 {
     let part = passage(entry, number, keyword, pointer);
     part_of(entry, part)

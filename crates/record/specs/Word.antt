@@ -62,8 +62,8 @@ badPointer f = not (isBlank (pointerOf f) || isPointer (pointerOf f))
 -- ---- "A heading is a word in ten columns, with a pointer or blank in the eleventh. A unit is a word in ten columns,
 -- eleventh blank." "[U]nused fields are blank." A test says that the field k is at fault where `used` fields are used.
 
-unfoldable pub isUnit : List ℕ → Bool
-isUnit f = isWord 10 f && isBlank (pointerOf f)
+unfoldable pub isUnitWord : List ℕ → Bool
+isUnitWord f = isWord 10 f && isBlank (pointerOf f)
 
 abbrev pub filled : List ℕ → Bool
 filled f = not (blankTo 11 f)
@@ -77,7 +77,7 @@ unfoldable pub headingFault : ℕ → ℕ → List ℕ → Bool
 headingFault used k f = cond (ltb k used) (not (isWord 10 f)) (filled f)
 
 unfoldable pub unitFault : ℕ → ℕ → List ℕ → Bool
-unitFault used k f = cond (ltb k used) (not (isUnit f)) (filled f)
+unitFault used k f = cond (ltb k used) (not (isUnitWord f)) (filled f)
 
 -- the three by number, as one search asks for them
 abbrev pub faultIn : ℕ → ℕ → ℕ → List ℕ → Bool

@@ -6,7 +6,7 @@ ghost use Rattle.columns.specs.Text.{within};
 ghost use Rattle.columns.specs.Fields.{firstField};
 ghost use Rattle.record.specs.Word.{blankTo, equalTo, wordEnd, filledFrom, isWord, isPointer};
 ghost use Rattle.record.specs.Word.{fourAt, eightAt};
-ghost use Rattle.record.specs.Word.{badPointer, isUnit, pointerFault, headingFault, unitFault, faultIn};
+ghost use Rattle.record.specs.Word.{badPointer, isUnitWord, pointerFault, headingFault, unitFault, faultIn};
 
 // What the six fields of a record are to be: fields with pointers, headings, units.
 const POINTERS: u32 = 0;
@@ -181,7 +181,7 @@ pub fn bad_pointer(f: [u8; 11]) -> bool
 
 // Whether a field is a unit: a word, its eleventh column blank.
 fn is_unit(f: [u8; 11]) -> bool
-    ensures { λ r. ⌜ r ≡ isUnit f ⌝ }
+    ensures { λ r. ⌜ r ≡ isUnitWord f ⌝ }
 {
     if !is_word(f) {
         return false;

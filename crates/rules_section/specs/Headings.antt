@@ -58,8 +58,8 @@ partOf e s =
     (cond (eqb s 1) (e .common)
     (cond (eqb s 2) (e .table) (e .here)))
 
-abbrev pub headingsOf : List ℕ → ℕ → ℕ → ℕ
-headingsOf part left s = cond (eqb s 3) left (headingsIn part)
+abbrev pub headingCount : List ℕ → ℕ → ℕ → ℕ
+headingCount part left s = cond (eqb s 3) left (headingsIn part)
 
 -- the record in hand has the headings to the left
 pub record Left (part : List ℕ) (left s : ℕ) : Type 0 where
@@ -82,14 +82,14 @@ pub record Near (before s m : ℕ) : Type 0 where
   pub place : m < FAR
 
 -- a section and a column of it, both numbered from 1; the record in hand belongs to the third section
-abbrev pub placeOf : ℕ → ℕ → ℕ → Found
-placeOf before s m = cond (eqb s 3) (At 3 (before + (m + 1))) (At (s + 1) (m + 1))
+abbrev pub headingFound : ℕ → ℕ → ℕ → Found
+headingFound before s m = cond (eqb s 3) (At 3 (before + (m + 1))) (At (s + 1) (m + 1))
 
 abbrev pub sectionTurn : List ℕ → Earlier → Unit {0} → ℕ → Turn (Unit {0}) Found
 sectionTurn f e u s =
-    let n : ℕ = headingsOf (partOf e s) (e .left) s in
+    let n : ℕ = headingCount (partOf e s) (e .left) s in
     let m : ℕ = equalIn f (partOf e s) n in
-    cond (ltb m n) (out (placeOf (headingsIn (e .table)) s m)) (go u)
+    cond (ltb m n) (out (headingFound (headingsIn (e .table)) s m)) (go u)
 
 abbrev pub nowhere : Unit {0} → Found
 nowhere u = Nothing

@@ -14,11 +14,11 @@ use Rattle.rules_state.specs.Fault.{when}
 -- "BIB: columns 1-10 a keyword (word) or blank, 11 a pointer or blank, 12-66 text."
 
 -- columns 1 to 11 of the records of a part, and their pointers alone
-abbrev pub placeAt : List ℕ → ℕ → List ℕ
-placeAt part i = columnsAt (i * 81) 11 part
+abbrev pub placeInPart : List ℕ → ℕ → List ℕ
+placeInPart part i = columnsAt (i * 81) 11 part
 
 unfoldable pub placesOf : List ℕ → List (List ℕ)
-placesOf part = listOf (placeAt part) 0 (length part / 81)
+placesOf part = listOf (placeInPart part) 0 (length part / 81)
 
 -- columns 3 to 10 of the records of a part, as numbers
 unfoldable pub eightsOf : List ℕ → List ℕ

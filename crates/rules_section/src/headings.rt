@@ -12,9 +12,10 @@ ghost use Rattle.rules_state.specs.State.{used};
 ghost use Rattle.rules_state.specs.Ranging.{Stands, bytesOf, seenOf};
 ghost use Rattle.rules_state.specs.Role.{DATA-HEADING, isHeading, isUnit};
 ghost use Rattle.rules_state.specs.Fault.{leftmost, on};
-ghost use Rattle.rules_section.specs.Headings.{rule11Heading, rule12Heading, rule12Unit, headingsIn, Earlier, earlier};
-ghost use Rattle.rules_section.specs.Headings.{partOf, headingsOf, Left, FAR, Near};
-ghost use Rattle.rules_section.specs.Headings.{placeOf, equalHeading, isFound, headingRepeated, rule13};
+ghost use Rattle.rules_section.specs.Headings.{rule11Heading, rule12Heading, rule12Unit, headingsIn, Earlier};
+ghost use Rattle.rules_section.specs.Headings.{earlier};
+ghost use Rattle.rules_section.specs.Headings.{partOf, headingCount, Left, FAR, Near};
+ghost use Rattle.rules_section.specs.Headings.{headingFound, equalHeading, isFound, headingRepeated, rule13};
 ghost use Rattle.rules_section.specs.Headings.{headingPointers, pointersFor, pointerLost, lostAt, rule14};
 use crate::text::pointer_in;
 use columns::fields::field;
@@ -72,7 +73,7 @@ fn part_of<'a>(
 // How many of the headings of a section count: in the record in hand those to the left.
 fn headings_of(part: &[u8], left: usize, s: usize) -> usize
     requires { ⌜ Left (now part) left s ⌝ }
-    ensures { λ r. ⌜ r ≡ headingsOf (now (part .entry)) left s ⌝ }
+    ensures { λ r. ⌜ r ≡ headingCount (now (part .entry)) left s ⌝ }
     ensures { λ r. ⌜ r ≤ headingsIn (now (part .entry)) ⌝ }
     ensures { λ r. ⌜ r < FAR ⌝ }
 {
@@ -86,7 +87,7 @@ fn headings_of(part: &[u8], left: usize, s: usize) -> usize
 // Where a heading stands that was found at m in a section; `before` are those of the section in hand.
 fn place_of(before: usize, s: usize, m: usize) -> Found
     requires { ⌜ Near before s m ⌝ }
-    ensures { λ r. ⌜ r ≡ placeOf before s m ⌝ }
+    ensures { λ r. ⌜ r ≡ headingFound before s m ⌝ }
 {
     let column = m + 1;
     if s == 3 {

@@ -9,12 +9,15 @@ use lib.Dec.{eqb}
 use Rattle.record.specs.Identifier.{ENTRY, SUBENT, NOSUBENT, BIB, NOBIB, ENDBIB, COMMON, NOCOMMON, ENDCOMMON, DATA}
 use Rattle.record.specs.Identifier.{NODATA, ENDDATA, ENDSUBENT, ENDENTRY, OTHER, isEnd}
 use Rattle.rules_state.specs.declared.state.Phase.{Phase}
-use Rattle.rules_state.specs.declared.state.Phase.the-variants.{Start, Opened, InSubentry, InBib, AfterBib, InCommon}
+use Rattle.rules_state.specs.declared.state.Phase.the-variants.{Start, Opened, InSubentry, InBib, AfterBib}
+use Rattle.rules_state.specs.declared.state.Phase.the-variants.{InCommon}
 use Rattle.rules_state.specs.declared.state.Phase.the-variants.{AfterCommon, InData, AfterData, Between, Done}
 use Rattle.rules_state.specs.declared.state.Track.{Track}
 use Rattle.rules_state.specs.State.{HEADINGS, UNITS}
-use Rattle.rules_state.specs.Role.{TEXT, COMMON-HEADING, COMMON-UNIT, COMMON-VALUE, DATA-HEADING, DATA-UNIT, DATA-VALUE}
-use Rattle.rules_state.specs.Role.{NOT-DUE, isHeading, only, either, bibRole, tableRole, dataRole, allRead, nextRole}
+use Rattle.rules_state.specs.Role.{TEXT, COMMON-HEADING, COMMON-UNIT, COMMON-VALUE, DATA-HEADING, DATA-UNIT}
+use Rattle.rules_state.specs.Role.{DATA-VALUE}
+use Rattle.rules_state.specs.Role.{NOT-DUE, isHeading, only, either, bibRole, tableRole, dataRole, allRead}
+use Rattle.rules_state.specs.Role.{nextRole}
 use Rattle.rules_state.specs.Role.{roleIn}
 use Rattle.rules_state.proofs.EitherWay.{either-way, no}
 

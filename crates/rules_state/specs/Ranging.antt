@@ -1,6 +1,6 @@
 -- What the code keeps in place of the parts that a rule may look back at, ranges of record numbers, and what holds of
--- them and of the track between two records. It stands between the code's numbers and the context of `State`, and is not
--- read against the paper.
+-- them and of the track between two records. It stands between the code's numbers and the context of `State`, and is
+-- not read against the paper.
 use mathlib.Core.Path.{_≡_}
 use mathlib.Core.List.{List}
 use Prim.Native.Nat.{ℕ, _*_, _-_, _≤_}

@@ -1,6 +1,6 @@
 -- Where judging stands between two records: a phase of the nesting, a track of plain numbers, and the parts of the
--- entry that a rule may look back at. No rule sees anything else of what stands before its record. What the code keeps in
--- place of the parts is in `Ranging`.
+-- entry that a rule may look back at. No rule sees anything else of what stands before its record. What the code keeps
+-- in place of the parts is in `Ranging`.
 use mathlib.Core.Bool.{Bool, true, cond}
 use mathlib.Core.List.{List, []}
 use Prim.Native.Nat.{ℕ, _+_}

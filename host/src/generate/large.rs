@@ -20,41 +20,38 @@ pub const SHAPES: [Shape; 4] = [Shape::Text, Shape::Table, Shape::Subentries, Sh
 
 /// A valid entry of this shape, of at most so many records (at least 100) and nearly as many.
 pub fn large(random: &mut Random, shape: Shape, records: usize) -> Vec<u8> {
-    let mut lines = vec!["ENTRY            90001   20240105".to_string()];
     // The system records, the headings and the units are taken off first.
     match shape {
         Shape::Text => {
-            let text = records - 7;
             let keyword = |index: usize| if index % 500 == 0 { format!("K{index}") } else { String::new() };
-            let bib = bib((0..text).map(|index| format!("{:11}some words of text, number {index}", keyword(index))));
-            lines.extend(subentry(1, [bib, vec!["NOCOMMON".into()]].concat()));
+            text((0..records - 7).map(|index| format!("{:11}some words of text, number {index}", keyword(index))))
         }
-        Shape::Keywords => {
-            let text = records - 7;
-            let bib = bib((0..text).map(|index| format!("WORD-{index:05} text")));
-            lines.extend(subentry(1, [bib, vec!["NOCOMMON".into()]].concat()));
-        }
+        Shape::Keywords => text((0..records - 7).map(|index| format!("WORD-{index:05} text"))),
         Shape::Table => {
-            lines.extend(subentry(1, vec!["NOBIB".into(), "NOCOMMON".into()]));
             let table = data(random, 18, (records - 18) / 3);
-            lines.extend(subentry(2, [vec!["NOBIB".into(), "NOCOMMON".into()], table].concat()));
+            whole(vec![empty(), [empty(), table].concat()])
         }
         Shape::Subentries => {
-            lines.extend(subentry(1, vec!["NOBIB".into(), "NOCOMMON".into()]));
             let each = ((records - 6) / 997).max(9);
-            for number in 2..=(((records - 6) / each) + 1).min(998) {
-                let table = data(random, 4, each - 8);
-                lines.extend(subentry(number, [vec!["NOBIB".into(), "NOCOMMON".into()], table].concat()));
-            }
+            let others = ((records - 6) / each).min(997);
+            let filled = (0..others).map(|_| [empty(), data(random, 4, each - 8)].concat());
+            whole([vec![empty()], filled.collect()].concat())
         }
     }
-    let subentries = lines.iter().filter(|line| line.starts_with("SUBENT ")).count();
-    lines.push(format!("ENDENTRY   {subentries:>11}"));
-    identified(&lines)
+}
+
+/// An entry of one subentry with these lines of BIB: seven records more.
+pub(super) fn text(lines: impl Iterator<Item = String>) -> Vec<u8> {
+    whole(vec![[bib(lines), vec!["NOCOMMON".into()]].concat()])
+}
+
+/// Neither BIB nor COMMON.
+pub(super) fn empty() -> Vec<String> {
+    vec!["NOBIB".into(), "NOCOMMON".into()]
 }
 
 /// A BIB section; a line that begins with a blank has no keyword.
-fn bib(text: impl Iterator<Item = String>) -> Vec<String> {
+pub(super) fn bib(text: impl Iterator<Item = String>) -> Vec<String> {
     let text: Vec<String> = text.collect();
     let keywords = text.iter().filter(|line| !line.starts_with(' ')).count();
     let (first, last) =
@@ -65,19 +62,40 @@ fn bib(text: impl Iterator<Item = String>) -> Vec<String> {
 /// A DATA section in which every field is filled.
 fn data(random: &mut Random, columns: usize, lines: usize) -> Vec<String> {
     const NUMBERS: [&str; 6] = ["1.45-1", "0.14", "2.5E 01", "-12.345", "1.2345E-05", "100."];
-    let mut section = vec![format!("DATA       {columns:>11}{lines:>11}")];
-    let mut row = |cell: &mut dyn FnMut(usize) -> String| {
+    table("DATA", columns, lines, |column| format!("HEADING{column}"), |_| format!("{:>11}", random.one(&NUMBERS)))
+}
+
+/// A section of this name with the heading and, line by line, the eleven columns of each value: COMMON or DATA.
+pub(super) fn table(
+    name: &str,
+    columns: usize,
+    lines: usize,
+    heading: impl Fn(usize) -> String,
+    mut value: impl FnMut(usize) -> String,
+) -> Vec<String> {
+    let row = |cell: &mut dyn FnMut(usize) -> String| -> Vec<String> {
         let cells: Vec<String> = (1..=columns).map(cell).collect();
-        section.extend(cells.chunks(6).map(<[String]>::concat));
+        cells.chunks(6).map(<[String]>::concat).collect()
     };
-    row(&mut |column| format!("{:11}", format!("HEADING{column}")));
-    row(&mut |column| format!("{:11}", format!("UNIT{column}")));
+    let mut records = row(&mut |column| format!("{:11}", heading(column)));
+    records.extend(row(&mut |column| format!("{:11}", format!("UNIT{column}"))));
     for _ in 0..lines {
-        row(&mut |_| format!("{:>11}", random.one(&NUMBERS)));
+        records.extend(row(&mut value));
     }
-    let records = section.len() - 1;
-    section.push(format!("ENDDATA    {records:>11}"));
-    section
+    // The second number of COMMON counts records, that of DATA lines.
+    let second = if name == "DATA" { lines } else { records.len() };
+    let first = format!("{name:11}{columns:>11}{second:>11}");
+    let last = format!("{:11}{:>11}", format!("END{name}"), records.len());
+    [vec![first], records, vec![last]].concat()
+}
+
+/// An entry whose subentries, from 001 on, have these sections.
+pub(super) fn whole(subentries: Vec<Vec<String>>) -> Vec<u8> {
+    let mut lines = vec!["ENTRY            90001   20240105".to_string()];
+    let count = subentries.len();
+    lines.extend(subentries.into_iter().enumerate().flat_map(|(index, sections)| subentry(index + 1, sections)));
+    lines.push(format!("ENDENTRY   {count:>11}"));
+    identified(&lines)
 }
 
 /// A subentry around its sections.

@@ -5,11 +5,13 @@ mod damage;
 mod large;
 mod numbers;
 mod sheet;
+mod workloads;
 
 pub use damage::{damage, noise, random_bytes, Damage, CAUSES};
 pub use large::{large, Shape, SHAPES};
-pub use numbers::{decimal, number_field, spelling};
+pub use numbers::{decimal, number_field, spelling, usual_spelling};
 pub use sheet::{entry, Kind, Sheet};
+pub use workloads::{Workload, WORKLOADS};
 
 /// A small generator of pseudo-random numbers (SplitMix64).
 #[derive(Clone, Debug)]

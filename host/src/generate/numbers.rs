@@ -26,6 +26,27 @@ pub fn spelling(random: &mut Random) -> [u8; 11] {
     field.into_bytes().try_into().expect("eleven columns")
 }
 
+/// Eleven columns with a number as tables have it: one to six digits, in five spellings, at either end of the field.
+pub fn usual_spelling(random: &mut Random) -> [u8; 11] {
+    let digits = random.within(1, 6);
+    let mut text: String = (0..digits).map(|_| char::from(b'0' + random.below(10) as u8)).collect();
+    text.insert(random.within(0, digits), '.');
+    if random.once_in(8) {
+        text.insert(0, '-');
+    }
+    let short = text.len() < 7;
+    let exponent = match random.below(5) {
+        0 => format!("-{}", random.below(30)),
+        1 => format!("+{}", random.below(20)),
+        2 if short => format!("E {:02}", random.below(20)),
+        3 if short => format!(" E-{}", random.below(9)),
+        _ => String::new(),
+    };
+    let left = exponent.is_empty() && random.once_in(2);
+    let field = if left { format!("{text:<11}") } else { format!("{:>11}", text + &exponent) };
+    field.into_bytes().try_into().expect("eleven columns")
+}
+
 /// An exponent or nothing, the blanks before it, and the blanks behind its E.
 fn tail(random: &mut Random) -> (String, usize, usize) {
     let style = random.below(5);

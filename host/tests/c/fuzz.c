@@ -192,7 +192,7 @@ static uint64_t judged(const uint8_t *entry, size_t n, uint64_t totals[4]) {
     memcpy(totals, lent.bytes, 4 * sizeof *totals);
     untouched(word);
     check(x4_refusal(word) <= 16 && x4_refusal(word) == x4_entry_refusal(word), "1 to 16, twice");
-    check(x4_entry_record(word) <= records + 1 && x4_entry_column(word) <= 81 && word >> 48 == 0, "where it is refused");
+    check(x4_entry_record(word) <= records + 1 && x4_entry_column(word) <= 81 && !(word >> 48), "where it is refused");
     check(word || (totals[0] <= records && totals[1] <= records && totals[2] <= records && totals[3] <= 6 * records),
           "totals");
     return word;

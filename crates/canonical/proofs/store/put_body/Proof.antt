@@ -3,7 +3,7 @@ use Rattle.canonical.proofs.Filled.{filled-body}
 use Rattle.canonical.specs.Closed.{digitsN}
 use Rattle.canonical.specs.Storing.{put}
 use Rattle.laws.proofs.Table.{at}
-use Rattle.number.specs.Grammar.{text}
+use Rattle.number.specs.Grammar.{digitsText}
 use mathlib.Core.Path.{_∙_, ap}
 use borrow.Author.Needs.{needs}
 use Rattle.canonical.proofs.store.put_body.Statement.{statement}
@@ -59,7 +59,7 @@ returns c =
     (c .before .before .put-digits2 .ensures .1 ∙ ap (λ (x : ℕ). put
     (c .before .before .before .before .before .before .put-byte .last .0)
     (c .before .before .before .before .before .before .before .before .before .before .before .before .before .args
-    .at) (text
+    .at) (digitsText
     (digitsN
     (c .before .before .before .before .before .before .before .before .before .before .before .before .before .args
     .whole) x)))

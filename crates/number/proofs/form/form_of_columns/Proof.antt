@@ -6,7 +6,7 @@ use borrow.Author.Needs.{needs}
 use lib.ListN.{length, take}
 use lib.Seq.{take-all}
 use Rattle.number.proofs.Tables.{ends, place-small, scan-take}
-use Rattle.number.specs.Form.{endOf, placeNumber}
+use Rattle.number.specs.Form.{formAtEnd, placeNumber}
 use Rattle.number.specs.Reading.{Lead, readField, scanOf}
 use Rattle.number.proofs.form.form_of_columns.Statement.{statement}
 use Rattle.number.proofs.form.form_of_columns.Tie as tie
@@ -58,7 +58,7 @@ returns c =
     let s = args .s .now in
     let i = loop .i in
     let e = loop .inv .1 ∙ ap (λ (l : List ℕ). placeNumber (scanOf Lead l)) (take-all i s (omega arith)) in
-    c .form-at .ensures ∙ ap endOf e ∙ ends (scanOf Lead s)
+    c .form-at .ensures ∙ ap formAtEnd e ∙ ends (scanOf Lead s)
 
 pub form-of-columns-spec : {M : Type 1} → statement M
 form-of-columns-spec =

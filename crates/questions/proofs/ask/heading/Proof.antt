@@ -1,5 +1,5 @@
 use mathlib.Core.Path.{_∙_}
-use Rattle.questions.specs.Ask.{headingOf}
+use Rattle.questions.specs.Ask.{headingAsked}
 use borrow.Author.Needs.{needs}
 use Rattle.questions.proofs.ask.heading.Statement.{statement}
 use Rattle.questions.proofs.ask.heading.Tie as tie
@@ -18,7 +18,7 @@ heading-by-requires c κs = search needs
 
 -- src/ask.rt:331:1
 returns : tie.Need-returns
-unfolding headingOf
+unfolding headingAsked
 returns c = c .heading-by .ensures ∙ rw (c .before .before .before .locate .ensures .0)
 
 pub heading-spec : {M : Type 1} → statement M

@@ -1,5 +1,5 @@
 use Rattle.questions.proofs.Parts.{heading-lies}
-use Rattle.questions.specs.Ask.{bytesIn, headingOf}
+use Rattle.questions.specs.Ask.{bytesIn, headingAsked}
 use mathlib.Core.Path.{_∙_, ap}
 use borrow.Author.Needs.{needs}
 use Rattle.questions.proofs.ask.heading_part.Statement.{statement}
@@ -15,7 +15,7 @@ heading-requires c κs = search needs
 
 -- src/ask.rt:365:5
 part-of-requires : tie.Need-part-of-requires
-unfolding headingOf
+unfolding headingAsked
 part-of-requires c κs = rw (c .heading .ensures) (heading-lies _ _ _ _ _)
 
 -- src/ask.rt:361:1

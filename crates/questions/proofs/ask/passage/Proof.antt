@@ -1,5 +1,5 @@
 use mathlib.Core.Path.{_∙_}
-use Rattle.questions.specs.Ask.{passageAnswer}
+use Rattle.questions.specs.Ask.{passageAsked}
 use borrow.Author.Needs.{needs}
 use Rattle.questions.proofs.ask.passage.Statement.{statement}
 use Rattle.questions.proofs.ask.passage.Tie as tie
@@ -18,7 +18,7 @@ passage-by-requires c κs = search needs
 
 -- src/ask.rt:351:1
 returns : tie.Need-returns
-unfolding passageAnswer
+unfolding passageAsked
 returns c = c .passage-by .ensures ∙ rw (c .before .before .before .locate .ensures .0)
 
 pub passage-spec : {M : Type 1} → statement M

@@ -1,5 +1,5 @@
 use Rattle.questions.proofs.Parts.{passage-lies}
-use Rattle.questions.specs.Ask.{bytesIn, passageAnswer}
+use Rattle.questions.specs.Ask.{bytesIn, passageAsked}
 use mathlib.Core.Path.{_∙_, ap}
 use borrow.Author.Needs.{needs}
 use Rattle.questions.proofs.ask.passage_part.Statement.{statement}
@@ -15,7 +15,7 @@ passage-requires c κs = search needs
 
 -- src/ask.rt:379:5
 part-of-requires : tie.Need-part-of-requires
-unfolding passageAnswer
+unfolding passageAsked
 part-of-requires c κs = rw (c .passage .ensures) (passage-lies _ _ _ _ _)
 
 -- src/ask.rt:375:1

@@ -1,5 +1,5 @@
 use mathlib.Core.Path.{_∙_}
-use Rattle.questions.specs.Ask.{unitOf}
+use Rattle.questions.specs.Ask.{unitAsked}
 use borrow.Author.Needs.{needs}
 use Rattle.questions.proofs.ask.unit.Statement.{statement}
 use Rattle.questions.proofs.ask.unit.Tie as tie
@@ -18,7 +18,7 @@ unit-by-requires c κs = search needs
 
 -- src/ask.rt:341:1
 returns : tie.Need-returns
-unfolding unitOf
+unfolding unitAsked
 returns c = c .unit-by .ensures ∙ rw (c .before .before .before .locate .ensures .0)
 
 pub unit-spec : {M : Type 1} → statement M

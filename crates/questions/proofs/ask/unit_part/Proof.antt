@@ -1,5 +1,5 @@
 use Rattle.questions.proofs.Parts.{unit-lies}
-use Rattle.questions.specs.Ask.{bytesIn, unitOf}
+use Rattle.questions.specs.Ask.{bytesIn, unitAsked}
 use mathlib.Core.Path.{_∙_, ap}
 use borrow.Author.Needs.{needs}
 use Rattle.questions.proofs.ask.unit_part.Statement.{statement}
@@ -15,7 +15,7 @@ unit-requires c κs = search needs
 
 -- src/ask.rt:372:5
 part-of-requires : tie.Need-part-of-requires
-unfolding unitOf
+unfolding unitAsked
 part-of-requires c κs = rw (c .unit .ensures) (unit-lies _ _ _ _ _)
 
 -- src/ask.rt:368:1

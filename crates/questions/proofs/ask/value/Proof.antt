@@ -1,5 +1,5 @@
 use mathlib.Core.Path.{_∙_}
-use Rattle.questions.specs.Ask.{valueOf}
+use Rattle.questions.specs.Ask.{valueAsked}
 use borrow.Author.Needs.{needs}
 use Rattle.questions.proofs.ask.value.Statement.{statement}
 use Rattle.questions.proofs.ask.value.Tie as tie
@@ -18,7 +18,7 @@ value-by-requires c κs = search needs
 
 -- src/ask.rt:321:1
 returns : tie.Need-returns
-unfolding valueOf
+unfolding valueAsked
 returns c = c .value-by .ensures ∙ rw (c .before .before .before .locate .ensures .0)
 
 pub value-spec : {M : Type 1} → statement M

@@ -23,21 +23,26 @@ empty-row-requires c κs = search needs
 -- src/row.rt:116:9
 returns : tie.Need-returns
 returns c =
-    let refused =
-    refused-row _ _ (λ z.
-    c .before .if1 .taken (ap (λ (v : Verdict). v .refusal) (c .before .before .before .judge .ensures) ∙ z)) in (
-      λ k.
-          record { verdict = c .before .before .before .judge .ensures k; row = (c .empty-row .ensures ∙ sym refused) k },
+    let judged = c .before .before .before .judge .ensures in
+    let refused = refused-row _ _ (λ z. c .before .if1 .taken (ap (λ (v : Verdict). v .refusal) judged ∙ z)) in (
+      λ k. record { verdict = judged k; row = (c .empty-row .ensures ∙ sym refused) k },
       rw (c .empty-row .ensures) (met-empty _),
     )
 
 -- src/row.rt:121:9
 row-of-requires : tie.Need-row-of-requires
-row-of-requires c κs = accepted-good _ (ap (λ (v : Verdict). v .refusal) (sym (c .before .before .judge .ensures)) ∙ c .if1 .left)
+row-of-requires c κs =
+    let judged = c .before .before .judge .ensures in
+    accepted-good _ (ap (λ (v : Verdict). v .refusal) (sym judged) ∙ c .if1 .left)
 
 -- src/row.rt:109:1
 returns-2 : tie.Need-returns-2
-returns-2 c = let a = ap (λ (v : Verdict). v .refusal) (sym (c .before .before .before .judge .ensures)) ∙ c .before .if1 .left in (λ k. record { verdict = c .before .before .before .judge .ensures k; row = (c .row-of .ensures .0 ∙ sym (found-row _ _ a)) k }, c .row-of .ensures .1)
+returns-2 c =
+    let judged = c .before .before .before .judge .ensures in
+    let accepted = ap (λ (v : Verdict). v .refusal) (sym judged) ∙ c .before .if1 .left in (
+      λ k. record { verdict = judged k; row = (c .row-of .ensures .0 ∙ sym (found-row _ _ accepted)) k },
+      c .row-of .ensures .1,
+    )
 
 pub locate-spec : {M : Type 1} → statement M
 locate-spec =

@@ -22,7 +22,8 @@ use Rattle.questions.proofs.row.noted_in.Reads as noted-in-reads
 use Rattle.record.proofs.identifier.names.Reads as names-reads
 
 abbrev Inv-loop : tie.InvT-loop
-Inv-loop entry number n names kinds nexts j₀ row₀ i₀ j row i = (n ≡ length entry / 81) × Walking j entry i × (row ≡ rowAt entry number i)
+Inv-loop entry number n names kinds nexts j₀ row₀ i₀ j row i =
+    (n ≡ length entry / 81) × Walking j entry i × (row ≡ rowAt entry number i)
 
 abbrev μ-loop : tie.MeasureT-loop
 μ-loop entry number n names kinds nexts j₀ row₀ i₀ j row i = n - i
@@ -49,7 +50,11 @@ empty-row-requires c κs = search needs
 
 -- src/row.rt:93:5
 loop-holds : tie.Need-loop-holds Inv-loop μ-loop
-loop-holds c = (search needs, rw (c .before .new .ensures) (walking-start _ (c .before .before .before .before .before .before .pre)), rw (c .empty-row .ensures) (sym (row-start _ _)))
+loop-holds c = (
+  search needs,
+  rw (c .before .new .ensures) (walking-start _ (c .before .before .before .before .before .before .pre)),
+  rw (c .empty-row .ensures) (sym (row-start _ _)),
+)
 
 -- src/row.rt:95:13
 record-of-requires : tie.Need-record-of-requires Inv-loop μ-loop
@@ -57,7 +62,15 @@ record-of-requires c κs = let few = walking-bounded (c .before .before .loop .i
 
 -- src/row.rt:96:13
 pass-requires : tie.Need-pass-requires Inv-loop μ-loop
-pass-requires c κs = (record { same = c .before .before .before .before .before .before .before .before .before .before .before .names .ensures }, (record { kinds-right = c .before .before .before .before .before .before .before .before .before .before .kinds .ensures; nexts-right = c .before .before .before .before .before .before .before .before .before .nexts .ensures }, (c .before .before .before .before .before .before .loop .inv .1, omega (arith, c .before .before .before .before .before .before .loop .inv .0, c .before .before .before .before .before .loop-test .taken))))
+pass-requires c κs =
+    let loop = c .before .before .before .before .before .before .loop .inv in
+    let tables = c .before .before .before .before .before .before .before .before .before .before in (
+      record { same = tables .before .names .ensures },
+      (
+        record { kinds-right = tables .kinds .ensures; nexts-right = c .before .before .before .before .before .before .before .before .before .nexts .ensures },
+        (loop .1, omega (arith, loop .0, c .before .before .before .before .before .loop-test .taken)),
+      ),
+    )
 
 -- src/row.rt:101:9
 noted-in-requires : tie.Need-noted-in-requires Inv-loop μ-loop
@@ -65,19 +78,32 @@ noted-in-requires c κs = search needs
 
 -- src/row.rt:103:9
 add-i : tie.Need-add-i Inv-loop μ-loop
-add-i c = let g = whole-records _ (c .before .before .before .before .before .before .before .before .before .before .before .loop .inv .1 .good) in omega (arith, c .before .before .before .before .before .before .before .before .before .before .before .loop .inv .0, c .before .before .before .before .before .before .before .before .before .before .loop-test .taken)
+add-i c =
+    let loop = c .before .before .before .before .before .before .before .before .before .before .before .loop .inv in
+    let few = whole-records _ (loop .1 .good) in
+    omega (arith, loop .0, c .before .before .before .before .before .before .before .before .before .before .loop-test .taken)
 
 -- src/row.rt:93:5
 loop-less : tie.Need-loop-less Inv-loop μ-loop
-loop-less c = omega (arith, c .before .before .before .before .before .before .before .before .before .before .loop-test .taken)
+loop-less c =
+    let more = c .before .before .before .before .before .before .before .before .before .before .loop-test .taken in
+    omega (arith, more)
 
 -- src/row.rt:93:5
 loop-again : tie.Need-loop-again Inv-loop μ-loop
-loop-again c = (c .before .before .before .before .before .before .before .before .before .before .before .loop .inv .0, c .before .before .before .before .pass .ensures .walking, c .noted-in .ensures ∙ rw (c .before .before .before .before .before .before .before .before .before .before .before .loop .inv .2, c .before .before .before .before .before .before .before .before .record-of .ensures) (row-passed (c .before .before .before .before .before .before .before .before .before .before .before .loop .inv .1) (c .before .before .before .before .pass .ensures) _))
+loop-again c =
+    let loop = c .before .before .before .before .before .before .before .before .before .before .before .loop .inv in
+    let passed = c .before .before .before .before .pass .ensures in
+    let at = c .before .before .before .before .before .before .before .before .record-of .ensures in
+    (loop .0, passed .walking, c .noted-in .ensures ∙ rw (loop .2, at) (row-passed (loop .1) passed _))
 
 -- src/row.rt:81:1
 returns : tie.Need-returns Inv-loop μ-loop
-returns c = let w = c .before .loop .inv .1 in let e = walking-done w (omega (arith, c .before .loop .inv .0, c .loop-test .left)) in let g = whole-records _ (w .good) in (c .before .loop .inv .2 ∙ ap (rowAt _ _) e, rw (c .before .loop .inv .2) (met-rows _ _ _ (omega (arith, e, g .1))))
+returns c =
+    let loop = c .before .loop .inv in
+    let done = walking-done (loop .1) (omega (arith, loop .0, c .loop-test .left)) in
+    let few = whole-records _ (loop .1 .good) .1 in
+    (loop .2 ∙ ap (rowAt _ _) done, rw (loop .2) (met-rows _ _ _ (omega (arith, done, few))))
 
 pub row-of-spec : {M : Type 1} → statement M
 row-of-spec =

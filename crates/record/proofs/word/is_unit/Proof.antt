@@ -1,4 +1,4 @@
-use Rattle.record.specs.Word.{isUnit}
+use Rattle.record.specs.Word.{isUnitWord}
 use borrow.Author.Needs.{needs}
 use borrow.Author.Tests.{not-false, not-true}
 use Rattle.record.proofs.word.is_unit.Statement.{statement}
@@ -13,7 +13,7 @@ is-word-requires c κs = search needs
 
 -- src/word.rt:145:9
 returns : tie.Need-returns
-unfolding isUnit
+unfolding isUnitWord
 returns c = rw (← c .before .is-word .ensures, not-true (c .before .is-word .result) (c .if1 .taken))
 
 -- src/word.rt:147:5
@@ -22,7 +22,7 @@ array-read-result c = search needs
 
 -- src/word.rt:141:1
 returns-2 : tie.Need-returns-2
-unfolding isUnit
+unfolding isUnitWord
 returns-2 c = rw (← c .before .is-word .ensures, not-false (c .before .is-word .result) (c .if1 .left))
 
 pub is-unit-spec : {M : Type 1} → statement M

@@ -3,7 +3,7 @@ use Prim.Native.Nat.{_-_, _/_}
 use Rattle.laws.proofs.Members.{Look, look-all}
 use Rattle.laws.specs.Members.{anyOf}
 use Rattle.record.specs.Word.{equalTo}
-use Rattle.rules_section.specs.Text.{placeAt, placesOf}
+use Rattle.rules_section.specs.Text.{placeInPart, placesOf}
 use lib.ListN.{length}
 use mathlib.Core.Path.{_∙_, _≡_, sym}
 use native.Mathlib.Omega.{arith}
@@ -17,7 +17,7 @@ use Rattle.record.proofs.word.same_keyword.Reads as same-keyword-reads
 
 abbrev Inv-loop : tie.InvT-loop
 Inv-loop part f n i₀ i =
-    (n ≡ length part / 81) × Look (equalTo 10 f) (placeAt part) (anyOf (equalTo 10 f) (placesOf part)) i n
+    (n ≡ length part / 81) × Look (equalTo 10 f) (placeInPart part) (anyOf (equalTo 10 f) (placesOf part)) i n
 
 abbrev μ-loop : tie.MeasureT-loop
 μ-loop part f n i₀ i = n - i

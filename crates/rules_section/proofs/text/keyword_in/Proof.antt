@@ -9,7 +9,7 @@ use Rattle.laws.specs.Members.{anyOf}
 use Rattle.laws.proofs.Members.{any-weaker}
 use Rattle.record.specs.Word.{equalTo, eightAt}
 use Rattle.record.proofs.EightColumns.{eight-equal}
-use Rattle.rules_section.specs.Text.{placeAt, placesOf, eightsOf}
+use Rattle.rules_section.specs.Text.{placeInPart, placesOf, eightsOf}
 use borrow.Author.Needs.{needs}
 use Rattle.rules_section.proofs.text.keyword_in.Statement.{statement}
 use Rattle.rules_section.proofs.text.keyword_in.Tie as tie
@@ -45,7 +45,7 @@ nowhere : (part f : List ℕ) (number : ℕ) → number ≡ eightAt f 2 → anyO
 unfolding eightsOf placesOf
 nowhere part f number w e =
     sym
-    (any-weaker (equalTo 10 f) (eqb number) (placeAt part) (λ i. eightAt part (i * 81 + 2))
+    (any-weaker (equalTo 10 f) (eqb number) (placeInPart part) (λ i. eightAt part (i * 81 + 2))
     (λ i h. eq-eqb number (eightAt part (i * 81 + 2)) (w ∙ eight-equal f part (i * 81) h))
     0 (length part / 81) e)
 

@@ -1,11 +1,18 @@
 //! Times the library beside the reference and beside other readers of numbers: same process, same input, medians.
 //!
-//!     cargo run --release --bin bench [-- --plot FILE]
+//!     cargo run --release --bin bench [-- --plot FILE | --peer FILE [--samples N] | --help]
 //!
 //! Each line has the time of one field, value or record: the median, its ratio to the library's, and the least, which
 //! says more where the machine had other work. `--plot` draws the times of judging, by the number of records, as SVG.
+//! `--peer` times the library beside a reader written by hand instead: see `beside.rs`.
 
 #![forbid(unsafe_code)]
+
+mod beside;
+#[cfg(test)]
+mod peer;
+#[cfg(test)]
+mod ratios;
 
 use glockenbeacon::generate::{self, Random, SHAPES};
 use glockenbeacon::plot::{Line, Plot};
@@ -270,8 +277,33 @@ fn asking() {
     }
 }
 
-fn main() -> std::io::Result<()> {
-    let arguments: Vec<String> = std::env::args().skip(1).collect();
+const HELP: &str = "\
+bench                              times the library beside the reference and other readers of numbers
+bench --plot FILE                  the same, and draws the times of judging as SVG
+bench --peer FILE [--samples N]    times the library beside the reader in FILE, and prints ratios
+
+FILE is a module in Rust without dependencies. It is compiled with this program's sources, in target/peer, and has to
+offer these names (src/bin/bench/peer.rs is such a file); E may be any type:
+
+    pub struct Number { pub negative: bool, pub coefficient: u64, pub power: i32 }
+    pub enum Field { Blank, Number(Number) }
+    pub struct Verdict { pub refusal: u32, pub record: u32, pub column: u32,
+                         pub subentries: u32, pub keywords: u32, pub lines: u32, pub numbers: u32 }
+    pub fn judge(entry: &[u8]) -> Verdict
+    pub fn value(entry: &[u8], subentry: u32, section: u32, line: u32, column: u32) -> Result<Field, E>
+    pub fn copy(entry: &[u8], buffer: &mut [u8]) -> Result<(), E>
+    pub fn read_number(field: &[u8]) -> Result<Field, E>
+    pub fn write_number(negative: bool, coefficient: u64, power: i32, buffer: &mut [u8]) -> u32    0: written
+
+Answers are compared before anything is timed. N is 41.";
+
+fn help() -> std::io::Result<()> {
+    println!("{HELP}");
+    Ok(())
+}
+
+/// The tables of times; the plot goes into a file, if one is named.
+fn times(plot_file: Option<&str>) -> std::io::Result<()> {
     println!("answered {}", library::who_answers());
     numbers();
     if !library::proved().contains(&"judge") {
@@ -280,10 +312,20 @@ fn main() -> std::io::Result<()> {
     }
     let plot = judging();
     asking();
-    if let [option, file] = arguments.as_slice() {
-        if option == "--plot" {
-            std::fs::write(file, plot.svg())?;
-        }
+    plot_file.map_or(Ok(()), |file| std::fs::write(file, plot.svg()))
+}
+
+fn main() -> std::io::Result<()> {
+    let arguments: Vec<String> = std::env::args().skip(1).collect();
+    let words: Vec<&str> = arguments.iter().map(String::as_str).collect();
+    match words[..] {
+        [] => times(None),
+        ["--plot", file] => times(Some(file)),
+        ["--peer", file] => beside::run(file, RUNS),
+        ["--peer", file, "--samples", samples] => match samples.parse() {
+            Ok(0) | Err(_) => help(),
+            Ok(samples) => beside::run(file, samples),
+        },
+        _ => help(),
     }
-    Ok(())
 }
