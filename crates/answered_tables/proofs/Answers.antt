@@ -19,7 +19,7 @@ use Rattle.columns.specs.Columns.{recordsFor, placeOf}
 use Rattle.columns.specs.Fields.{fieldsOf, fieldAt, n2}
 use Rattle.columns.specs.declared.columns.LineNo.{LineNo}
 use Rattle.columns.specs.declared.columns.RecordNo.{RecordNo}
-use Rattle.record.specs.Word.{pointerOf}
+use Rattle.record_words.specs.Word.{pointerOf}
 use Rattle.record.specs.System.{countOf}
 use Rattle.record.specs.declared.system.Count.the-variants.{Number}
 use Rattle.rules_state.specs.State.{Context, startContext}
@@ -29,13 +29,13 @@ use Rattle.entry.specs.Verdict.{roleOf, judgeOf, Accepted}
 use Rattle.entry.specs.Answer.{answerOf}
 use Rattle.entry.specs.Contexts.{contextAt}
 use Rattle.questions.specs.declared.ask.PartAnswer.{PartAnswer}
-use Rattle.questions.specs.Row.{rowOf}
+use Rattle.questions_rows.specs.Row.{rowOf}
 use Rattle.questions_places.specs.declared.place.Shape.{Shape}
 use Rattle.questions_places.specs.Place.{shapeOf, headingPlace, unitPlace, fieldOf, byteOf}
 use Rattle.questions.specs.Ask.{sectionIn, valueRefusal, valueBy, valueAsked, columnRefusal, headingBy, headingAsked}
 use Rattle.questions.specs.Ask.{unitBy}
 use Rattle.questions.specs.Ask.{unitAsked}
-use Rattle.questions.proofs.RowChanges.{opener}
+use Rattle.questions_rows.proofs.RowChanges.{opener}
 use Rattle.inside.specs.Inside.{OpensSection, InsideValue, InsideColumn, linesAnnounced}
 use Rattle.inside.proofs.Contexts.{context-start}
 use Rattle.inside.proofs.TableLaid.{sectionRole, linesOf}

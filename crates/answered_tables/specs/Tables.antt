@@ -8,7 +8,7 @@ use mathlib.Core.List.{List, [], _∷_, _++_}
 use lib.ListN.{length, getD, take}
 use Rattle.number.specs.Reading.{readField}
 use Rattle.columns.specs.declared.columns.LineNo.{LineNo}
-use Rattle.record.specs.Word.{pointerOf}
+use Rattle.record_words.specs.Word.{pointerOf}
 use Rattle.entry.specs.Answer.{answerOf}
 use Rattle.questions.specs.declared.ask.PartAnswer.{PartAnswer}
 use Rattle.questions_places.specs.Place.{COMMON-SECTION, DATA-SECTION}

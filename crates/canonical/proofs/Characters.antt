@@ -13,11 +13,11 @@ use Rattle.number.specs.declared.value.Decimal.{Decimal}
 use Rattle.number.specs.Grammar.{blanks, digitsText, Sign, unsigned, signed, signText, openText}
 use Rattle.number.specs.Grammar.{Tail, plain, power, tailText, GoodTail, Field, write, GoodField}
 use Rattle.number.specs.Value.{Normal}
-use Rattle.canonical.specs.Canonical.{columns, tailColumns, pastBlanks, oneMore, upToLast, span}
-use Rattle.canonical.specs.Closed.{count, digitsN, shift, layoutOf, signOf, tailOf, laidOut}
-use Rattle.canonical.specs.Closed.{shortest, canonicalText}
+use Rattle.canonical_layout.specs.Canonical.{columns, tailColumns, pastBlanks, oneMore, upToLast, span}
+use Rattle.canonical_layout.specs.Closed.{count, digitsN, shift, layoutOf, signOf, tailOf, laidOut}
+use Rattle.canonical_layout.specs.Closed.{shortest, canonicalText}
 use Rattle.number.proofs.Bounds.{text-length}
-use Rattle.canonical.proofs.Winner.{shortest-fine, text-columns}
+use Rattle.canonical_layout.proofs.Winner.{shortest-fine, text-columns}
 
 -- ---- from first to last non-blank
 

@@ -8,11 +8,11 @@ use native.Mathlib.Nat.{zero-add}
 use native.Mathlib.Omega.{arith}
 use lib.ListN.{length, length-append, length-replicate}
 use Rattle.number.specs.Grammar.{blanks, digitsText, signByte, signText, tailText, write}
-use Rattle.canonical.specs.declared.layout.Layout.{Layout}
-use Rattle.canonical.specs.Closed.{digitsN, shift, signOf, tailOf, laidOut}
-use Rattle.canonical.specs.Storing.{oneIf, layoutColumns, put, bodyText, fieldText}
-use Rattle.canonical.proofs.Digits.{digits-wide}
-use Rattle.canonical.proofs.Laid.{sign-width}
+use Rattle.canonical_layout.specs.declared.layout.Layout.{Layout}
+use Rattle.canonical_layout.specs.Closed.{digitsN, shift, signOf, tailOf, laidOut}
+use Rattle.canonical_layout.specs.Storing.{oneIf, layoutColumns, put, bodyText, fieldText}
+use Rattle.canonical_layout.proofs.Digits.{digits-wide}
+use Rattle.canonical_layout.proofs.Laid.{sign-width}
 use Rattle.canonical.proofs.Puts.{put-front, put-all}
 
 -- a list put at the same place under another name

@@ -17,8 +17,8 @@ use Rattle.number.specs.Value.{Normal, Means, valueOf}
 use Rattle.number.specs.Reading.{readField}
 use Rattle.number.proofs.Laws.{value-found, reads-exactly, blank-exactly, number-letters}
 use Rattle.canonical.specs.declared.write.Written.the-variants.{Done, Refused}
-use Rattle.canonical.specs.Canonical.{columns, Canonical, ExactlyOne, NoField, Best, span}
-use Rattle.canonical.specs.Closed.{canonicalText, canonicalField}
+use Rattle.canonical_layout.specs.Canonical.{columns, Canonical, ExactlyOne, NoField, Best, span}
+use Rattle.canonical_layout.specs.Closed.{canonicalText, canonicalField}
 use Rattle.canonical.specs.Replacing.{replacedBy, canonical, Formed}
 use Rattle.canonical.specs.Writing.{written, bytes}
 use Rattle.canonical.proofs.Theorems as Theorems

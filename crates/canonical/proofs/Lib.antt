@@ -1,15 +1,5 @@
-pub mod Digits
-pub mod Sizes
-pub mod Says
-pub mod Ties
-pub mod Laid
-pub mod First
-pub mod Shortest
-pub mod Winner
 pub mod Theorems
 pub mod Puts
-pub mod Numbers
-pub mod Layouts
 pub mod Filled
 pub mod Answers
 pub mod Characters

@@ -12,8 +12,8 @@ use lib.ListN.{length}
 use Rattle.number.specs.declared.value.Decimal.{Decimal}
 use Rattle.number.specs.Value.{Normal}
 use Rattle.canonical.specs.declared.write.Written.the-variants.{Done, Refused}
-use Rattle.canonical.specs.Canonical.{NoField, Best}
-use Rattle.canonical.specs.Closed.{canonicalText, canonicalField}
+use Rattle.canonical_layout.specs.Canonical.{NoField, Best}
+use Rattle.canonical_layout.specs.Closed.{canonicalText, canonicalField}
 use Rattle.canonical.specs.Writing.{answered, storedField, written, bytes}
 use Rattle.canonical.proofs.Theorems.{canonical-none, canonical-best}
 

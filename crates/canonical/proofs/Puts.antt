@@ -10,11 +10,11 @@ use lib.ListN.{length, take, drop, set, length-append, length-take, length-drop,
 use lib.ListN.{take-append-drop, drop-of-length-le}
 use lib.Seq.{drop-at, take-set-le, set-split, length-take-le, take-append-le, take-take}
 use Rattle.number.specs.Grammar.{blanks, digitsText}
-use Rattle.canonical.specs.Closed.{digitsN, shift}
-use Rattle.canonical.specs.Storing.{put, putDigits}
+use Rattle.canonical_layout.specs.Closed.{digitsN, shift}
+use Rattle.canonical_layout.specs.Storing.{put, putDigits}
 use Rattle.number.proofs.Bounds.{text-length}
 use Rattle.number.proofs.Reach.{text-append}
-use Rattle.canonical.proofs.Digits.{digitsN-length}
+use Rattle.canonical_layout.proofs.Digits.{digitsN-length}
 
 pub put-nothing : (l : List ℕ) (at : ℕ) → put l at [] ≡ l
 unfolding put

@@ -11,10 +11,10 @@ use lib.ListN.{length}
 use Rattle.number.specs.declared.value.Decimal.{Decimal}
 use Rattle.number.specs.Grammar.{blanks, Field, write, GoodField}
 use Rattle.number.specs.Value.{Normal, Means}
-use Rattle.canonical.specs.Canonical.{Canonical, ExactlyOne, NoField, Best}
-use Rattle.canonical.specs.Closed.{canonicalText, canonicalField}
-use Rattle.canonical.proofs.Winner.{placed, placed-text, field-length, closed-wins, none-shorter}
-use Rattle.canonical.proofs.Winner.{alone, never-both}
+use Rattle.canonical_layout.specs.Canonical.{Canonical, ExactlyOne, NoField, Best}
+use Rattle.canonical_layout.specs.Closed.{canonicalText, canonicalField}
+use Rattle.canonical_layout.proofs.Winner.{placed, placed-text, field-length, closed-wins, none-shorter}
+use Rattle.canonical_layout.proofs.Winner.{alone, never-both}
 
 -- where some field reads to the value, the closed form is no wider
 pub canonical-fits : (w : ℕ) (v : Decimal) (g : Field) → GoodField g → length (write g) ≡ w → Means g v

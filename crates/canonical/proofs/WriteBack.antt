@@ -10,7 +10,7 @@ use Rattle.number.specs.declared.value.Reading.{Reading}
 use Rattle.number.specs.Value.{Normal, valueOf}
 use Rattle.number.specs.Reading.{readField}
 use Rattle.number.proofs.Laws.{value-found, value-one}
-use Rattle.canonical.specs.Closed.{canonicalText, canonicalField}
+use Rattle.canonical_layout.specs.Closed.{canonicalText, canonicalField}
 use Rattle.canonical.specs.Replacing.{replacedBy, canonical}
 use Rattle.canonical.specs.Writing.{storedField, bytes}
 

@@ -8,7 +8,7 @@ use lib.ListN.{length}
 use Rattle.number.specs.declared.value.Reading.{Reading}
 use Rattle.number.specs.declared.value.Reading.the-variants.{Blank, Number, Refused}
 use Rattle.number.specs.Reading.{readField}
-use Rattle.canonical.specs.Closed.{canonicalField}
+use Rattle.canonical_layout.specs.Closed.{canonicalField}
 
 -- a number becomes its canonical field of as many columns; what is no number stays
 abbrev pub replacedBy : List ℕ → Reading → List ℕ

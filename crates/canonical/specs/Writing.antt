@@ -9,7 +9,7 @@ use lib.ListN.{length}
 use Rattle.number.specs.declared.value.Decimal.{Decimal}
 use Rattle.canonical.specs.declared.write.Written.{Written}
 use Rattle.canonical.specs.declared.write.Written.the-variants.{Done, Refused}
-use Rattle.canonical.specs.Closed.{canonicalText, canonicalField}
+use Rattle.canonical_layout.specs.Closed.{canonicalText, canonicalField}
 
 -- into a buffer of any width
 unfoldable pub answered : List ℕ → Decimal → Written

@@ -4,9 +4,9 @@ ghost use mathlib.Core.List.{[], _∷_};
 ghost use Prim.Native.Nat.{_+_, _-_, _*_, _<_, _≤_, _^_};
 ghost use lib.ListN.{length};
 ghost use Rattle.number.specs.Grammar.{blanks, digitsText, signByte, signText, tailText};
-ghost use Rattle.canonical.specs.Closed.{digitsN, shift, signOf, tailOf};
-ghost use Rattle.canonical.specs.Storing.{put, oneIf, layoutColumns, ReadyLayout, bodyText, fieldText};
-use crate::layout::Layout;
+ghost use Rattle.canonical_layout.specs.Closed.{digitsN, shift, signOf, tailOf};
+ghost use Rattle.canonical_layout.specs.Storing.{put, oneIf, layoutColumns, ReadyLayout, bodyText, fieldText};
+use canonical_layout::layout::Layout;
 
 fn put_byte(out: &mut [u8], at: usize, b: u8)
     requires { ⌜ at < length (now out) ⌝ }

@@ -22,7 +22,7 @@ use Rattle.record.specs.Numbers.{formAt, noValue}
 use Rattle.columns.specs.Class.{isPermitted}
 use Rattle.columns.specs.Fields.{fieldAt}
 use Rattle.record.specs.Identifier.{identifierOf}
-use Rattle.copy.specs.Copy.{copyField}
+use Rattle.copy_records.specs.Copy.{copyField}
 use Rattle.copy.specs.Demand.{AlikeField}
 use Rattle.record.proofs.NumberFields.{read-permitted, read-identifier}
 

@@ -15,7 +15,7 @@ use Rattle.rules_state.specs.State.{startContext}
 use Rattle.entry.specs.Verdict.{turnOf, Accepted}
 use Rattle.entry.specs.Contexts.{contextAt}
 use Rattle.entry.proofs.AcceptedWalk.{Walked, walked, context-start}
-use Rattle.copy.specs.Copy.{copyRecord, recordsIn, copyOf}
+use Rattle.copy_records.specs.Copy.{copyRecord, recordsIn, copyOf}
 use Rattle.copy.proofs.Demand.{passed, copy-long, copy-records}
 
 module _ (s : List ℕ) (n : ℕ) (w : Walked s n) where

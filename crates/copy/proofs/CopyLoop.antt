@@ -18,12 +18,12 @@ use Rattle.entry.specs.Contexts.{contextAt}
 use Rattle.entry.specs.Pass.{Walking, PassedAt}
 use Rattle.entry.proofs.Numbered.{whole-records}
 use Rattle.entry.proofs.Walking.{walking-start, track-stands}
-use Rattle.copy.specs.Copy.{valueField, copyField, copyRecord, copyOf}
+use Rattle.copy_records.specs.Copy.{valueField, copyField, copyRecord, copyOf}
 use Rattle.copy.specs.Call.{copiedInto}
-use Rattle.copy.specs.Storing.{Room}
+use Rattle.copy_records.specs.Storing.{Room}
 use Rattle.copy.proofs.Demand.{passed, copy-long}
-use Rattle.copy.proofs.Pasted.{paste-more}
-use Rattle.copy.proofs.WholeRecords.{record-copied}
+use Rattle.copy_records.proofs.Pasted.{paste-more}
+use Rattle.copy_records.proofs.WholeRecords.{record-copied}
 use Rattle.copy.proofs.CopiedBlocks.{copied-block}
 
 -- the loop over n records has come to the record with the index i

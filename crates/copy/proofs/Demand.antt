@@ -27,7 +27,7 @@ use Rattle.columns.specs.Fields.{fieldAt}
 use Rattle.record.specs.Numbers.{noValue}
 use Rattle.rules_state.specs.State.{Context, startContext}
 use Rattle.entry.specs.Verdict.{turnOf, endOf, lengthGood, judgeOf, Accepted}
-use Rattle.copy.specs.Copy.{maskOf, copyRecord, recordsIn, numberField, fieldIn, copyOf}
+use Rattle.copy_records.specs.Copy.{maskOf, copyRecord, recordsIn, numberField, fieldIn, copyOf}
 use Rattle.copy.specs.Demand.{AlikeField, inNumber, SameNumbers, CopyAccepted, CopyAgain, OneCopy}
 use Rattle.entry.proofs.Numbered.{whole-records}
 use Rattle.entry.proofs.Walking.{accepted-good}

@@ -22,11 +22,11 @@ use Rattle.columns.proofs.ReadColumns.{field-of}
 use Rattle.rules_state.specs.declared.fault.Fault.the-variants.{Fine}
 use Rattle.rules_state.specs.State.{Context, used}
 use Rattle.rules_state.specs.Role.{isValue, roleIn}
-use Rattle.rules_system.specs.Every.{rule3}
+use Rattle.rules_every.specs.Every.{rule3}
 use Rattle.rules.specs.Order.{faultOf}
 use Rattle.entry_next.specs.Next.{contextAfter}
 use Rattle.entry.specs.Verdict.{roleOf, turnOf}
-use Rattle.copy.specs.Copy.{isNumberField, maskOf, copyField, copyRecord}
+use Rattle.copy_records.specs.Copy.{isNumberField, maskOf, copyField, copyRecord}
 use Rattle.copy.specs.Demand.{AlikeField}
 use Rattle.rules.proofs.WithoutFault.{fine-long, fine-permitted, fine-reads, permitted-alike, judged-alike}
 use Rattle.entry.proofs.GoingOn.{go-fine, fine-go, next-alike}

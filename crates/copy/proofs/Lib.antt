@@ -2,9 +2,6 @@ pub mod CanonicalFields
 pub mod FaithfulRecords
 pub mod Demand
 pub mod Unchanged
-pub mod Pasted
-pub mod WholeRecords
-pub mod StoredNumbers
 pub mod CopiedBlocks
 pub mod Made
 pub mod CopyLoop

@@ -12,10 +12,10 @@ use lib.Seq.{take-at, drop-at}
 use Rattle.entry.specs.declared.verdict.Verdict.{Verdict}
 use Rattle.entry.specs.Verdict.{judgeOf, Accepted}
 use Rattle.entry.specs.Answer.{answerOf, answerFor}
-use Rattle.copy.specs.Copy.{copyOf}
+use Rattle.copy_records.specs.Copy.{copyOf}
 use Rattle.copy.specs.Call.{copied, copiedInto, storedCopy}
 use Rattle.copy.specs.Demand.{CopyMade}
-use Rattle.copy.specs.Storing.{Room}
+use Rattle.copy_records.specs.Storing.{Room}
 use Rattle.copy.proofs.Demand.{passed, copy-long}
 
 answered : (s : List ℕ) (room : ℕ) → Accepted s → length s ≤ room → copied s room ≡ answerOf 0

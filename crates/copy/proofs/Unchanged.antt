@@ -16,7 +16,7 @@ use Rattle.number.specs.Reading.{readField}
 use Rattle.columns.specs.Fields.{fieldAt}
 use Rattle.rules_state.specs.State.{startContext}
 use Rattle.entry.specs.Verdict.{roleOf, turnOf, Accepted}
-use Rattle.copy.specs.Copy.{copyRecord, recordsIn, fieldIn, copyOf}
+use Rattle.copy_records.specs.Copy.{copyRecord, recordsIn, fieldIn, copyOf}
 use Rattle.copy.specs.Demand.{CopyFields, CopyReads, CopyPart, CopyContexts, CopyRoles}
 use Rattle.copy.proofs.FaithfulRecords.{role-kept, reads-kept, faithful}
 use Rattle.copy.proofs.Demand.{Passed, passed, copy-long, copy-records, copy-accepted, copy-again, SameFields}

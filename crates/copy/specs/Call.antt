@@ -12,7 +12,7 @@ use Rattle.entry.specs.declared.verdict.Verdict.{Verdict}
 use Rattle.entry.specs.declared.answer.Answer.{Answer}
 use Rattle.entry.specs.Verdict.{judgeOf}
 use Rattle.entry.specs.Answer.{refusal, firstOf, isRefused, answerFor}
-use Rattle.copy.specs.Copy.{copyOf}
+use Rattle.copy_records.specs.Copy.{copyOf}
 
 -- for an entry with this verdict and length, and a buffer of `room` bytes
 abbrev pub copyRefusal : Verdict → ℕ → ℕ → ℕ

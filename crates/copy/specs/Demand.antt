@@ -19,7 +19,7 @@ use Rattle.rules_state.specs.State.{Context, startContext}
 use Rattle.entry.specs.Verdict.{roleOf, turnOf, judgeOf, Accepted}
 use Rattle.entry.specs.Answer.{answerOf}
 use Rattle.copy.specs.Call.{copied, storedCopy}
-use Rattle.copy.specs.Copy.{recordsIn, numberField, fieldIn, copyOf}
+use Rattle.copy_records.specs.Copy.{recordsIn, numberField, fieldIn, copyOf}
 
 -- how two answers about a value are compared: in all that they say
 abbrev pub Alike : Reading → Reading → Type 0

@@ -1,4 +1,2 @@
-pub mod Copy
 pub mod Call
 pub mod Demand
-pub mod Storing

@@ -2,8 +2,8 @@
 ghost use mathlib.Core.Path.{_≡_};
 ghost use lib.ListN.{length};
 ghost use Rattle.copy.specs.Call.{copied, copiedInto, storedCopy};
-ghost use Rattle.copy.specs.Storing.{Room};
-use crate::records::copy_record;
+ghost use Rattle.copy_records.specs.Storing.{Room};
+use copy_records::records::copy_record;
 use entry::answer::Answer;
 use entry::answer::answer_for;
 use entry::answer::answer_of;

@@ -1,4 +1,2 @@
 // The canonical copy of an entry.
 pub mod copy;
-mod fields;
-mod records;

@@ -10,7 +10,7 @@ use Rattle.number.specs.declared.value.Reading.the-variants.{Refused}
 use Rattle.number.specs.Value.{Reads}
 use Rattle.number.specs.Reading.{readField, readNumber}
 use Rattle.number.proofs.Laws as Number
-use Rattle.canonical.specs.Canonical.{ExactlyOne}
+use Rattle.canonical_layout.specs.Canonical.{ExactlyOne}
 use Rattle.canonical.specs.Marked as Marked
 use Rattle.canonical.proofs.Laws as Canonical
 use Rattle.entry.proofs.FirstRefused.{refused-first}

@@ -16,8 +16,8 @@ use Rattle.number.specs.Reading.{readField}
 use Rattle.number.proofs.Laws.{value-found, value-one, reads-exactly}
 use Rattle.canonical.specs.declared.write.Written.{Written}
 use Rattle.canonical.specs.declared.write.Written.the-variants.{Done, Refused}
-use Rattle.canonical.specs.Canonical.{Best}
-use Rattle.canonical.specs.Closed.{canonicalText, canonicalField}
+use Rattle.canonical_layout.specs.Canonical.{Best}
+use Rattle.canonical_layout.specs.Closed.{canonicalText, canonicalField}
 use Rattle.canonical.specs.Writing.{answered, storedField, written, bytes}
 use Rattle.canonical.proofs.Laws.{canonical-best, best-one, none-reads}
 use Rattle.demand2.specs.Writing.{NoneReads, Writes, its-field, no-field, no-room, WrittenSo, WrittenAlone}

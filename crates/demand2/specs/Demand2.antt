@@ -15,8 +15,8 @@ use Rattle.number.specs.declared.value.Reading.the-variants.{Refused}
 use Rattle.number.specs.Grammar.{Field, GoodField, Spells, write}
 use Rattle.number.specs.Value.{Value, Reads, Says, valueOf}
 use Rattle.number.specs.Reading.{readField, readNumber}
-use Rattle.canonical.specs.Canonical.{columns, span, Best, Canonical, ExactlyOne}
-use Rattle.canonical.specs.Closed.{canonicalField}
+use Rattle.canonical_layout.specs.Canonical.{columns, span, Best, Canonical, ExactlyOne}
+use Rattle.canonical_layout.specs.Closed.{canonicalField}
 use Rattle.canonical.specs.Marked.{marked, found, said}
 use Rattle.entry.specs.Verdict.{judgeOf, accepted, Accepted}
 use Rattle.entry.specs.First.{RefusedFirst, FirstAlone}

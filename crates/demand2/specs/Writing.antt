@@ -14,7 +14,7 @@ use Rattle.number.specs.Value.{Value, valueOf}
 use Rattle.number.specs.Reading.{readField}
 use Rattle.canonical.specs.declared.write.Written.{Written}
 use Rattle.canonical.specs.declared.write.Written.the-variants.{Done, Refused}
-use Rattle.canonical.specs.Canonical.{Best}
+use Rattle.canonical_layout.specs.Canonical.{Best}
 use Rattle.canonical.specs.Writing.{written, bytes}
 
 -- "no such field reads back as that decimal"

@@ -24,7 +24,7 @@ use Rattle.entry.specs.Verdict.{turnOf, Accepted}
 use Rattle.rules_state.specs.State.{startContext}
 use Rattle.entry.specs.Contexts.{contextAt}
 use Rattle.entry.proofs.AcceptedWalk.{Walked, walked, context-start}
-use Rattle.copy.specs.Copy.{maskOf, copyField, copyRecord, recordsIn, numberField, fieldIn, copyOf}
+use Rattle.copy_records.specs.Copy.{maskOf, copyField, copyRecord, recordsIn, numberField, fieldIn, copyOf}
 use Rattle.copy.proofs.CanonicalFields.{Fit, copied-field}
 use Rattle.copy.proofs.FaithfulRecords.{length-mask-of, fits}
 use Rattle.copy.proofs.Demand.{passed}

@@ -24,7 +24,7 @@ use Rattle.entry.specs.Contexts.{contextAt, roleAt, behind}
 use Rattle.questions_places.specs.Place.{hasRecord, fieldsAt, identifierAt, fieldOf}
 use Rattle.questions_places.proofs.Records.{record-there}
 use Rattle.inside.proofs.RowWalked.{fields-at}
-use Rattle.copy.specs.Copy.{copyRecord, copyOf}
+use Rattle.copy_records.specs.Copy.{copyRecord, copyOf}
 use Rattle.copy.proofs.FaithfulRecords.{identifier-kept, not-copied, faithful}
 use Rattle.copy.proofs.Demand.{passed, copy-long}
 use Rattle.copy.proofs.CopiedBlocks.{copied-block}

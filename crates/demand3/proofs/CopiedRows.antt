@@ -20,14 +20,14 @@ use Rattle.rules.proofs.ByKind.{of-values}
 use Rattle.entry.specs.Verdict.{roleOf, turnOf, Accepted}
 use Rattle.entry.specs.Contexts.{contextAt, roleAt}
 use Rattle.entry.proofs.Contexts.{records-at}
-use Rattle.questions.specs.declared.row.Row.{Row}
-use Rattle.questions.specs.Row.{NONE, withFirstAt, withBibAt, withCommonAt, withDataAt, noted, subentryIn, notedAs}
-use Rattle.questions.specs.Row.{noteOf, rowAt, rowOf}
+use Rattle.questions_rows.specs.declared.row.Row.{Row}
+use Rattle.questions_rows.specs.Row.{NONE, withFirstAt, withBibAt, withCommonAt, withDataAt, noted, subentryIn, notedAs}
+use Rattle.questions_rows.specs.Row.{noteOf, rowAt, rowOf}
 use Rattle.questions_places.specs.Place.{COMMON-SECTION, DATA-SECTION, fieldsAt, shapeOf}
 use Rattle.questions.specs.Ask.{sectionIn}
 use Rattle.entry.proofs.AcceptedWalk.{walked}
-use Rattle.questions.proofs.RowNoted.{found-row}
-use Rattle.copy.specs.Copy.{copyRecord, copyOf}
+use Rattle.questions_rows.proofs.RowNoted.{found-row}
+use Rattle.copy_records.specs.Copy.{copyRecord, copyOf}
 use Rattle.copy.proofs.FaithfulRecords.{role-kept, not-copied}
 use Rattle.copy.proofs.Demand.{passed, copy-long, copy-accepted}
 use Rattle.copy.proofs.CopiedBlocks.{copied-block}

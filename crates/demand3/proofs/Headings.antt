@@ -11,7 +11,7 @@ use borrow.Author.Tests.{eqb-false}
 use Rattle.laws.specs.Blocks.{blockAt}
 use Rattle.columns.specs.Columns.{recordsFor}
 use Rattle.columns.specs.Fields.{fieldsOf}
-use Rattle.record.specs.Word.{pointerOf}
+use Rattle.record_words.specs.Word.{pointerOf}
 use Rattle.columns.specs.declared.columns.RecordNo.{RecordNo}
 use Rattle.columns.specs.declared.columns.Place.{Place}
 use Rattle.rules_state.specs.Role.{isValue}
@@ -19,9 +19,9 @@ use Rattle.rules_system.specs.System.{countN1}
 use Rattle.entry.specs.declared.verdict.Verdict.{Verdict}
 use Rattle.entry.specs.Verdict.{Accepted}
 use Rattle.entry.specs.Answer.{Refusal, refusal, firstOf, isRefused}
-use Rattle.questions.specs.declared.row.Row.{Row}
+use Rattle.questions_rows.specs.declared.row.Row.{Row}
 use Rattle.questions_places.specs.declared.place.Shape.{Shape}
-use Rattle.questions.specs.Row.{rowOf}
+use Rattle.questions_rows.specs.Row.{rowOf}
 use Rattle.questions_places.specs.Place.{shapeOf, headingPlace, unitPlace, fieldOf, byteOf}
 use Rattle.questions.specs.Ask.{isSubent, sectionIn, noSection, sectionRefusals}
 use Rattle.questions.specs.Ask.{noColumn, columnRefusal, headingBy, headingAsked, unitBy, unitAsked}
@@ -30,7 +30,7 @@ use Rattle.inside.proofs.Laid.{rowRole}
 use Rattle.inside.proofs.RowFound.{Opening}
 use Rattle.inside.proofs.Answered.{sectionNo, sectionOf, at-record, shape-columns, laid-at}
 use Rattle.inside.proofs.Asked.{section-named}
-use Rattle.copy.specs.Copy.{copyOf}
+use Rattle.copy_records.specs.Copy.{copyOf}
 use Rattle.copy.proofs.Demand.{copy-accepted}
 use Rattle.demand3.specs.Same.{SamePart, SameHeadings, SameUnits}
 use Rattle.demand3.proofs.CopiedRecords.{copied-identifiers}

@@ -17,7 +17,7 @@ use Rattle.entry.specs.Answer.{answerOf, answerFor}
 use Rattle.questions.specs.declared.ask.PartAnswer.{PartAnswer}
 use Rattle.questions_places.specs.Place.{fieldsAt}
 use Rattle.questions.specs.Ask.{noPart, partWith}
-use Rattle.copy.specs.Copy.{copyOf}
+use Rattle.copy_records.specs.Copy.{copyOf}
 use Rattle.copy.proofs.Demand.{passed, copy-long, byte-of}
 use Rattle.copy.proofs.Unchanged.{part-of-bytes}
 use Rattle.demand3.specs.Same.{SamePart}

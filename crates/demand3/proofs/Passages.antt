@@ -16,13 +16,13 @@ use Rattle.rules_system.specs.System.{countN2}
 use Rattle.entry.specs.declared.verdict.Verdict.{Verdict}
 use Rattle.entry.specs.Verdict.{Accepted}
 use Rattle.questions_places.specs.declared.passage.Passage.{Passage}
-use Rattle.questions.specs.Row.{rowOf}
+use Rattle.questions_rows.specs.Row.{rowOf}
 use Rattle.questions_places.specs.Place.{fieldsAt, firstByte}
 use Rattle.questions_places.specs.Passage.{textRecords, textRecord, textAt, hasKeyword, isKeyword, begins, beginsWith}
 use Rattle.questions_places.specs.Passage.{firstText, NO-PASSAGE, passageUnder, passageOf}
 use Rattle.questions.specs.Ask.{passageRefusal, passageBy, passageAsked}
 use Rattle.inside.proofs.TextLaid.{row-texts}
-use Rattle.copy.specs.Copy.{copyOf}
+use Rattle.copy_records.specs.Copy.{copyOf}
 use Rattle.copy.proofs.Demand.{copy-accepted}
 use Rattle.demand3.specs.Same.{SamePart, SamePassages}
 use Rattle.demand3.proofs.CopiedRecords.{copied-identifiers}

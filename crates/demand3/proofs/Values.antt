@@ -8,13 +8,13 @@ use Rattle.columns.specs.declared.columns.LineNo.{LineNo}
 use Rattle.columns.specs.declared.columns.RecordNo.{RecordNo}
 use Rattle.entry.specs.declared.verdict.Verdict.{Verdict}
 use Rattle.entry.specs.Verdict.{Accepted}
-use Rattle.questions.specs.declared.row.Row.{Row}
+use Rattle.questions_rows.specs.declared.row.Row.{Row}
 use Rattle.questions_places.specs.declared.place.Shape.{Shape}
 use Rattle.questions.specs.declared.ask.ValueAnswer.{ValueAnswer}
-use Rattle.questions.specs.Row.{rowOf}
+use Rattle.questions_rows.specs.Row.{rowOf}
 use Rattle.questions_places.specs.Place.{shapeOf}
 use Rattle.questions.specs.Ask.{sectionIn, valueRefusal, valueBy, valueAsked}
-use Rattle.copy.specs.Copy.{copyOf}
+use Rattle.copy_records.specs.Copy.{copyOf}
 use Rattle.copy.proofs.Demand.{copy-accepted}
 use Rattle.demand3.specs.Same.{SameValues}
 use Rattle.demand3.proofs.CopiedRecords.{copied-identifiers, copied-places}

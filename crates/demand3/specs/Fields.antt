@@ -12,9 +12,9 @@ use mathlib.Core.List.{List}
 use Rattle.number.specs.declared.value.Decimal.{Decimal}
 use Rattle.number.specs.declared.value.Reading.the-variants.{Blank, Number}
 use Rattle.number.specs.Reading.{readField}
-use Rattle.canonical.specs.Canonical.{Best}
+use Rattle.canonical_layout.specs.Canonical.{Best}
 use Rattle.entry.specs.Verdict.{Accepted}
-use Rattle.copy.specs.Copy.{numberField, fieldIn, copyOf}
+use Rattle.copy_records.specs.Copy.{numberField, fieldIn, copyOf}
 
 abbrev pub CopyCanonical : Type 0
 CopyCanonical =

@@ -8,7 +8,7 @@ use Rattle.entry.specs.Verdict.{Accepted}
 use Rattle.questions.specs.declared.ask.ValueAnswer.{ValueAnswer}
 use Rattle.questions.specs.declared.ask.PartAnswer.{PartAnswer}
 use Rattle.questions.specs.Ask.{valueAsked, bytesIn, headingAsked, unitAsked, passageAsked}
-use Rattle.copy.specs.Copy.{copyOf}
+use Rattle.copy_records.specs.Copy.{copyOf}
 use Rattle.copy.specs.Demand.{Alike}
 
 -- ---- values

@@ -9,11 +9,11 @@ use lib.ListN.{getD}
 use Rattle.laws.specs.Blocks.{blockAt}
 use Rattle.columns.specs.Fields.{fieldsOf}
 use Rattle.record.specs.Identifier.{ENTRY, BIB, COMMON, DATA}
-use Rattle.record.specs.Word.{blankTo}
+use Rattle.record_words.specs.Word.{blankTo}
 use Rattle.rules_state.specs.declared.state.Track.{Track}
 use Rattle.rules_state.specs.Role.{TEXT, isSystem, opensSubentry, isHeading, isUnit, isValue}
 use Rattle.rules_state.proofs.EitherWay.{either-way}
-use Rattle.entry_next.specs.Counted.{trackAfter, afterSystem, afterInside, textRead}
+use Rattle.entry_counted.specs.Counted.{trackAfter, afterSystem, afterInside, textRead}
 use Rattle.entry_next.specs.Next.{contextAfter}
 use Rattle.entry.specs.Verdict.{roleOf}
 use Rattle.entry.specs.Contexts.{behind, contextAt}

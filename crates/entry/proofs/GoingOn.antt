@@ -19,7 +19,7 @@ use Rattle.rules_state.specs.Role.{COMMON-VALUE, DATA-VALUE, isValue}
 use Rattle.rules_section.specs.Values.{optional, valuesFor}
 use Rattle.rules.specs.Order.{faultOf}
 use Rattle.entry.specs.declared.verdict.Verdict.{Verdict}
-use Rattle.entry_next.specs.Counted.{trackAfter, afterInside}
+use Rattle.entry_counted.specs.Counted.{trackAfter, afterInside}
 use Rattle.entry_next.specs.Parts.{partAfter, bibChange, underChange, tableChange}
 use Rattle.entry_next.specs.Parts.{seenAfter}
 use Rattle.entry_next.specs.Next.{contextAfter}

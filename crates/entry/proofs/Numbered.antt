@@ -23,12 +23,12 @@ use Rattle.rules_state.specs.State.{Context, startContext, MOST-RECORDS}
 use Rattle.rules_state.specs.Ranging.{Bounded, AllPlaced, seenOf}
 use Rattle.rules.specs.Order.{faultOf}
 use Rattle.entry.specs.declared.step.Judge.{Judge}
-use Rattle.entry_next.specs.Counted.{trackAfter}
+use Rattle.entry_counted.specs.Counted.{trackAfter}
 use Rattle.entry_next.specs.Next.{contextAfter}
 use Rattle.entry.specs.Verdict.{roleOf, refused, onFault, turnAs, turnOf, endOf, lengthGood, judgeOf}
 use Rattle.entry.specs.ByRanges.{contextOf, judgeAfter, stepFor, stepAs, stepOf, startJudge, onStep, stepTurn}
 use Rattle.entry.specs.ByRanges.{finishOf, judgeByRanges}
-use Rattle.entry_next.proofs.Counting.{Follows, track-follows}
+use Rattle.entry_counted.proofs.Counting.{Follows, track-follows}
 use Rattle.entry.proofs.Stepping.{next-bytes}
 use Rattle.entry_next.proofs.Following.{Joins, all-placed, seen-next, reaches, joins-next}
 

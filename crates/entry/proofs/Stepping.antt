@@ -11,10 +11,10 @@ use Rattle.laws.specs.Blocks.{blockAt}
 use Rattle.laws.proofs.Turns.{Run, run-all}
 use Rattle.rules_state.specs.Ranging.{Stands}
 use Rattle.entry.specs.declared.step.Judge.{Judge}
-use Rattle.entry_next.specs.Counted.{trackAfter}
+use Rattle.entry_counted.specs.Counted.{trackAfter}
 use Rattle.entry.specs.Verdict.{lengthGood}
 use Rattle.entry.specs.ByRanges.{judgeAfter, startJudge, stepTurn, finishOf, judgeByRanges, Ready}
-use Rattle.entry_next.proofs.Counting.{Follows, track-follows}
+use Rattle.entry_counted.proofs.Counting.{Follows, track-follows}
 use Rattle.entry_next.proofs.Following.{all-placed}
 
 -- the state after a record stands before the next one

@@ -24,7 +24,7 @@ use Rattle.entry.specs.declared.step.Judge.{Judge}
 use Rattle.entry.specs.declared.step.Step.{Step}
 use Rattle.entry.specs.declared.verdict.Verdict.{Verdict}
 use Rattle.entry_next.specs.Due.{phaseAfter}
-use Rattle.entry_next.specs.Counted.{trackAfter}
+use Rattle.entry_counted.specs.Counted.{trackAfter}
 use Rattle.entry_next.specs.Ranging.{rangesAfter}
 use Rattle.entry.specs.Verdict.{roleOf, refused, accepted, isDone, lengthGood}
 

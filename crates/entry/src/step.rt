@@ -13,7 +13,7 @@ ghost use Rattle.rules_section.specs.Values.{valuesFor};
 ghost use Rattle.entry.specs.ByRanges.{startJudge, judgeAfter, stepAs, Stepped, SteppedAs, Ready};
 use columns::columns::Index;
 use columns::fields::fields;
-use entry_next::counted::track_after;
+use entry_counted::counted::track_after;
 use entry_next::due::phase_after;
 use entry_next::parts::ranges_after;
 use record::identifier::Names;

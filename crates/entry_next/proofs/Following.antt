@@ -11,7 +11,7 @@ use lib.ListN.{length, drop, getD, length-append, length-drop}
 use lib.Seq.{take-all, drop-at, drop-append-le, take-append-le}
 use Rattle.record.specs.Identifier.{ENTRY, SUBENT, NOSUBENT, BIB, NOBIB, ENDBIB, COMMON, NOCOMMON, ENDCOMMON, DATA}
 use Rattle.record.specs.Identifier.{NODATA, ENDDATA, ENDSUBENT}
-use Rattle.record.specs.Word.{blankTo}
+use Rattle.record_words.specs.Word.{blankTo}
 use Rattle.columns.specs.declared.columns.Index.{Index}
 use Rattle.rules_state.specs.declared.state.Phase.{Phase}
 use Rattle.rules_state.specs.declared.state.Phase.the-variants.{Opened, InSubentry, InBib, AfterBib, InCommon}
@@ -28,8 +28,8 @@ use Rattle.entry_next.specs.declared.parts.Change.{Change}
 use Rattle.entry_next.specs.declared.parts.Change.the-variants.{Kept, Emptied, Begun, Joined}
 use Rattle.entry_next.specs.Parts.{partAfter, emptiesBib, bibChange, underChange, tableChange, ends001, seenAfter}
 use Rattle.entry_next.specs.Due.{leadsToBib, leadsToCommon, leadsToData, phaseAfter}
-use Rattle.entry_next.specs.Counted.{trackAfter, afterInside}
-use Rattle.entry_next.specs.Counted.{unitsRead, valuesRead}
+use Rattle.entry_counted.specs.Counted.{trackAfter, afterInside}
+use Rattle.entry_counted.specs.Counted.{unitsRead, valuesRead}
 use Rattle.entry_next.specs.Ranging.{rangeAfter, commonAfter, rangesAfter}
 use Rattle.rules_state.proofs.EitherWay.{either-way, no}
 use Rattle.rules_state.proofs.RolePlaces.{inBib, inTable, isText, text-in-bib, heading-in-table}

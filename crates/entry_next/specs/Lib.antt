@@ -1,5 +1,4 @@
 pub mod Due
-pub mod Counted
 pub mod Parts
 pub mod Next
 pub mod Ranging

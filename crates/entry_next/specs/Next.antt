@@ -2,7 +2,7 @@
 use Prim.Native.Nat.{ℕ}
 use mathlib.Core.List.{List}
 use Rattle.rules_state.specs.State.{Context}
-use Rattle.entry_next.specs.Counted.{trackAfter}
+use Rattle.entry_counted.specs.Counted.{trackAfter}
 use Rattle.entry_next.specs.Due.{phaseAfter}
 use Rattle.entry_next.specs.Parts.{seenAfter}
 

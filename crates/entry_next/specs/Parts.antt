@@ -6,7 +6,7 @@ use lib.Dec.{eqb}
 use lib.ListN.{getD}
 use Rattle.record.specs.Identifier.{BIB, COMMON, ENDCOMMON, DATA}
 use Rattle.record.specs.Identifier.{ENDSUBENT}
-use Rattle.record.specs.Word.{blankTo}
+use Rattle.record_words.specs.Word.{blankTo}
 use Rattle.rules_state.specs.declared.state.Track.{Track}
 use Rattle.rules_state.specs.State.{Seen}
 use Rattle.rules_state.specs.Role.{TEXT}

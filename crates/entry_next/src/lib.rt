@@ -1,4 +1,3 @@
-// The state after a record without fault: what is due, what is counted, and what a later rule may look back at.
-pub mod counted;
+// The state after a record without fault: what is due, and what a later rule may look back at.
 pub mod due;
 pub mod parts;

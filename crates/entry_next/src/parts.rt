@@ -12,7 +12,7 @@ use record::identifier::COMMON;
 use record::identifier::DATA;
 use record::identifier::ENDCOMMON;
 use record::identifier::ENDSUBENT;
-use record::word::is_keyword_blank;
+use record_words::word::is_keyword_blank;
 use rules_state::ranging::Range;
 use rules_state::ranging::Ranges;
 use rules_state::role::TEXT;

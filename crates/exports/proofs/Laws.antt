@@ -22,11 +22,11 @@ use Rattle.entry.specs.declared.answer.Answer.{Answer}
 use Rattle.entry.specs.declared.verdict.Verdict.{Verdict}
 use Rattle.entry.specs.Answer.{answerOf, answerFor}
 use Rattle.entry.specs.Verdict.{refused, accepted, judgeOf}
-use Rattle.exports.specs.Words.{answerWord, answerIn, lentAfter}
-use Rattle.exports.specs.Values.{bit, twos, valueNumbers, readingAnswer, readingStored, readingIn}
+use Rattle.exports_words.specs.Words.{answerWord, answerIn, lentAfter}
+use Rattle.exports_words.specs.Values.{bit, twos, valueNumbers, readingAnswer, readingStored, readingIn}
 use Rattle.exports.specs.Verdicts.{verdictAnswer, totalsNumbers, verdictIn}
 use Rattle.exports.proofs.Sizes.{NearRefusal, Fitting, accepting, refusing, judge-fits}
-use Rattle.exports.proofs.Twos.{twos-back}
+use Rattle.exports_words.proofs.Twos.{twos-back}
 
 -- ---- words
 

@@ -1,4 +1,3 @@
 pub mod NearFaults
 pub mod Sizes
-pub mod Twos
 pub mod Laws

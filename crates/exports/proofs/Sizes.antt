@@ -24,7 +24,7 @@ use Rattle.rules_state.proofs.EitherWay.{either-way}
 use Rattle.entry_next.specs.Next.{contextAfter}
 use Rattle.entry.specs.declared.verdict.Verdict.{Verdict}
 use Rattle.entry.specs.Verdict.{refused, accepted, roleOf, onFault, turnAs, turnOf, isDone, endOf, lengthGood, judgeOf}
-use Rattle.entry_next.proofs.Counting.{Follows, track-follows}
+use Rattle.entry_counted.proofs.Counting.{Follows, track-follows}
 use Rattle.entry.proofs.Numbered.{whole-records}
 use Rattle.exports.proofs.NearFaults.{Near, near-fault}
 

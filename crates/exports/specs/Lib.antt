@@ -1,3 +1,1 @@
-pub mod Words
-pub mod Values
 pub mod Verdicts

@@ -10,7 +10,7 @@ use Rattle.entry.specs.declared.answer.Answer.{Answer}
 use Rattle.entry.specs.declared.verdict.Verdict.{Verdict}
 use Rattle.entry.specs.Answer.{answerOf}
 use Rattle.entry.specs.Verdict.{refused, accepted}
-use Rattle.exports.specs.Words.{answerIn}
+use Rattle.exports_words.specs.Words.{answerIn}
 
 -- of a refused entry its refusal stands twice: as the call's number, and beside it as the entry's
 unfoldable pub verdictAnswer : Verdict → Answer

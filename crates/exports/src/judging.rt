@@ -1,12 +1,12 @@
 // Judging, for host programs.
 ghost use mathlib.Core.Path.{_≡_};
 ghost use Rattle.entry.specs.Verdict.{judgeOf};
-ghost use Rattle.exports.specs.Words.{answerWord, lentAfter};
+ghost use Rattle.exports_words.specs.Words.{answerWord, lentAfter};
 ghost use Rattle.exports.specs.Verdicts.{verdictAnswer, totalsNumbers};
-use crate::words::answer_word;
 use entry::answer::Answer;
 use entry::verdict::Verdict;
 use entry::verdict::judge;
+use exports_words::words::answer_word;
 
 // Stores the totals of an accepted entry, and returns the word.
 fn put_verdict(v: Verdict, out: &mut [u64; 4]) -> u64

@@ -2,6 +2,4 @@
 // what stands beside it in one word (specs/Words); what it answers it stores in an array that the caller lends.
 pub mod judging;
 pub mod numbers;
-pub mod values;
 pub mod version;
-pub mod words;

@@ -5,12 +5,12 @@ ghost use lib.Dec.{eqb};
 ghost use Rattle.number.specs.Value.{valueOf};
 ghost use Rattle.number.specs.Reading.{readNumber};
 ghost use Rattle.canonical.specs.Writing.{bytes, writingRefusal};
-ghost use Rattle.exports.specs.Words.{answerWord};
-ghost use Rattle.exports.specs.Values.{readingAnswer, readingStored};
-use crate::values::put_reading;
+ghost use Rattle.exports_words.specs.Words.{answerWord};
+ghost use Rattle.exports_words.specs.Values.{readingAnswer, readingStored};
 use canonical::write::Written;
 use canonical::write::write_number;
-use number::read::read_number;
+use exports_words::values::put_reading;
+use number_reading::read::read_number;
 
 // What a number field says, stored only where that is a blank or a number.
 #[no_mangle]

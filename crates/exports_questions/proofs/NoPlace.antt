@@ -12,11 +12,11 @@ use Rattle.laws.specs.Search.{first}
 use Rattle.laws.proofs.Search.{first-same, pass-first}
 use Rattle.number.specs.Grammar.{blanks}
 use Rattle.columns.specs.declared.columns.RecordNo.{RecordNo}
-use Rattle.record.specs.Word.{filledAt, differAt, blankTo, equalTo}
+use Rattle.record_words.specs.Word.{filledAt, differAt, blankTo, equalTo}
 use Rattle.entry.specs.declared.verdict.Verdict.{Verdict}
 use Rattle.entry.specs.Verdict.{judgeOf}
 use Rattle.entry.specs.Answer.{refusal, firstOf, isRefused, answerOf, answerFor}
-use Rattle.questions.specs.Row.{rowOf}
+use Rattle.questions_rows.specs.Row.{rowOf}
 use Rattle.questions_places.specs.Place.{firstByte}
 use Rattle.questions_places.specs.Passage.{passageOf, textAt, isKeyword, textRecords, NO-PASSAGE}
 use Rattle.questions.specs.Ask.{passageRefusal, passageBy, passageAsked, sectionRefusals, noPassage}

@@ -7,18 +7,18 @@ use mathlib.Core.List.{List, [], _∷_, _++_}
 use native.Mathlib.Omega.{arith}
 use lib.Dec.{eqb, leb}
 use lib.ListN.{length}
-use Rattle.record.specs.Word.{pointerOf}
+use Rattle.record_words.specs.Word.{pointerOf}
 use Rattle.entry.specs.Verdict.{judgeOf}
 use Rattle.entry.specs.Answer.{refusal, firstOf, answerOf, answerFor}
 use Rattle.entry.specs.declared.answer.Answer.{Answer}
 use Rattle.questions.specs.declared.ask.PartAnswer.{PartAnswer}
-use Rattle.questions.specs.Row.{rowOf}
+use Rattle.questions_rows.specs.Row.{rowOf}
 use Rattle.questions_places.specs.Place.{shapeOf, headingPlace, unitPlace, fieldOf, firstByte, byteOf}
 use Rattle.questions_places.specs.Passage.{passageOf}
 use Rattle.questions.specs.Ask.{sectionIn, columnRefusal, headingBy, headingAsked, unitBy, unitAsked, passageRefusal}
 use Rattle.questions.specs.Ask.{passageBy, passageAsked, sectionRefusals, noColumn, noPassage}
 use Rattle.questions.specs.Ask.{noPart, partFrom, partWith}
-use Rattle.exports.specs.Words.{answerWord, answerIn, lentAfter}
+use Rattle.exports_words.specs.Words.{answerWord, answerIn, lentAfter}
 use Rattle.exports_questions.specs.Questions.{partStored, partIn}
 use Rattle.exports.proofs.Laws.{Fits, word-back, answer-fits}
 use Rattle.exports_questions.proofs.Refusals.{answer-number, Numbered, one, section-numbered}

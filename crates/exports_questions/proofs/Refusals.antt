@@ -13,7 +13,7 @@ use Rattle.rules_state.proofs.EitherWay.{either-way}
 use Rattle.entry.specs.declared.verdict.Verdict.{Verdict}
 use Rattle.entry.specs.Verdict.{judgeOf}
 use Rattle.entry.specs.Answer.{Refusal, refusal, firstOf, answerOf, answerFor}
-use Rattle.questions.specs.declared.row.Row.{Row}
+use Rattle.questions_rows.specs.declared.row.Row.{Row}
 use Rattle.questions.specs.Ask.{sectionRefusals}
 
 pub answer-number : (v : Verdict) (number : ℕ) → answerFor v number .number ≡ number

@@ -24,15 +24,15 @@ use Rattle.entry.specs.Verdict.{judgeOf}
 use Rattle.entry.specs.Answer.{refusal, firstOf, isRefused, answerOf, answerFor}
 use Rattle.entry.specs.declared.answer.Answer.{Answer}
 use Rattle.questions.specs.declared.ask.ValueAnswer.{ValueAnswer}
-use Rattle.questions.specs.Row.{rowOf}
+use Rattle.questions_rows.specs.Row.{rowOf}
 use Rattle.questions_places.specs.Place.{hasRecord, fieldsAt, shapeOf, fieldOf}
 use Rattle.questions.specs.Ask.{sectionIn, valueRefusal, sectionRefusals, noColumn, noLine, valueWith, valueBy}
 use Rattle.questions.specs.Ask.{valueAsked}
 use Rattle.questions_places.proofs.Records.{record-there}
 use Rattle.questions.proofs.Parts.{value-field}
 use Rattle.copy.specs.Call.{copied}
-use Rattle.exports.specs.Words.{answerWord, answerIn, lentAfter}
-use Rattle.exports.specs.Values.{readingAnswer, readingStored}
+use Rattle.exports_words.specs.Words.{answerWord, answerIn, lentAfter}
+use Rattle.exports_words.specs.Values.{readingAnswer, readingStored}
 use Rattle.exports_questions.specs.Questions.{valueAnswer, valueStored, valueAnswerIn}
 use Rattle.exports.proofs.Laws.{Fits, word-back, answer-fits, held, held-back}
 use Rattle.exports_questions.proofs.Refusals.{answer-number, Numbered, one, first-numbered, section-numbered}

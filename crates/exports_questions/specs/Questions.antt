@@ -19,8 +19,8 @@ use Rattle.entry.specs.Answer.{answerOf}
 use Rattle.questions.specs.declared.ask.ValueAnswer.{ValueAnswer}
 use Rattle.questions.specs.declared.ask.PartAnswer.{PartAnswer}
 use Rattle.questions.specs.Ask.{noPart}
-use Rattle.exports.specs.Words.{answerIn, lentAfter}
-use Rattle.exports.specs.Values.{readingAnswer, readingStored, readingIn}
+use Rattle.exports_words.specs.Words.{answerIn, lentAfter}
+use Rattle.exports_words.specs.Values.{readingAnswer, readingStored, readingIn}
 
 -- ---- a value: the number of its question, and where that is 0 the one of its field
 

@@ -1,12 +1,12 @@
 // The questions, for host programs. What is answered is stored in a lent array; a refused question stores nothing.
 ghost use mathlib.Core.Path.{_≡_};
 ghost use Rattle.questions.specs.Ask.{valueAsked, headingAsked, unitAsked, passageAsked};
-ghost use Rattle.exports.specs.Words.{answerWord};
+ghost use Rattle.exports_words.specs.Words.{answerWord};
 ghost use Rattle.exports_questions.specs.Questions.{valueAnswer, valueStored, partStored, keywordPlace};
 use crate::parts::put_part;
 use columns::columns::LineNo;
-use exports::values::put_reading;
-use exports::words::answer_word;
+use exports_words::values::put_reading;
+use exports_words::words::answer_word;
 use questions::ask::ValueAnswer;
 use questions::ask::heading;
 use questions::ask::passage;

@@ -1,8 +1,8 @@
 // A part of an entry, in three numbers that the caller lends.
 ghost use mathlib.Core.Path.{_≡_};
-ghost use Rattle.exports.specs.Words.{answerWord};
+ghost use Rattle.exports_words.specs.Words.{answerWord};
 ghost use Rattle.exports_questions.specs.Questions.{partStored};
-use exports::words::answer_word;
+use exports_words::words::answer_word;
 use questions::ask::PartAnswer;
 
 // Stores a part that is answered, and returns the word.

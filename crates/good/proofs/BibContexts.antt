@@ -12,11 +12,11 @@ use Rattle.record.specs.Identifier.{BIB, NOBIB, ENDBIB}
 use Rattle.rules_state.specs.declared.state.Phase.the-variants.{InSubentry, InBib, AfterBib}
 use Rattle.rules_state.specs.State.{Context}
 use Rattle.rules_state.specs.Role.{TEXT, only, roleIn, bibRole, either as oneOf}
-use Rattle.rules_system.specs.Every.{expectedIdentification, expectedSequence}
+use Rattle.rules_every.specs.Every.{expectedIdentification, expectedSequence}
 use Rattle.rules_system.specs.System.{limitN1, limitN2, meets, trueCount, countN1, countN2}
 use Rattle.entry_next.specs.Next.{contextAfter}
 use Rattle.entry_next.specs.Due.{phaseAfter}
-use Rattle.entry_next.specs.Counted.{trackAfter, afterSystem}
+use Rattle.entry_counted.specs.Counted.{trackAfter, afterSystem}
 use Rattle.entry_next.specs.Parts.{seenAfter, partAfter, bibChange}
 use Rattle.entry_next.specs.Parts.{underChange}
 use Rattle.entry.specs.Verdict.{roleOf}

@@ -17,7 +17,7 @@ use Rattle.laws.specs.Blocks.{joined}
 use Rattle.laws.proofs.Search.{either, pass-first}
 use Rattle.laws.proofs.Blocks.{length-joined}
 use Rattle.columns.specs.Fields.{fieldAt}
-use Rattle.record.specs.Word.{equalTo}
+use Rattle.record_words.specs.Word.{equalTo}
 use Rattle.rules_section.specs.declared.headings.Found.{Found}
 use Rattle.rules_section.specs.Headings.{headingAt, headingsIn, equalAt, equalIn, equalHeading, sectionTurn, nowhere}
 use Rattle.rules_section.specs.Headings.{isFound, earlier, headingFound}

@@ -16,7 +16,7 @@ use Rattle.laws.proofs.Search.{either}
 use Rattle.columns.specs.Columns.{recordsFor}
 use Rattle.columns.specs.Fields.{fieldAt, fieldsOf, inField}
 use Rattle.columns.specs.Text.{isBlank}
-use Rattle.record.specs.Word.{isWord, blankTo, pointerOf, pointerFault, headingFault}
+use Rattle.record_words.specs.Word.{isWord, blankTo, pointerOf, pointerFault, headingFault}
 use Rattle.rules_state.specs.State.{Context, used}
 use Rattle.rules_state.specs.Role.{DATA-HEADING, NOT-DUE, isHeading}
 use Rattle.rules_state.specs.Fault.{fieldColumn, pointerColumn}

@@ -10,7 +10,7 @@ use lib.ListN.{length, length-append}
 use Rattle.laws.proofs.Search.{either}
 use Rattle.columns.specs.Columns.{recordsFor}
 use Rattle.columns.specs.Fields.{fieldAt}
-use Rattle.record.specs.Word.{equalTo}
+use Rattle.record_words.specs.Word.{equalTo}
 use Rattle.rules_state.specs.State.{Context}
 use Rattle.good.specs.Parts.{Record}
 use Rattle.good.specs.Marks.{Following}

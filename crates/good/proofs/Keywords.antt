@@ -13,11 +13,11 @@ use Rattle.laws.specs.Walk.{All}
 use Rattle.laws.specs.Members.{anyOf}
 use Rattle.laws.proofs.Members.{any-append}
 use Rattle.columns.specs.Text.{isBlank}
-use Rattle.record.specs.Word.{blankTo, equalTo, isWord, pointerOf}
+use Rattle.record_words.specs.Word.{blankTo, equalTo, isWord, pointerOf}
 use Rattle.good.specs.Parts.{Record, Keyword, textsOf}
 use Rattle.good.specs.Marks.{Following, Once}
 use Rattle.good.specs.Bib.{bibPlace, Text, samePointer, pointersIn, GoodKeyword, keywordPlaces}
-use Rattle.record.proofs.WordsAndBlanks.{word-blank, word-differs}
+use Rattle.record_words.proofs.WordsAndBlanks.{word-blank, word-differs}
 use Rattle.good.proofs.TextContexts.{bearing}
 use Rattle.good.proofs.Texts.{TextFine, TextsFine, underAfter}
 

@@ -8,7 +8,7 @@ use lib.ListN.{length, length-append}
 use Rattle.laws.proofs.Booleans.{differ}
 use Rattle.laws.proofs.Listing.{all-left, all-places, all-right, places-all}
 use Rattle.laws.specs.Walk.{All}
-use Rattle.record.specs.Word.{pointerOf}
+use Rattle.record_words.specs.Word.{pointerOf}
 use Rattle.record.specs.Identifier.{SUBENT, ENDSUBENT}
 use Rattle.record.specs.Expected.{identificationFor}
 use Rattle.rules_state.specs.State.{Context, LAST-SUBENTRY}

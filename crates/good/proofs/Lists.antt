@@ -11,8 +11,8 @@ use Rattle.laws.specs.Members.{listOf}
 use Rattle.laws.specs.Walk.{All}
 use Rattle.laws.specs.Blocks.{joined}
 use Rattle.laws.proofs.Blocks.{length-joined}
-use Rattle.record.specs.Word.{pointerOf}
-use Rattle.rules_section.specs.Text.{placeInPart, placesOf, pointerAt, pointersOf}
+use Rattle.record_words.specs.Word.{pointerOf}
+use Rattle.rules_text.specs.Text.{placeInPart, placesOf, pointerAt, pointersOf}
 use Rattle.good.specs.Parts.{Record}
 use Rattle.good.specs.Bib.{bibPlace, pointersIn}
 

@@ -9,18 +9,18 @@ use borrow.Author.Tests.{not-false, eqb-true, eq-eqb, ne-eqb, ltb-true, lt-ltb, 
 use Rattle.laws.proofs.Booleans.{differ, and-left, and-right}
 use Rattle.laws.specs.Search.{first}
 use Rattle.columns.specs.Fields.{fieldsOf, n1, n2}
-use Rattle.record.specs.Word.{equalTo}
+use Rattle.record_words.specs.Word.{equalTo}
 use Rattle.record.specs.Identifier.{ENTRY, SUBENT, NOSUBENT, ENDSUBENT, ENDENTRY, isEnd}
 use Rattle.record.specs.System.{isSubentN1, isDate}
 use Rattle.record.specs.Expected.{accessionOf, identificationFor, subentAccession, subentIdentification}
 use Rattle.rules_state.specs.declared.state.Phase.{Phase}
 use Rattle.rules_state.specs.declared.state.Phase.the-variants.{Opened, InSubentry, Between, Done}
 use Rattle.rules_state.specs.State.{Context, LAST-SUBENTRY, startContext}
-use Rattle.rules_system.specs.Every.{expectedIdentification, expectedSequence}
+use Rattle.rules_every.specs.Every.{expectedIdentification, expectedSequence}
 use Rattle.rules_system.specs.System.{formN1, formN2, inForm, rule8, numberDue, rule9, trueCount}
 use Rattle.entry_next.specs.Next.{contextAfter}
 use Rattle.entry_next.specs.Due.{phaseAfter}
-use Rattle.entry_next.specs.Counted.{trackAfter, afterSystem}
+use Rattle.entry_counted.specs.Counted.{trackAfter, afterSystem}
 use Rattle.entry_next.specs.Parts.{seenAfter, partAfter, bibChange}
 use Rattle.rules.proofs.NoColumns.{when-none, none-when}
 use Rattle.good.specs.Parts.{Record}

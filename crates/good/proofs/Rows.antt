@@ -16,8 +16,8 @@ use Rattle.rules_state.specs.Role.{COMMON-HEADING, COMMON-UNIT, COMMON-VALUE, D
 use Rattle.rules_section.specs.Values.{valuesFor}
 use Rattle.entry_next.specs.Next.{contextAfter}
 use Rattle.entry_next.specs.Due.{phaseAfter}
-use Rattle.entry_next.specs.Counted.{trackAfter, afterInside, headingsRead, unitsRead, valuesRead}
-use Rattle.entry_next.specs.Counted.{nextRow, sameRow, nextLine}
+use Rattle.entry_counted.specs.Counted.{trackAfter, afterInside, headingsRead, unitsRead, valuesRead}
+use Rattle.entry_counted.specs.Counted.{nextRow, sameRow, nextLine}
 use Rattle.entry_next.specs.Parts.{seenAfter, partAfter, bibChange, tableChange}
 use Rattle.good.specs.Parts.{Record}
 use Rattle.good.proofs.Steps.{next}

@@ -13,7 +13,7 @@ use Rattle.laws.specs.Blocks.{joined}
 use Rattle.columns.specs.Columns.{recordsFor}
 use Rattle.rules_state.specs.declared.state.Table.{Table}
 use Rattle.rules_state.specs.State.{Context}
-use Rattle.rules_system.specs.Every.{expectedIdentification, expectedSequence}
+use Rattle.rules_every.specs.Every.{expectedIdentification, expectedSequence}
 use Rattle.good.specs.Parts.{Record}
 use Rattle.good.specs.Marks.{Following}
 use Rattle.good.proofs.Steps.{Takes, next, MarkedFor, takes-marked}

@@ -11,11 +11,11 @@ use Rattle.laws.specs.Walk.{Goes, All}
 use Rattle.columns.specs.Columns.{hasLineFeed}
 use Rattle.columns.specs.Class.{isPermitted, notPermitted}
 use Rattle.columns.specs.Fields.{fieldsOf}
-use Rattle.record.specs.Word.{equalTo}
+use Rattle.record_words.specs.Word.{equalTo}
 use Rattle.record.specs.Expected.{identificationOf, sequenceOf, inDigits}
 use Rattle.rules_state.specs.State.{Context}
 use Rattle.rules_state.specs.Role.{NOT-DUE}
-use Rattle.rules_system.specs.Every.{rule2, rule3, rule4, rule5, rule6, expectedIdentification, expectedSequence}
+use Rattle.rules_every.specs.Every.{rule2, rule3, rule4, rule5, rule6, expectedIdentification, expectedSequence}
 use Rattle.rules.specs.Clean.{CleanEvery, Clean}
 use Rattle.rules.proofs.NoColumns.{when-none, where-none, none-where}
 use Rattle.rules.proofs.Clean.{fine-clean, clean-fine}

@@ -10,7 +10,7 @@ use Rattle.laws.proofs.Booleans.{differ}
 use Rattle.laws.specs.Walk.{All}
 use Rattle.laws.specs.Blocks.{joined}
 use Rattle.laws.specs.Members.{listOf}
-use Rattle.record.specs.Word.{equalTo}
+use Rattle.record_words.specs.Word.{equalTo}
 use Rattle.record.specs.Expected.{identificationFor}
 use Rattle.rules_state.specs.declared.state.Phase.the-variants.{InSubentry, AfterCommon}
 use Rattle.rules_state.specs.State.{Context}

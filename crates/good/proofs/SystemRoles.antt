@@ -1,10 +1,10 @@
 -- The system records inside a subentry, and the END records: which of the three kinds each is of. Assumes nothing.
 use mathlib.Core.Path.{refl}
 use Rattle.laws.specs.Search.{first}
-use Rattle.record.specs.Word.{equalTo}
+use Rattle.record_words.specs.Word.{equalTo}
 use Rattle.record.specs.Identifier.{BIB, NOBIB, ENDBIB, COMMON, NOCOMMON, ENDCOMMON, DATA, NODATA, ENDDATA, ENDSUBENT}
 use Rattle.record.specs.Identifier.{ENDENTRY, isEnd}
-use Rattle.rules_system.specs.Every.{expectedIdentification, expectedSequence}
+use Rattle.rules_every.specs.Every.{expectedIdentification, expectedSequence}
 use Rattle.rules_system.specs.System.{formN1, formN2}
 use Rattle.good.proofs.Systems.{Inside, FreeRole, OpenRole, EndRole}
 

@@ -13,7 +13,7 @@ use Rattle.rules_section.specs.Headings.{pointersFor}
 use Rattle.rules_system.specs.System.{countN1, countN2}
 use Rattle.entry_next.specs.Next.{contextAfter}
 use Rattle.entry_next.specs.Due.{phaseAfter}
-use Rattle.entry_next.specs.Counted.{trackAfter, afterSystem}
+use Rattle.entry_counted.specs.Counted.{trackAfter, afterSystem}
 use Rattle.entry_next.specs.Parts.{seenAfter, partAfter, bibChange}
 use Rattle.entry_next.specs.Parts.{tableChange}
 use Rattle.record.specs.System.{upTo}

@@ -14,7 +14,7 @@ use Rattle.record.specs.Identifier.{COMMON, NOCOMMON, DATA, NODATA}
 use Rattle.rules_state.specs.declared.state.Phase.{Phase}
 use Rattle.rules_state.specs.declared.state.Phase.the-variants.{AfterCommon, AfterData}
 use Rattle.rules_state.specs.State.{Context, MOST-COLUMNS, MOST-LINES}
-use Rattle.rules_system.specs.Every.{expectedIdentification, expectedSequence}
+use Rattle.rules_every.specs.Every.{expectedIdentification, expectedSequence}
 use Rattle.rules_system.specs.System.{limitN1, limitN2, meets, trueCount, keywordsTrue}
 use Rattle.good.specs.Parts.{Record, Table, Section, present}
 use Rattle.good.specs.Marks.{nameOf, CountIs}

@@ -10,14 +10,14 @@ use borrow.Author.Tests.{eqb-true, eq-eqb, ne-eqb}
 use Rattle.laws.proofs.Booleans.{differ}
 use Rattle.laws.specs.Blocks.{joined}
 use Rattle.columns.specs.Fields.{fieldsOf}
-use Rattle.record.specs.Word.{blankTo}
+use Rattle.record_words.specs.Word.{blankTo}
 use Rattle.record.specs.Identifier.{OTHER}
 use Rattle.rules_state.specs.declared.state.Phase.the-variants.{InBib}
 use Rattle.rules_state.specs.State.{Context}
 use Rattle.rules_state.specs.Role.{TEXT, NOT-DUE, roleIn, bibRole}
 use Rattle.entry_next.specs.Next.{contextAfter}
 use Rattle.entry_next.specs.Due.{phaseAfter}
-use Rattle.entry_next.specs.Counted.{trackAfter, afterInside, textRead}
+use Rattle.entry_counted.specs.Counted.{trackAfter, afterInside, textRead}
 use Rattle.entry_next.specs.Parts.{seenAfter, partAfter}
 use Rattle.entry_next.specs.Parts.{bibChange}
 use Rattle.entry.specs.Verdict.{roleOf, isDone}

@@ -15,12 +15,12 @@ use Rattle.laws.specs.Blocks.{joined}
 use Rattle.laws.specs.Members.{anyOf}
 use Rattle.columns.specs.Fields.{fieldsOf}
 use Rattle.columns.specs.Text.{isBlank}
-use Rattle.record.specs.Word.{blankTo, equalTo, isWord, pointerOf, badPointer}
+use Rattle.record_words.specs.Word.{blankTo, equalTo, isWord, pointerOf, badPointer}
 use Rattle.record.specs.Expected.{identificationFor}
 use Rattle.rules_state.specs.State.{Context}
 use Rattle.rules_state.specs.Role.{TEXT}
-use Rattle.rules_system.specs.Every.{expectedIdentification, expectedSequence}
-use Rattle.rules_section.specs.Text.{keywordFault, rule10, pointerRepeated, rule11Text}
+use Rattle.rules_every.specs.Every.{expectedIdentification, expectedSequence}
+use Rattle.rules_text.specs.Text.{keywordFault, rule10, pointerRepeated, rule11Text}
 use Rattle.entry_next.specs.Next.{contextAfter}
 use Rattle.entry_next.specs.Parts.{seenAfter, partAfter}
 use Rattle.entry_next.specs.Parts.{underChange}

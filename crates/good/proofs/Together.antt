@@ -16,8 +16,8 @@ use Rattle.laws.specs.Blocks.{joined}
 use Rattle.laws.proofs.Search.{either}
 use Rattle.laws.proofs.Members.{any-append}
 use Rattle.columns.specs.Text.{isBlank}
-use Rattle.record.specs.Word.{equalTo, isWord, pointerOf}
-use Rattle.rules_section.specs.Text.{pointersOf}
+use Rattle.record_words.specs.Word.{equalTo, isWord, pointerOf}
+use Rattle.rules_text.specs.Text.{pointersOf}
 use Rattle.rules_section.specs.Headings.{headingPointerAt, headingPointers, pointersFor as pointersSeen}
 use Rattle.good.specs.Parts.{Record}
 use Rattle.good.specs.Marks.{Once}
@@ -25,7 +25,7 @@ use Rattle.good.specs.Bib.{pointersIn}
 use Rattle.good.specs.Tables.{cell, Heading, BlankCell}
 use Rattle.good.specs.Subentries.{pointersOn}
 use Rattle.good.proofs.Lists.{Long, pointers-joined}
-use Rattle.record.proofs.WordsAndBlanks.{heading-differs, blank-pointer}
+use Rattle.record_words.proofs.WordsAndBlanks.{heading-differs, blank-pointer}
 use Rattle.good.proofs.Earlier.{heading-cell, headings-in}
 use Rattle.good.proofs.HeadingsByColumn.{NewIn}
 

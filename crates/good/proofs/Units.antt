@@ -12,7 +12,7 @@ use Rattle.laws.specs.Walk.{All}
 use Rattle.laws.proofs.Search.{either}
 use Rattle.columns.specs.Columns.{recordsFor}
 use Rattle.columns.specs.Fields.{fieldAt, fieldsOf, inField}
-use Rattle.record.specs.Word.{isUnitWord, unitFault, blankTo}
+use Rattle.record_words.specs.Word.{isUnitWord, unitFault, blankTo}
 use Rattle.rules_state.specs.State.{Context, used}
 use Rattle.rules_state.specs.Role.{NOT-DUE, isUnit as unitRole}
 use Rattle.rules_state.specs.Fault.{fieldColumn}

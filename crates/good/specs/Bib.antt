@@ -8,7 +8,7 @@ use lib.ListN.{length}
 use Rattle.laws.specs.Walk.{All}
 use Rattle.columns.specs.Fields.{fieldAt, fieldsOf, n1, n2}
 use Rattle.columns.specs.Text.{isBlank}
-use Rattle.record.specs.Word.{equalTo, blankTo, isWord, pointerOf, badPointer}
+use Rattle.record_words.specs.Word.{equalTo, blankTo, isWord, pointerOf, badPointer}
 use Rattle.record.specs.Identifier.{BIB, NOBIB, ENDBIB, OTHER}
 use Rattle.good.specs.Parts.{Record, Keyword, Bib, Section, present, absent, textsOf}
 use Rattle.good.specs.Marks.{nameOf, CountIs, Once}

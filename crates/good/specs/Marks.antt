@@ -9,7 +9,7 @@ use Rattle.laws.specs.Members.{anyOf}
 use Rattle.columns.specs.Columns.{hasLineFeed}
 use Rattle.columns.specs.Class.{isPermitted}
 use Rattle.columns.specs.Fields.{fieldAt}
-use Rattle.record.specs.Word.{equalTo}
+use Rattle.record_words.specs.Word.{equalTo}
 use Rattle.record.specs.Identifier.{identifierOf}
 use Rattle.record.specs.System.{countOf}
 use Rattle.record.specs.Expected.{identificationOf, sequenceOf, inDigits}

@@ -9,7 +9,7 @@ use Rattle.laws.specs.Members.{anyOf}
 use Rattle.laws.specs.Walk.{All}
 use Rattle.columns.specs.Text.{isBlank}
 use Rattle.columns.specs.Fields.{fieldsOf, n1, n2}
-use Rattle.record.specs.Word.{equalTo, pointerOf}
+use Rattle.record_words.specs.Word.{equalTo, pointerOf}
 use Rattle.record.specs.Identifier.{SUBENT, NOSUBENT, ENDSUBENT}
 use Rattle.record.specs.System.{isSubentN1, isDate, subentryOf}
 use Rattle.record.specs.Expected.{identificationFor, subentIdentification, subentAccession}

@@ -11,7 +11,7 @@ use Rattle.number.specs.declared.form.Form.{Form}
 use Rattle.number.specs.declared.form.Form.the-variants as Form
 use Rattle.columns.specs.Columns.{recordsFor}
 use Rattle.columns.specs.Fields.{fieldAt, fieldsOf, n1, n2}
-use Rattle.record.specs.Word.{isWord, badPointer, isUnitWord, blankTo}
+use Rattle.record_words.specs.Word.{isWord, badPointer, isUnitWord, blankTo}
 use Rattle.record.specs.Identifier.{COMMON, NOCOMMON, ENDCOMMON, DATA, NODATA, ENDDATA, isEnd}
 use Rattle.record.specs.System.{countOf, isCount, numberOf}
 use Rattle.record.specs.Numbers.{formAt, saysNumber, noValue}

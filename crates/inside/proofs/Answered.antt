@@ -32,9 +32,9 @@ use Rattle.rules.proofs.WithoutFault.{fine-reads}
 use Rattle.entry.proofs.GoingOn.{go-fine}
 use Rattle.entry.specs.Contexts.{contextAt, roleAt}
 use Rattle.entry.specs.Answer.{firstOf, refusal}
-use Rattle.questions.specs.declared.row.Row.{Row}
+use Rattle.questions_rows.specs.declared.row.Row.{Row}
 use Rattle.questions_places.specs.declared.place.Shape.{Shape}
-use Rattle.questions.specs.Row.{rowOf}
+use Rattle.questions_rows.specs.Row.{rowOf}
 use Rattle.questions_places.specs.Place.{COMMON-SECTION, DATA-SECTION, fieldsAt, shapeOf, headingPlace, unitPlace}
 use Rattle.questions_places.specs.Place.{fieldOf, byteOf}
 use Rattle.questions.specs.Ask.{sectionIn, noSection, noLine, noColumn, sectionRefusals, valueRefusal}
@@ -44,7 +44,7 @@ use Rattle.questions.proofs.Refusals.{section-none}
 use Rattle.inside.proofs.Contexts.{walked}
 use Rattle.inside.proofs.Laid.{rowRole}
 use Rattle.inside.proofs.TableLaid.{table-laid, sectionRole, linesOf, Opened, opened}
-use Rattle.questions.proofs.RowChanges.{Section, common, table, opener, named}
+use Rattle.questions_rows.proofs.RowChanges.{Section, common, table, opener, named}
 use Rattle.inside.proofs.RowWalked.{fields-at}
 use Rattle.inside.proofs.RowFound.{Opening, row-names, row-subent, row-fields}
 

@@ -13,12 +13,12 @@ use Rattle.columns.specs.declared.columns.LineNo.{LineNo}
 use Rattle.columns.specs.declared.columns.RecordNo.{RecordNo}
 use Rattle.entry.specs.Verdict.{judgeOf, Accepted}
 use Rattle.entry.specs.Answer.{refusal}
-use Rattle.questions.specs.Row.{NONE, rowOf}
+use Rattle.questions_rows.specs.Row.{NONE, rowOf}
 use Rattle.questions_places.specs.Place.{COMMON-SECTION, DATA-SECTION, shapeOf}
 use Rattle.questions.specs.Ask.{sectionIn, InShape, noLine, noColumn, valueRefusal, valueBy, valueAsked}
 use Rattle.questions.specs.Ask.{columnRefusal, headingBy, headingAsked, unitBy, unitAsked}
 use Rattle.questions.proofs.Refusals.{value-inside, column-inside}
-use Rattle.questions.proofs.RowChanges.{common, table}
+use Rattle.questions_rows.proofs.RowChanges.{common, table}
 use Rattle.inside.specs.Inside.{OpensSection, InsideColumn, InsideValue, linesAnnounced}
 use Rattle.inside.specs.Asked.{ValueInside, HeadingInside, UnitInside, AnsweredSaid, AnsweredTen}
 use Rattle.inside.proofs.TableLaid.{linesOf}

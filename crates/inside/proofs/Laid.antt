@@ -24,7 +24,7 @@ use Rattle.rules_state.specs.Role.{COMMON-HEADING, COMMON-UNIT, COMMON-VALUE, D
 use Rattle.rules_state.specs.Role.{NOT-DUE}
 use Rattle.rules_state.specs.Role.{allRead, tableRole, roleIn}
 use Rattle.rules_section.specs.Values.{valuesFor}
-use Rattle.entry_next.specs.Counted.{headingsRead, unitsRead, valuesRead, afterInside, trackAfter}
+use Rattle.entry_counted.specs.Counted.{headingsRead, unitsRead, valuesRead, afterInside, trackAfter}
 use Rattle.entry_next.specs.Due.{phaseAfter}
 use Rattle.entry_next.specs.Next.{contextAfter}
 use Rattle.entry.specs.Verdict.{roleOf, turnOf}

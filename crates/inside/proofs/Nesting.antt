@@ -14,7 +14,7 @@ use Rattle.columns.specs.Fields.{fieldsOf, n1}
 use Rattle.record.specs.Identifier.{ENTRY, SUBENT, NOSUBENT, BIB, NOBIB, ENDBIB, COMMON, NOCOMMON, ENDCOMMON, DATA}
 use Rattle.record.specs.Identifier.{NODATA, ENDDATA, ENDSUBENT, ENDENTRY, OTHER, identifierOf, isEnd}
 use Rattle.record.specs.System.{subentryOf}
-use Rattle.record.specs.Word.{blankTo}
+use Rattle.record_words.specs.Word.{blankTo}
 use Rattle.rules_state.specs.declared.state.Phase.{Phase}
 use Rattle.rules_state.specs.declared.state.Phase.the-variants.{Start, Opened, InSubentry, InBib, AfterBib, InCommon}
 use Rattle.rules_state.specs.declared.state.Phase.the-variants.{AfterCommon, InData, AfterData, Between, Done}
@@ -26,7 +26,7 @@ use Rattle.rules_system.specs.System.{numberDue}
 use Rattle.rules.proofs.DueRecords.{fine-due, fine-number}
 use Rattle.rules_state.proofs.EitherWay.{either-way}
 use Rattle.entry_next.specs.Due.{phaseAfter}
-use Rattle.entry_next.specs.Counted.{textRead, afterSystem, afterInside, trackAfter}
+use Rattle.entry_counted.specs.Counted.{textRead, afterSystem, afterInside, trackAfter}
 use Rattle.entry_next.specs.Next.{contextAfter}
 use Rattle.entry.specs.Verdict.{roleOf, turnOf}
 use Rattle.entry.proofs.GoingOn.{go-fine}

@@ -14,7 +14,7 @@ use Rattle.entry.specs.declared.verdict.Verdict.{Verdict}
 use Rattle.entry.specs.declared.answer.Answer.{Answer}
 use Rattle.entry.specs.Verdict.{judgeOf, Accepted}
 use Rattle.entry.specs.Answer.{Refusal, refusal, firstOf, isRefused, answerOf, answerFor}
-use Rattle.questions.specs.declared.row.Row.{Row}
+use Rattle.questions_rows.specs.declared.row.Row.{Row}
 use Rattle.questions.specs.declared.ask.PartAnswer.{PartAnswer}
 use Rattle.questions.specs.Ask.{isSubent, noSection, sectionRefusals, noPart, partWith}
 

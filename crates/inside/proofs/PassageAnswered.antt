@@ -13,22 +13,22 @@ use Rattle.laws.proofs.Booleans.{differ, and-left, and-right, or-other, and-non
 use Rattle.laws.proofs.Search.{first-from, first-to}
 use Rattle.laws.proofs.Counting.{first-before, first-past, first-holds, first-is}
 use Rattle.columns.specs.Text.{isBlank}
-use Rattle.record.specs.Word.{equalTo, pointerOf}
+use Rattle.record_words.specs.Word.{equalTo, pointerOf}
 use Rattle.columns.specs.declared.columns.RecordNo.{RecordNo}
-use Rattle.record.proofs.EqualColumns.{equal-both, equal-taken}
-use Rattle.rules_section.specs.Text.{placeInPart}
+use Rattle.record_words.proofs.EqualColumns.{equal-both, equal-taken}
+use Rattle.rules_text.specs.Text.{placeInPart}
 use Rattle.entry.specs.Verdict.{judgeOf, Accepted}
 use Rattle.entry.specs.Answer.{firstOf, refusal}
-use Rattle.questions.specs.declared.row.Row.{Row}
+use Rattle.questions_rows.specs.declared.row.Row.{Row}
 use Rattle.questions_places.specs.declared.passage.Passage.{Passage}
-use Rattle.questions.specs.Row.{rowOf}
+use Rattle.questions_rows.specs.Row.{rowOf}
 use Rattle.questions_places.specs.Place.{firstByte}
 use Rattle.questions_places.specs.Passage.{textRecord, textAt, hasKeyword, isKeyword, begins, beginsWith}
 use Rattle.questions_places.specs.Passage.{firstText, passageUnder, passageOf}
 use Rattle.questions.specs.Ask.{noSection, noPassage, sectionRefusals, passageRefusal, passageBy}
 use Rattle.questions.specs.Ask.{passageAsked}
 use Rattle.questions.proofs.Refusals.{section-none}
-use Rattle.questions.proofs.RowChanges.{bib}
+use Rattle.questions_rows.proofs.RowChanges.{bib}
 use Rattle.inside.specs.Inside.{TextOf, InsidePassage, RunFrom, PassageAnswered}
 use Rattle.inside.specs.Inside.{BegunInside, OnePassage}
 use Rattle.inside.proofs.RecordsFrom.{place-field}

@@ -13,10 +13,10 @@ use Rattle.laws.proofs.Booleans.{and-left, and-right}
 use Rattle.laws.proofs.Search.{first-from, first-to}
 use Rattle.laws.proofs.Counting.{first-before, first-holds}
 use Rattle.columns.specs.declared.columns.RecordNo.{RecordNo}
-use Rattle.record.specs.Word.{equalTo}
-use Rattle.rules_section.specs.Text.{placeInPart}
+use Rattle.record_words.specs.Word.{equalTo}
+use Rattle.rules_text.specs.Text.{placeInPart}
 use Rattle.entry.specs.Verdict.{judgeOf, Accepted}
-use Rattle.questions.specs.Row.{rowOf}
+use Rattle.questions_rows.specs.Row.{rowOf}
 use Rattle.questions_places.specs.declared.passage.Passage.{Passage}
 use Rattle.questions_places.specs.Passage.{textRecords, textRecord, textAt, hasKeyword, isKeyword, begins, beginsWith}
 use Rattle.questions_places.specs.Passage.{firstText, NO-PASSAGE, passageUnder, passageOf}

@@ -18,12 +18,12 @@ use Rattle.columns.specs.declared.columns.LineNo.{LineNo}
 use Rattle.columns.specs.declared.columns.Place.{Place}
 use Rattle.columns.specs.declared.columns.RecordNo.{RecordNo}
 use Rattle.columns.proofs.ReadColumns.{field-of}
-use Rattle.record.specs.Word.{pointerOf}
+use Rattle.record_words.specs.Word.{pointerOf}
 use Rattle.rules_state.specs.Role.{COMMON-HEADING, COMMON-UNIT, COMMON-VALUE, DATA-HEADING, DATA-UNIT, DATA-VALUE}
 use Rattle.rules_system.specs.System.{countN1}
 use Rattle.entry.specs.Verdict.{judgeOf, Accepted}
 use Rattle.entry.specs.Contexts.{contextAt, roleAt}
-use Rattle.questions.specs.Row.{rowOf}
+use Rattle.questions_rows.specs.Row.{rowOf}
 use Rattle.questions_places.specs.declared.place.Shape.{Shape}
 use Rattle.questions_places.specs.Place.{shapeOf, headingPlace, unitPlace, fieldOf, byteOf}
 use Rattle.questions.specs.Ask.{sectionIn, valueRefusal, valueBy, valueAsked, columnRefusal, headingBy, headingAsked}

@@ -12,9 +12,9 @@ use Rattle.laws.specs.Blocks.{blockAt}
 use Rattle.laws.specs.Members.{anyOf}
 use Rattle.laws.proofs.Listing.{any-none}
 use Rattle.columns.specs.Fields.{fieldsOf}
-use Rattle.record.specs.Word.{equalTo, pointerOf}
+use Rattle.record_words.specs.Word.{equalTo, pointerOf}
 use Rattle.columns.proofs.ReadColumns.{field-of}
-use Rattle.rules_section.specs.Text.{placeInPart, placesOf, pointersOf, pointerAt}
+use Rattle.rules_text.specs.Text.{placeInPart, placesOf, pointersOf, pointerAt}
 
 -- columns 1 to 11 are the first field
 pub place-field : (s : List ℕ) (i : ℕ) → getD (fieldsOf (blockAt 81 s i)) 0 [] ≡ placeInPart s i

@@ -29,11 +29,11 @@ use Rattle.entry_next.specs.Due.{phaseAfter}
 use Rattle.entry.specs.Verdict.{Accepted}
 use Rattle.entry.specs.Contexts.{contextAt, roleAt}
 use Rattle.entry.proofs.Contexts.{records-at}
-use Rattle.questions.specs.Row.{rowAt, rowOf}
+use Rattle.questions_rows.specs.Row.{rowAt, rowOf}
 use Rattle.questions_places.specs.Place.{fieldsAt, identifierAt}
-use Rattle.questions.proofs.RowChanges.{Section, bib, common, table, opener, named, level, first-stays, first-set}
-use Rattle.questions.proofs.RowChanges.{section-stays, section-set}
-use Rattle.questions.proofs.RowNoted.{found-row}
+use Rattle.questions_rows.proofs.RowChanges.{Section, bib, common, table, opener, named, level, first-stays, first-set}
+use Rattle.questions_rows.proofs.RowChanges.{section-stays, section-set}
+use Rattle.questions_rows.proofs.RowNoted.{found-row}
 use Rattle.inside.proofs.Contexts.{Walked, walked}
 use Rattle.inside.proofs.Nesting.{rank, Unnumbered, unnumbered-turn, key, Nested, nested-turn}
 use Rattle.inside.proofs.RowWalked.{number-of, row-next, fields-at}

@@ -11,9 +11,9 @@ use Rattle.columns.specs.Fields.{fieldsOf}
 use Rattle.columns.specs.declared.columns.RecordNo.{RecordNo}
 use Rattle.entry.specs.Verdict.{roleOf}
 use Rattle.entry.specs.Contexts.{contextAt, roleAt}
-use Rattle.questions.specs.Row.{notedAs, rowAt}
+use Rattle.questions_rows.specs.Row.{notedAs, rowAt}
 use Rattle.questions_places.specs.Place.{fieldsAt}
-use Rattle.questions.proofs.RowChanges.{number-stays}
+use Rattle.questions_rows.proofs.RowChanges.{number-stays}
 
 pub number-of : (s : List ℕ) (number i : ℕ) → rowAt s number i .number ≡ number
 unfolding rowAt

@@ -18,7 +18,7 @@ use Rattle.rules_state.specs.State.{Context, MOST-COLUMNS, MOST-LINES}
 use Rattle.rules_system.specs.System.{countN1, countN2}
 use Rattle.rules.proofs.DueRecords.{fine-common, fine-data}
 use Rattle.entry_next.specs.Due.{phaseAfter}
-use Rattle.entry_next.specs.Counted.{afterSystem, trackAfter}
+use Rattle.entry_counted.specs.Counted.{afterSystem, trackAfter}
 use Rattle.entry_next.specs.Next.{contextAfter}
 use Rattle.entry.specs.Verdict.{roleOf, isDone}
 use Rattle.entry.proofs.GoingOn.{go-fine}

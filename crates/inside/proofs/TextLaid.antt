@@ -17,7 +17,7 @@ use Rattle.laws.proofs.Search.{either}
 use Rattle.laws.proofs.Booleans.{either-as}
 use Rattle.columns.specs.Fields.{fieldsOf}
 use Rattle.record.specs.Identifier.{BIB, OTHER, identifierOf}
-use Rattle.record.specs.Word.{blankTo}
+use Rattle.record_words.specs.Word.{blankTo}
 use Rattle.columns.specs.declared.columns.RecordNo.{RecordNo}
 use Rattle.rules_state.specs.declared.state.Phase.{Phase}
 use Rattle.rules_state.specs.declared.state.Phase.the-variants.{InBib}
@@ -27,18 +27,18 @@ use Rattle.rules_system.specs.System.{countN2}
 use Rattle.rules_state.specs.Role.{TEXT, NOT-DUE, isValue, bibRole, roleIn}
 use Rattle.rules.proofs.DueRecords.{fine-due}
 use Rattle.entry_next.specs.Due.{phaseAfter}
-use Rattle.entry_next.specs.Counted.{textRead, afterSystem, afterInside, trackAfter}
+use Rattle.entry_counted.specs.Counted.{textRead, afterSystem, afterInside, trackAfter}
 use Rattle.entry_next.specs.Next.{contextAfter}
 use Rattle.entry.specs.Verdict.{roleOf, isDone, turnOf, endOf, lengthGood, judgeOf, refused, Accepted}
 use Rattle.entry.proofs.GoingOn.{go-fine}
 use Rattle.entry.proofs.Numbered.{whole-records}
 use Rattle.entry.specs.Contexts.{behind, contextAt, roleAt}
 use Rattle.entry.proofs.Contexts.{records-at}
-use Rattle.questions.specs.declared.row.Row.{Row}
-use Rattle.questions.specs.Row.{NONE, notedAs, rowAt, rowOf}
+use Rattle.questions_rows.specs.declared.row.Row.{Row}
+use Rattle.questions_rows.specs.Row.{NONE, notedAs, rowAt, rowOf}
 use Rattle.questions_places.specs.Passage.{textRecords}
-use Rattle.questions.proofs.RowChanges.{Section, bib, common, table, opener, named, section-stays, section-set}
-use Rattle.questions.proofs.RowNoted.{found-row}
+use Rattle.questions_rows.proofs.RowChanges.{Section, bib, common, table, opener, named, section-stays, section-set}
+use Rattle.questions_rows.proofs.RowNoted.{found-row}
 use Rattle.inside.specs.Inside.{TextOf}
 use Rattle.inside.proofs.Contexts.{walked}
 use Rattle.inside.proofs.RowWalked.{number-of, row-next}

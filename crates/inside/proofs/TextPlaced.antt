@@ -20,7 +20,7 @@ use Rattle.entry_next.specs.Next.{contextAfter}
 use Rattle.entry_next.proofs.Following.{bib-led, one-of}
 use Rattle.entry.specs.Verdict.{Accepted}
 use Rattle.entry.specs.Contexts.{contextAt, roleAt}
-use Rattle.questions.proofs.RowChanges.{bib}
+use Rattle.questions_rows.proofs.RowChanges.{bib}
 use Rattle.inside.specs.Inside.{TextOf}
 use Rattle.inside.proofs.RowFound.{Opening, row-names}
 use Rattle.inside.proofs.TextLaid.{InTexts, textsOf, texts-stand, text-laid}

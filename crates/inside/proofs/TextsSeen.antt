@@ -17,13 +17,13 @@ use Rattle.laws.proofs.Search.{either}
 use Rattle.columns.specs.Fields.{fieldsOf}
 use Rattle.record.specs.Identifier.{BIB}
 use Rattle.columns.specs.Text.{isBlank}
-use Rattle.record.specs.Word.{blankTo, equalTo, isWord, pointerOf, badPointer}
+use Rattle.record_words.specs.Word.{blankTo, equalTo, isWord, pointerOf, badPointer}
 use Rattle.rules_state.specs.declared.fault.Fault.the-variants.{Fine}
 use Rattle.rules_state.specs.declared.state.Track.{Track}
 use Rattle.rules_state.specs.State.{Seen, Context}
 use Rattle.rules_state.specs.Role.{TEXT}
-use Rattle.rules_section.specs.Text.{placeInPart, placesOf, pointersOf, keywordFault, rule10, pointerRepeated}
-use Rattle.rules_section.specs.Text.{rule11Text}
+use Rattle.rules_text.specs.Text.{placeInPart, placesOf, pointersOf, keywordFault, rule10, pointerRepeated}
+use Rattle.rules_text.specs.Text.{rule11Text}
 use Rattle.rules.specs.Order.{faultOf}
 use Rattle.rules.specs.Clean.{Clean}
 use Rattle.rules.proofs.NoColumns.{when-none}
@@ -34,7 +34,7 @@ use Rattle.entry.specs.Verdict.{roleOf, Accepted}
 use Rattle.entry.proofs.GoingOn.{go-fine}
 use Rattle.entry.specs.Contexts.{behind, contextAt, roleAt}
 use Rattle.questions_places.specs.Passage.{hasKeyword}
-use Rattle.questions.proofs.RowChanges.{bib}
+use Rattle.questions_rows.proofs.RowChanges.{bib}
 use Rattle.inside.specs.Inside.{TextOf, Under}
 use Rattle.inside.proofs.Contexts.{walked, context-next}
 use Rattle.inside.proofs.RecordsFrom.{place-field, recordsFrom, records-none, records-next}

@@ -13,11 +13,11 @@ use Rattle.laws.specs.Blocks.{blockAt}
 use Rattle.number.specs.declared.value.Reading.{Reading}
 use Rattle.number.specs.declared.value.Reading.the-variants.{Blank, Number, Refused}
 use Rattle.columns.specs.Fields.{fieldsOf}
-use Rattle.record.specs.Word.{equalTo, pointerOf}
+use Rattle.record_words.specs.Word.{equalTo, pointerOf}
 use Rattle.record.specs.Identifier.{COMMON, DATA}
 use Rattle.columns.specs.declared.columns.LineNo.{LineNo}
 use Rattle.rules_system.specs.System.{countN1, countN2}
-use Rattle.rules_section.specs.Text.{placeInPart}
+use Rattle.rules_text.specs.Text.{placeInPart}
 use Rattle.rules_state.specs.Role.{TEXT, NOT-DUE}
 use Rattle.entry.specs.Verdict.{Accepted}
 use Rattle.entry.specs.Contexts.{contextAt, roleAt}

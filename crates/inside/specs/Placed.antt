@@ -13,7 +13,7 @@ use Rattle.number.specs.declared.value.Reading.{Reading}
 use Rattle.number.specs.Reading.{readField}
 use Rattle.columns.specs.Fields.{fieldAt}
 use Rattle.columns.specs.declared.columns.LineNo.{LineNo}
-use Rattle.record.specs.Word.{pointerOf}
+use Rattle.record_words.specs.Word.{pointerOf}
 use Rattle.rules_state.specs.Role.{COMMON-HEADING, COMMON-UNIT, COMMON-VALUE, DATA-HEADING, DATA-UNIT, DATA-VALUE}
 use Rattle.entry.specs.Verdict.{Accepted}
 use Rattle.entry.specs.Contexts.{contextAt, roleAt}

@@ -8,7 +8,6 @@ pub mod Follow
 pub mod Agree
 pub mod Bounds
 pub mod Letters
-pub mod Steps
 pub mod Difference
 pub mod Zeros
 pub mod Tables

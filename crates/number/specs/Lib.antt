@@ -1,5 +1,4 @@
 pub mod Grammar
 pub mod Value
 pub mod Reading
-pub mod Walk
 pub mod Form

@@ -1,6 +1,3 @@
-// Number fields: reading a field of eleven columns as an exact decimal, and what form a field has.
+// Number fields: what a field says, its form, and stripping zeros.
 pub mod form;
-pub mod read;
-mod signed;
 pub mod value;
-mod walk;

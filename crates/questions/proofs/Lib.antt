@@ -1,5 +1,3 @@
 pub mod Refusals
 pub mod Parts
-pub mod Rows
-pub mod RowChanges
-pub mod RowNoted
+pub mod RowSections

@@ -12,12 +12,12 @@ use borrow.Author.Tests.{leb-true}
 use Rattle.columns.specs.Columns.{recordsFor, placeOf, InTable}
 use Rattle.rules_state.specs.State.{MOST-RECORDS, MOST-COLUMNS, MOST-LINES}
 use Rattle.columns.specs.declared.columns.RecordNo.{RecordNo}
-use Rattle.record.specs.Word.{pointerOf}
+use Rattle.record_words.specs.Word.{pointerOf}
 use Rattle.columns.specs.declared.columns.Place.{Place}
 use Rattle.columns.specs.declared.columns.LineNo.{LineNo}
 use Rattle.entry.specs.declared.verdict.Verdict.{Verdict}
 use Rattle.entry.specs.Answer.{answerOf, answerFor}
-use Rattle.questions.specs.declared.row.Row.{Row}
+use Rattle.questions_rows.specs.declared.row.Row.{Row}
 use Rattle.questions_places.specs.declared.place.Shape.{Shape}
 use Rattle.questions_places.specs.Place.{shapeOf, headingPlace, unitPlace, fieldOf, firstByte, byteOf}
 use Rattle.questions_places.specs.Passage.{passageOf}

@@ -11,7 +11,7 @@ use Rattle.columns.specs.declared.columns.LineNo.{LineNo}
 use Rattle.entry.specs.declared.verdict.Verdict.{Verdict}
 use Rattle.entry.specs.Answer.{Refusal, refusal, firstOf, isRefused}
 use Rattle.rules.proofs.DueRecords.{within-bounds}
-use Rattle.questions.specs.declared.row.Row.{Row}
+use Rattle.questions_rows.specs.declared.row.Row.{Row}
 use Rattle.questions_places.specs.declared.place.Shape.{Shape}
 use Rattle.questions.specs.Ask.{isSubent, noSection, sectionRefusals}
 use Rattle.questions.specs.Ask.{InShape, valueRefusal, columnRefusal}

@@ -13,7 +13,7 @@ use lib.Dec.{eqb, leb}
 use lib.ListN.{length, take, drop}
 use Rattle.columns.specs.Columns.{placeOf}
 use Rattle.columns.specs.Text.{within}
-use Rattle.record.specs.Word.{pointerOf}
+use Rattle.record_words.specs.Word.{pointerOf}
 use Rattle.record.specs.Identifier.{SUBENT}
 use Rattle.columns.specs.declared.columns.RecordNo.{RecordNo}
 use Rattle.columns.specs.declared.columns.LineNo.{LineNo}
@@ -24,12 +24,12 @@ use Rattle.entry.specs.declared.verdict.Verdict.{Verdict}
 use Rattle.entry.specs.declared.answer.Answer.{Answer}
 use Rattle.entry.specs.Verdict.{judgeOf}
 use Rattle.entry.specs.Answer.{Refusal, refusal, firstOf, isRefused, answerOf, answerFor}
-use Rattle.questions.specs.declared.row.Row.{Row}
+use Rattle.questions_rows.specs.declared.row.Row.{Row}
 use Rattle.questions_places.specs.declared.place.Shape.{Shape}
 use Rattle.questions_places.specs.declared.passage.Passage.{Passage}
 use Rattle.questions.specs.declared.ask.ValueAnswer.{ValueAnswer}
 use Rattle.questions.specs.declared.ask.PartAnswer.{PartAnswer}
-use Rattle.questions.specs.Row.{NONE, rowOf}
+use Rattle.questions_rows.specs.Row.{NONE, rowOf}
 use Rattle.questions_places.specs.Place.{identifierAt, COMMON-SECTION, DATA-SECTION, shapeOf, headingPlace, unitPlace}
 use Rattle.questions_places.specs.Place.{fieldOf, firstByte, byteOf}
 use Rattle.questions_places.specs.Passage.{passageOf}

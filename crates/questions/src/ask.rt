@@ -4,13 +4,11 @@ ghost use mathlib.Core.Path.{_≡_};
 ghost use Prim.Native.Nat.{ℕ, _+_, _≤_};
 ghost use Rattle.columns.specs.Text.{within};
 ghost use Rattle.entry.specs.Answer.{firstOf, answerOf};
-ghost use Rattle.questions.specs.Row.{Met};
+ghost use Rattle.questions_rows.specs.Row.{Met};
 ghost use Rattle.questions.specs.Ask.{isSubent, sectionIn, sectionRefusals};
 ghost use Rattle.questions.specs.Ask.{valueRefusal, valueBy, valueAsked, noPart, partFrom, Lies, bytesIn};
 ghost use Rattle.questions.specs.Ask.{columnRefusal, headingBy, headingAsked, unitBy, unitAsked, passageRefusal};
 ghost use Rattle.questions.specs.Ask.{passageBy, passageAsked};
-use crate::row::Row;
-use crate::row::locate;
 use columns::columns::LineNo;
 use columns::columns::Place;
 use columns::columns::RecordNo;
@@ -19,8 +17,8 @@ use entry::answer::Answer;
 use entry::answer::answer_for;
 use entry::answer::answer_of;
 use entry::verdict::Verdict;
-use number::read::read_field;
 use number::value::Reading;
+use number_reading::read::read_field;
 use questions_places::passage::Passage;
 use questions_places::passage::passage_of;
 use questions_places::place::COMMON_SECTION;
@@ -33,9 +31,11 @@ use questions_places::place::first_byte;
 use questions_places::place::heading_place;
 use questions_places::place::shape_of;
 use questions_places::place::unit_place;
+use questions_rows::row::Row;
+use questions_rows::row::locate;
 use record::identifier::SUBENT;
 use record::identifier::identifier_of;
-use record::word::is_within;
+use record_words::word::is_within;
 
 // The number of each answer is 0 or 31 to 36.
 pub struct ValueAnswer {

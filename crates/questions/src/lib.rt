@@ -1,3 +1,2 @@
 // Questions to an entry: values, headings, units and passages.
 pub mod ask;
-pub mod row;

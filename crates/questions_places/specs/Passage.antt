@@ -10,7 +10,7 @@ use lib.ListN.{getD}
 use Rattle.laws.specs.Search.{first}
 use Rattle.columns.specs.Text.{isBlank}
 use Rattle.record.specs.System.{upTo}
-use Rattle.record.specs.Word.{blankTo, equalTo, pointerOf}
+use Rattle.record_words.specs.Word.{blankTo, equalTo, pointerOf}
 use Rattle.columns.specs.declared.columns.RecordNo.{RecordNo}
 use Rattle.rules_state.specs.State.{MOST-RECORDS}
 use Rattle.rules_system.specs.System.{countN2}

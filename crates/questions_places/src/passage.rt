@@ -7,8 +7,8 @@ ghost use Rattle.questions_places.specs.Passage.{passageUnder, passageOf
 use crate::place::fields_at;
 use columns::columns::RecordNo;
 use record::system::count_to;
-use record::word::is_keyword_blank;
-use record::word::same_keyword;
+use record_words::word::is_keyword_blank;
+use record_words::word::same_keyword;
 use rules_state::state::MOST_RECORDS;
 
 // The first record of a passage, and how many it has; none where there is no such passage.

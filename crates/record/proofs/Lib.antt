@@ -3,6 +3,3 @@ pub mod Powers
 pub mod Found
 pub mod NumberFields
 pub mod Readings
-pub mod WordsAndBlanks
-pub mod EqualColumns
-pub mod EightColumns

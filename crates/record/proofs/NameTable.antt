@@ -11,7 +11,7 @@ use lib.ListN.{getD, List·getD-eq-default}
 use Rattle.laws.specs.Members.{joinOf}
 use Rattle.laws.specs.Search.{first}
 use Rattle.laws.proofs.Table.{at}
-use Rattle.record.specs.Word.{equalTo}
+use Rattle.record_words.specs.Word.{equalTo}
 use Rattle.record.specs.Identifier.{OTHER, names, nameAt, nameTable, NamesLent, isEnd}
 
 -- the one test, computed for all entries

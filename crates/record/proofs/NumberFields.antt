@@ -20,7 +20,7 @@ use Rattle.number.proofs.Laws.{number-letters}
 use Rattle.number.specs.Form.{formOf}
 use Rattle.record.specs.Numbers.{formAt, noValue}
 use Rattle.columns.specs.Class.{isPermitted, digits}
-use Rattle.record.specs.Word.{differAt, equalTo}
+use Rattle.record_words.specs.Word.{differAt, equalTo}
 use Rattle.record.specs.Identifier.{OTHER, nameAt, nameTable, isName, identifierOf}
 use Rattle.record.proofs.NameTable.{name-at}
 

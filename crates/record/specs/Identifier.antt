@@ -10,7 +10,7 @@ use lib.ListN.{length, getD, replicate}
 use Rattle.laws.specs.Search.{first}
 use Rattle.laws.specs.Members.{joinOf}
 use Rattle.columns.specs.Text.{text}
-use Rattle.record.specs.Word.{equalTo}
+use Rattle.record_words.specs.Word.{equalTo}
 
 -- ---- the names in one table, each known by its place
 

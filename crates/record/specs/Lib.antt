@@ -1,4 +1,3 @@
-pub mod Word
 pub mod Identifier
 pub mod System
 pub mod Expected

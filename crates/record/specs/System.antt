@@ -6,7 +6,7 @@ use lib.Dec.{eqb, leb}
 use lib.ListN.{getD}
 use Rattle.laws.specs.Search.{first}
 use Rattle.columns.specs.Text.{within, isDigit, isCapital}
-use Rattle.record.specs.Word.{filledFrom, blankTo}
+use Rattle.record_words.specs.Word.{filledFrom, blankTo}
 use Rattle.record.specs.declared.system.Count.{Count}
 use Rattle.record.specs.declared.system.Count.the-variants.{Number, Bad}
 

@@ -2,10 +2,10 @@
 ghost use mathlib.Core.Path.{_≡_};
 ghost use Prim.Native.Nat.{ℕ};
 ghost use Rattle.columns.specs.Columns.{Whole};
-ghost use Rattle.record.specs.Word.{equalTo};
+ghost use Rattle.record_words.specs.Word.{equalTo};
 ghost use Rattle.record.specs.Expected.{accessionOf, identificationOf, sequenceOf, inDigits};
 ghost use Rattle.record.specs.Expected.{identificationFor, entryAccession, subentAccession, subentIdentification};
-use crate::word::equal_to;
+use record_words::word::equal_to;
 
 // Columns 67 to 71.
 pub fn accession(rec: &[u8]) -> [u8; 5]

@@ -5,10 +5,10 @@ ghost use mathlib.Core.Bool.{_||_};
 ghost use Rattle.columns.specs.Text.{isCapital, isDigit};
 ghost use Rattle.record.specs.System.{digitOf, digitsIn, numberIn, countOf, isCount, numberOf, upTo};
 ghost use Rattle.record.specs.System.{isDate, isAccession, isEntryN1, isSubentN1, subentryOf};
-use crate::word::blank_to;
-use crate::word::filled_from;
-use crate::word::is_from;
-use crate::word::is_within;
+use record_words::word::blank_to;
+use record_words::word::filled_from;
+use record_words::word::is_from;
+use record_words::word::is_within;
 
 // A whole number written as blanks, then digits up to the last column; or a field that is none.
 pub enum Count {

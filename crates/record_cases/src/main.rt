@@ -36,11 +36,11 @@ use record::system::is_date;
 use record::system::is_entry_n1;
 use record::system::is_subent_n1;
 use record::system::subentry_of;
-use record::word::heading_fault;
-use record::word::is_keyword_blank;
-use record::word::is_word;
-use record::word::pointer_fault;
-use record::word::unit_fault;
+use record_words::word::heading_fault;
+use record_words::word::is_keyword_blank;
+use record_words::word::is_word;
+use record_words::word::pointer_fault;
+use record_words::word::unit_fault;
 
 fn say_whether(word: &[u8], is: bool) {
     if is {

@@ -10,13 +10,13 @@ use Rattle.laws.proofs.Booleans.{differ, and-left, and-right}
 use Rattle.columns.specs.Text.{within}
 use Rattle.columns.specs.Fields.{n1}
 use Rattle.record.specs.Identifier.{COMMON, DATA}
-use Rattle.record.specs.Word.{equalTo}
+use Rattle.record_words.specs.Word.{equalTo}
 use Rattle.record.specs.System.{subentryOf}
 use Rattle.rules_state.specs.declared.fault.Fault.the-variants.{Fine}
 use Rattle.rules_state.specs.declared.state.Track.{Track}
 use Rattle.rules_state.specs.State.{Seen, MOST-COLUMNS, MOST-LINES}
 use Rattle.rules_state.specs.Role.{NOT-DUE, isSystem, opensSubentry, opensSection}
-use Rattle.rules_system.specs.Every.{rule4}
+use Rattle.rules_every.specs.Every.{rule4}
 use Rattle.rules_system.specs.System.{countN1, countN2, limitN1, limitN2, meets, announcedFault, rule8, numberDue}
 use Rattle.rules_system.specs.System.{accessionN1, rule9}
 use Rattle.rules.specs.Order.{faultOf}

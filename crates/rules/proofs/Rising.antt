@@ -15,16 +15,16 @@ use Rattle.columns.specs.Fields.{n1, n2}
 use Rattle.record.specs.Expected.{identificationOf, sequenceOf, inDigits}
 use Rattle.record.specs.Identifier.{isEnd}
 use Rattle.record.specs.System.{subentryOf}
-use Rattle.record.specs.Word.{equalTo, badPointer}
+use Rattle.record_words.specs.Word.{equalTo, badPointer}
 use Rattle.rules_state.specs.declared.state.Track.{Track}
 use Rattle.rules_state.specs.State.{Seen, used}
 use Rattle.rules_state.specs.Role.{TEXT, DATA-HEADING, NOT-DUE, isSystem, opensSubentry, opensSection, isHeading}
 use Rattle.rules_state.specs.Role.{isUnit, isValue}
 use Rattle.rules_state.specs.Fault.{columnsFrom, columnsWhere, fieldColumn, pointerColumn, on, when}
-use Rattle.rules_system.specs.Every.{rule2, rule3, rule4, expectedIdentification, rule5, expectedSequence, rule6}
+use Rattle.rules_every.specs.Every.{rule2, rule3, rule4, expectedIdentification, rule5, expectedSequence, rule6}
 use Rattle.rules_system.specs.System.{formN1, formN2, inForm, rule7, countN1, countN2, limitN1, limitN2, meets}
 use Rattle.rules_system.specs.System.{announcedFault, countTrue, rule8, accessionN1, numberDue, rule9}
-use Rattle.rules_section.specs.Text.{keywordFault, rule10, pointerRepeated, rule11Text}
+use Rattle.rules_text.specs.Text.{keywordFault, rule10, pointerRepeated, rule11Text}
 use Rattle.rules_section.specs.Headings.{rule11Heading, rule12Heading, rule12Unit, rule13, rule14}
 use Rattle.rules_section.specs.Values.{lineBlank, rule15}
 use Rattle.rules_state.proofs.EitherWay.{either-way}

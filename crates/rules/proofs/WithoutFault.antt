@@ -20,7 +20,7 @@ use Rattle.rules_state.specs.declared.state.Track.{Track}
 use Rattle.rules_state.specs.State.{Seen, used}
 use Rattle.rules_state.specs.Role.{COMMON-VALUE, DATA-VALUE, isValue}
 use Rattle.rules_state.specs.Fault.{when, columnsFrom, columnsWhere, fieldColumn, firstFault}
-use Rattle.rules_system.specs.Every.{rule2, rule3, rule5, rule6, expectedIdentification}
+use Rattle.rules_every.specs.Every.{rule2, rule3, rule5, rule6, expectedIdentification}
 use Rattle.rules_section.specs.Values.{optional, lineBlank, rule15}
 use Rattle.rules.specs.Order.{findings, faultOf}
 use Rattle.rules.specs.Clean.{Clean}

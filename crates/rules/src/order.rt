@@ -11,30 +11,30 @@ ghost use Rattle.number.specs.Form.{Tables};
 ghost use Rattle.rules_state.specs.Ranging.{Stands, bytesOf, seenOf};
 ghost use Rattle.rules_state.specs.Role.{TEXT, isHeading};
 ghost use Rattle.rules_state.specs.Fault.{leftmost, on, firstFault};
-ghost use Rattle.rules_section.specs.Text.{rule11Text};
+ghost use Rattle.rules_text.specs.Text.{rule11Text};
 ghost use Rattle.rules_section.specs.Headings.{rule11Heading};
 ghost use Rattle.rules.specs.Order.{findings, faultOf, Judged};
 use record::identifier::Names;
 use record::numbers::Values;
+use rules_every::every::rule2;
+use rules_every::every::rule3;
+use rules_every::every::rule4;
+use rules_every::every::rule5;
+use rules_every::every::rule6;
 use rules_section::headings::rule11_heading;
 use rules_section::headings::rule12;
 use rules_section::headings::rule13;
 use rules_section::headings::rule14;
-use rules_section::text::rule10;
-use rules_section::text::rule11_text;
 use rules_section::values::rule15;
 use rules_state::fault::Fault;
 use rules_state::ranging::Ranges;
 use rules_state::role::TEXT;
 use rules_state::state::Track;
-use rules_system::every::rule2;
-use rules_system::every::rule3;
-use rules_system::every::rule4;
-use rules_system::every::rule5;
-use rules_system::every::rule6;
 use rules_system::system::rule7;
 use rules_system::system::rule8;
 use rules_system::system::rule9;
+use rules_text::text::rule10;
+use rules_text::text::rule11_text;
 
 // Rule 11 is made on text records and on heading records.
 fn rule11(track: Track, ranges: Ranges, before: &[u8], role: usize, fs: [[u8; 11]; 6]) -> u8

@@ -11,13 +11,13 @@ use Rattle.laws.specs.Members.{listOf, anyOf}
 use Rattle.columns.specs.Columns.{columnsAt}
 use Rattle.columns.specs.Fields.{inField}
 use Rattle.columns.specs.Text.{isBlank}
-use Rattle.record.specs.Word.{equalTo, pointerOf, pointerFault, headingFault, unitFault}
+use Rattle.record_words.specs.Word.{equalTo, pointerOf, pointerFault, headingFault, unitFault}
 use Rattle.rules_state.specs.declared.state.Track.{Track}
 use Rattle.rules_section.specs.declared.headings.Found.{Found}
 use Rattle.rules_section.specs.declared.headings.Found.the-variants.{At, Nothing}
 use Rattle.rules_state.specs.State.{Seen, used}
 use Rattle.rules_state.specs.Fault.{columnsWhere, fieldColumn, pointerColumn}
-use Rattle.rules_section.specs.Text.{pointersOf}
+use Rattle.rules_text.specs.Text.{pointersOf}
 
 -- "A heading is a word in ten columns, with a pointer or blank in the eleventh. A unit is a word in ten columns,
 -- eleventh blank." "unused fields are blank"

@@ -17,12 +17,11 @@ ghost use Rattle.rules_section.specs.Headings.{earlier};
 ghost use Rattle.rules_section.specs.Headings.{partOf, headingCount, Left, FAR, Near};
 ghost use Rattle.rules_section.specs.Headings.{headingFound, equalHeading, isFound, headingRepeated, rule13};
 ghost use Rattle.rules_section.specs.Headings.{headingPointers, pointersFor, pointerLost, lostAt, rule14};
-use crate::text::pointer_in;
 use columns::fields::field;
-use record::word::heading_fault;
-use record::word::pointer_fault;
-use record::word::same_heading;
-use record::word::unit_fault;
+use record_words::word::heading_fault;
+use record_words::word::pointer_fault;
+use record_words::word::same_heading;
+use record_words::word::unit_fault;
 use rules_state::fault::field_column;
 use rules_state::fault::pointer_column;
 use rules_state::ranging::Ranges;
@@ -31,6 +30,7 @@ use rules_state::role::DATA_HEADING;
 use rules_state::role::is_heading;
 use rules_state::role::is_unit;
 use rules_state::state::Track;
+use rules_text::text::pointer_in;
 
 // A section and a column of it, both from 1, or nothing.
 pub enum Found {

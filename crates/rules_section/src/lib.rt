@@ -1,4 +1,3 @@
-// The rules for the records inside sections: refusals 10 to 15.
+// The rules for headings, units and values: refusals 11 to 15.
 pub mod headings;
-pub mod text;
 pub mod values;

@@ -7,7 +7,7 @@ use lib.Dec.{eqb, ltb, leb}
 use Rattle.columns.specs.Text.{within}
 use Rattle.columns.specs.Columns.{recordsFor}
 use Rattle.columns.specs.Fields.{n1, n2}
-use Rattle.record.specs.Word.{equalTo}
+use Rattle.record_words.specs.Word.{equalTo}
 use Rattle.record.specs.Identifier.{ENTRY, BIB, ENDBIB, COMMON, ENDSUBENT, ENDENTRY, isEnd}
 use Rattle.record.specs.System.{countOf, isCount, numberOf, isDate, isEntryN1, isSubentN1, subentryOf}
 use Rattle.record.specs.Expected.{subentAccession}

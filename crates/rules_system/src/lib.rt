@@ -1,3 +1,2 @@
-// The rules for every record and for system records: refusals 2 to 9.
-pub mod every;
+// The rules for system records: refusals 7 to 9.
 pub mod system;

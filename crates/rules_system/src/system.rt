@@ -26,7 +26,7 @@ use record::system::is_entry_n1;
 use record::system::is_subent_n1;
 use record::system::number_of;
 use record::system::subentry_of;
-use record::word::is_within;
+use record_words::word::is_within;
 use rules_state::role::is_system;
 use rules_state::role::opens_section;
 use rules_state::role::opens_subentry;

@@ -3,9 +3,9 @@ ghost use Prim.Native.Nat.{_<_};
 use canonical::write::Written;
 use canonical::write::write_number;
 use check::same;
-use number::read::read_number;
 use number::value::Decimal;
 use number::value::Reading;
+use number_reading::read::read_number;
 use program_text::say_line;
 
 // How many were written and refused, how many read back to the same field, and a checksum of fields and coefficients.

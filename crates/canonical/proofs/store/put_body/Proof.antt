@@ -1,7 +1,7 @@
 use Prim.Native.Nat.{ℕ}
 use Rattle.canonical.proofs.Filled.{filled-body}
-use Rattle.canonical.specs.Closed.{digitsN}
-use Rattle.canonical.specs.Storing.{put}
+use Rattle.canonical_layout.specs.Closed.{digitsN}
+use Rattle.canonical_layout.specs.Storing.{put}
 use Rattle.laws.proofs.Table.{at}
 use Rattle.number.specs.Grammar.{digitsText}
 use mathlib.Core.Path.{_∙_, ap}

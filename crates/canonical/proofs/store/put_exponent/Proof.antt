@@ -1,7 +1,7 @@
 use Prim.Native.Nat.{ℕ}
 use Rattle.canonical.proofs.Filled.{filled-exponent}
 use Rattle.canonical.proofs.Puts.{put-nothing}
-use Rattle.canonical.specs.Storing.{put}
+use Rattle.canonical_layout.specs.Storing.{put}
 use Rattle.laws.proofs.Table.{at}
 use Rattle.number.specs.Grammar.{below}
 use mathlib.Core.List.{[], _∷_}

@@ -1,6 +1,7 @@
-use Rattle.canonical.proofs.Numbers.{flat-power}
-use Rattle.canonical.proofs.Answers.{done-wide, prepared-sound, refused-wide}
-use Rattle.canonical.proofs.Layouts.{ready}
+use Rattle.canonical_layout.proofs.Numbers.{flat-power}
+use Rattle.canonical.proofs.Answers.{done-wide, refused-wide}
+use Rattle.canonical_layout.proofs.Preparing.{prepared-sound}
+use Rattle.canonical_layout.proofs.Layouts.{ready}
 use Rattle.laws.proofs.Table.{at}
 use lib.ListN.{length}
 use native.Mathlib.Omega.{arith}
@@ -9,7 +10,7 @@ use Rattle.canonical.proofs.write.write_columns.Statement.{statement}
 use Rattle.canonical.proofs.write.write_columns.Tie as tie
 use Rattle.canonical.proofs.write.write_columns.Reads as reads
 use Rattle.canonical.proofs.write.write_columns.Lts as lts
-use Rattle.canonical.proofs.layout.prepare.Reads as prepare-reads
+use Rattle.canonical_layout.proofs.layout.prepare.Reads as prepare-reads
 use Rattle.canonical.proofs.store.layout_columns.Reads as layout-columns-reads
 use Rattle.canonical.proofs.store.put_field.Reads as put-field-reads
 

@@ -1,4 +1,4 @@
-use Rattle.canonical.proofs.Numbers.{flat-power}
+use Rattle.canonical_layout.proofs.Numbers.{flat-power}
 use Rattle.canonical.proofs.Answers.{answer-number, in-eleven, not-eleven}
 use Rattle.canonical.specs.declared.write.Written.the-variants.{Refused}
 use Rattle.laws.proofs.Table.{at}

@@ -6,7 +6,7 @@ use Rattle.entry_next.proofs.parts.under_change.Tie as tie
 use Rattle.entry_next.proofs.parts.under_change.Reads as reads
 use Rattle.entry_next.proofs.parts.under_change.Lts as lts
 use Rattle.entry_next.proofs.parts.empties_bib.Reads as empties-bib-reads
-use Rattle.record.proofs.word.is_keyword_blank.Reads as is-keyword-blank-reads
+use Rattle.record_words.proofs.word.is_keyword_blank.Reads as is-keyword-blank-reads
 
 -- src/next.rt:450:8
 empties-bib-requires : tie.Need-empties-bib-requires

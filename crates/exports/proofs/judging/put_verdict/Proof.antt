@@ -1,6 +1,6 @@
 use mathlib.Core.Path.{refl}
 use borrow.Author.Tests.{eq-eqb, ne-eqb}
-use Rattle.exports.specs.Words.{answerWord, lentAfter}
+use Rattle.exports_words.specs.Words.{answerWord, lentAfter}
 use Rattle.exports.specs.Verdicts.{verdictAnswer, totalsNumbers}
 use borrow.Author.Needs.{needs}
 use Rattle.exports.proofs.judging.put_verdict.Statement.{statement}

@@ -1,6 +1,6 @@
 use mathlib.Core.Path.{refl}
 use borrow.Author.Tests.{eq-eqb, ne-eqb}
-use Rattle.exports.specs.Words.{lentAfter}
+use Rattle.exports_words.specs.Words.{lentAfter}
 use Rattle.exports_questions.specs.Questions.{valueAnswer, valueStored}
 use borrow.Author.Needs.{needs}
 use Rattle.exports_questions.proofs.asking.put_value.Statement.{statement}

@@ -1,6 +1,6 @@
 use mathlib.Core.Path.{ap, _∙_}
 use borrow.Author.Needs.{needs}
-use Rattle.exports.specs.Words.{answerWord}
+use Rattle.exports_words.specs.Words.{answerWord}
 use Rattle.exports_questions.proofs.copying.x4_copy.Statement.{statement}
 use Rattle.exports_questions.proofs.copying.x4_copy.Tie as tie
 

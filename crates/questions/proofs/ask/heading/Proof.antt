@@ -6,7 +6,7 @@ use Rattle.questions.proofs.ask.heading.Tie as tie
 use Rattle.questions.proofs.ask.heading.Reads as reads
 use Rattle.questions.proofs.ask.heading.Lts as lts
 use Rattle.questions.proofs.ask.heading_by.Reads as heading-by-reads
-use Rattle.questions.proofs.row.locate.Reads as locate-reads
+use Rattle.questions_rows.proofs.row.locate.Reads as locate-reads
 
 -- src/ask.rt:334:9
 locate-requires : tie.Need-locate-requires

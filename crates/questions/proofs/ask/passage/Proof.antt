@@ -6,7 +6,7 @@ use Rattle.questions.proofs.ask.passage.Tie as tie
 use Rattle.questions.proofs.ask.passage.Reads as reads
 use Rattle.questions.proofs.ask.passage.Lts as lts
 use Rattle.questions.proofs.ask.passage_by.Reads as passage-by-reads
-use Rattle.questions.proofs.row.locate.Reads as locate-reads
+use Rattle.questions_rows.proofs.row.locate.Reads as locate-reads
 
 -- src/ask.rt:354:9
 locate-requires : tie.Need-locate-requires

@@ -6,7 +6,7 @@ use Rattle.questions.proofs.ask.unit.Tie as tie
 use Rattle.questions.proofs.ask.unit.Reads as reads
 use Rattle.questions.proofs.ask.unit.Lts as lts
 use Rattle.questions.proofs.ask.unit_by.Reads as unit-by-reads
-use Rattle.questions.proofs.row.locate.Reads as locate-reads
+use Rattle.questions_rows.proofs.row.locate.Reads as locate-reads
 
 -- src/ask.rt:344:9
 locate-requires : tie.Need-locate-requires

@@ -6,7 +6,7 @@ use Rattle.questions.proofs.ask.value.Tie as tie
 use Rattle.questions.proofs.ask.value.Reads as reads
 use Rattle.questions.proofs.ask.value.Lts as lts
 use Rattle.questions.proofs.ask.value_by.Reads as value-by-reads
-use Rattle.questions.proofs.row.locate.Reads as locate-reads
+use Rattle.questions_rows.proofs.row.locate.Reads as locate-reads
 
 -- src/ask.rt:324:9
 locate-requires : tie.Need-locate-requires

@@ -1,7 +1,7 @@
 use Rattle.number.specs.Reading.{column}
 use Rattle.questions.proofs.Parts.{value-field, value-placed}
 use Rattle.questions.proofs.Refusals.{value-inside}
-use Rattle.questions.proofs.Rows.{met-section}
+use Rattle.questions.proofs.RowSections.{met-section}
 use Rattle.questions.specs.Ask.{valueBy}
 use borrow.Author.Tests.{ne-eqb}
 use mathlib.Core.Path.{_∙_, sym}
@@ -10,7 +10,7 @@ use Rattle.questions.proofs.ask.value_by.Statement.{statement}
 use Rattle.questions.proofs.ask.value_by.Tie as tie
 use Rattle.questions.proofs.ask.value_by.Reads as reads
 use Rattle.questions.proofs.ask.value_by.Lts as lts
-use Rattle.number.proofs.read.read_field.Reads as read-field-reads
+use Rattle.number_reading.proofs.read.read_field.Reads as read-field-reads
 use Rattle.entry.proofs.answer.answer_for.Reads as answer-for-reads
 use Rattle.entry.proofs.answer.answer_of.Reads as answer-of-reads
 use Rattle.questions.proofs.ask.section_in.Reads as section-in-reads

@@ -4,7 +4,7 @@ use Rattle.questions_places.proofs.passage.begins.Statement.{statement}
 use Rattle.questions_places.proofs.passage.begins.Tie as tie
 use Rattle.questions_places.proofs.passage.begins.Reads as reads
 use Rattle.questions_places.proofs.passage.begins.Lts as lts
-use Rattle.record.proofs.word.is_keyword_blank.Reads as is-keyword-blank-reads
+use Rattle.record_words.proofs.word.is_keyword_blank.Reads as is-keyword-blank-reads
 
 -- src/passage.rt:44:9
 is-keyword-blank-requires : tie.Need-is-keyword-blank-requires

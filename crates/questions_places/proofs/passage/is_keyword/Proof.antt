@@ -1,12 +1,12 @@
 use Rattle.laws.specs.Search.{first}
-use Rattle.record.specs.Word.{equalTo}
+use Rattle.record_words.specs.Word.{equalTo}
 use borrow.Author.Needs.{needs}
 use Rattle.questions_places.proofs.passage.is_keyword.Statement.{statement}
 use Rattle.questions_places.proofs.passage.is_keyword.Tie as tie
 use Rattle.questions_places.proofs.passage.is_keyword.Reads as reads
 use Rattle.questions_places.proofs.passage.is_keyword.Lts as lts
-use Rattle.record.proofs.word.is_keyword_blank.Reads as is-keyword-blank-reads
-use Rattle.record.proofs.word.same_keyword.Reads as same-keyword-reads
+use Rattle.record_words.proofs.word.is_keyword_blank.Reads as is-keyword-blank-reads
+use Rattle.record_words.proofs.word.same_keyword.Reads as same-keyword-reads
 
 -- src/passage.rt:32:8
 is-keyword-blank-requires : tie.Need-is-keyword-blank-requires

@@ -7,7 +7,7 @@ use Rattle.questions_places.proofs.passage.is_sought.Lts as lts
 use Rattle.questions_places.proofs.passage.begins.Reads as begins-reads
 use Rattle.questions_places.proofs.passage.begins_with.Reads as begins-with-reads
 use Rattle.questions_places.proofs.passage.is_keyword.Reads as is-keyword-reads
-use Rattle.record.proofs.word.is_keyword_blank.Reads as is-keyword-blank-reads
+use Rattle.record_words.proofs.word.is_keyword_blank.Reads as is-keyword-blank-reads
 
 -- src/passage.rt:64:9
 is-keyword-requires : tie.Need-is-keyword-requires

@@ -3,7 +3,7 @@ use Rattle.laws.proofs.Search.{Scan, scan-all, scan-next, scan-passed, scan-sto
 use Rattle.laws.specs.Search.{first}
 use Rattle.record.proofs.NameTable.{name-read}
 use Rattle.record.specs.Identifier.{NamesLent, OTHER, isName, nameAt}
-use Rattle.record.specs.Word.{differAt, equalTo}
+use Rattle.record_words.specs.Word.{differAt, equalTo}
 use borrow.Author.Needs.{needs}
 use borrow.Author.Tests.{eq-eqb, ne-eqb}
 use mathlib.Core.Path.{_∙_, sym}

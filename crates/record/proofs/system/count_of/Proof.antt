@@ -7,7 +7,7 @@ use Rattle.record.proofs.system.count_of.Reads as reads
 use Rattle.record.proofs.system.count_of.Lts as lts
 use Rattle.record.proofs.system.digits_in.Reads as digits-in-reads
 use Rattle.record.proofs.system.number_in.Reads as number-in-reads
-use Rattle.record.proofs.word.filled_from.Reads as filled-from-reads
+use Rattle.record_words.proofs.word.filled_from.Reads as filled-from-reads
 
 -- src/system.rt:85:9
 filled-from-requires : tie.Need-filled-from-requires

@@ -10,7 +10,7 @@ use Rattle.record.proofs.system.digits_in.Statement.{statement}
 use Rattle.record.proofs.system.digits_in.Tie as tie
 use Rattle.record.proofs.system.digits_in.Reads as reads
 use Rattle.record.proofs.system.digits_in.Lts as lts
-use Rattle.record.proofs.word.is_from.Reads as is-from-reads
+use Rattle.record_words.proofs.word.is_from.Reads as is-from-reads
 
 abbrev Inv-loop : tie.InvT-loop
 Inv-loop from n f end i₀ i = (end ≤ 11) × Scan (noDigitAt f) (first (noDigitAt f) from n) i end

@@ -3,7 +3,7 @@ use Rattle.record.proofs.system.is_capital_or_digit.Statement.{statemen
 use Rattle.record.proofs.system.is_capital_or_digit.Tie as tie
 use Rattle.record.proofs.system.is_capital_or_digit.Reads as reads
 use Rattle.record.proofs.system.is_capital_or_digit.Lts as lts
-use Rattle.record.proofs.word.is_from.Reads as is-from-reads
+use Rattle.record_words.proofs.word.is_from.Reads as is-from-reads
 
 -- src/system.rt:154:8
 is-from-requires : tie.Need-is-from-requires

@@ -6,9 +6,9 @@ use Rattle.record.proofs.system.is_date.Tie as tie
 use Rattle.record.proofs.system.is_date.Reads as reads
 use Rattle.record.proofs.system.is_date.Lts as lts
 use Rattle.record.proofs.system.digits_in.Reads as digits-in-reads
-use Rattle.record.proofs.word.is_within.Reads as is-within-reads
+use Rattle.record_words.proofs.word.is_within.Reads as is-within-reads
 use Rattle.record.proofs.system.number_in.Reads as number-in-reads
-use Rattle.record.proofs.word.blank_to.Reads as blank-to-reads
+use Rattle.record_words.proofs.word.blank_to.Reads as blank-to-reads
 
 -- src/system.rt:125:9
 blank-to-requires : tie.Need-blank-to-requires

@@ -6,7 +6,7 @@ use Rattle.record.proofs.system.is_entry_n1.Tie as tie
 use Rattle.record.proofs.system.is_entry_n1.Reads as reads
 use Rattle.record.proofs.system.is_entry_n1.Lts as lts
 use Rattle.record.proofs.system.is_accession.Reads as is-accession-reads
-use Rattle.record.proofs.word.blank_to.Reads as blank-to-reads
+use Rattle.record_words.proofs.word.blank_to.Reads as blank-to-reads
 
 -- src/system.rt:164:9
 blank-to-requires : tie.Need-blank-to-requires

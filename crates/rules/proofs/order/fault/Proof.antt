@@ -5,8 +5,8 @@ use Rattle.rules.proofs.order.fault.Statement.{statement}
 use Rattle.rules.proofs.order.fault.Tie as tie
 use Rattle.rules.proofs.order.fault.Reads as reads
 use Rattle.rules.proofs.order.fault.Lts as lts
-use Rattle.rules_system.proofs.every.rule2.Reads as rule2-reads
-use Rattle.rules_system.proofs.every.rule3.Reads as rule3-reads
+use Rattle.rules_every.proofs.every.rule2.Reads as rule2-reads
+use Rattle.rules_every.proofs.every.rule3.Reads as rule3-reads
 use Rattle.rules.proofs.order.record_fault.Reads as record-fault-reads
 
 -- src/order.rt:130:13

@@ -5,9 +5,9 @@ use Rattle.rules.proofs.order.record_fault.Statement.{statement}
 use Rattle.rules.proofs.order.record_fault.Tie as tie
 use Rattle.rules.proofs.order.record_fault.Reads as reads
 use Rattle.rules.proofs.order.record_fault.Lts as lts
-use Rattle.rules_system.proofs.every.rule4.Reads as rule4-reads
-use Rattle.rules_system.proofs.every.rule5.Reads as rule5-reads
-use Rattle.rules_system.proofs.every.rule6.Reads as rule6-reads
+use Rattle.rules_every.proofs.every.rule4.Reads as rule4-reads
+use Rattle.rules_every.proofs.every.rule5.Reads as rule5-reads
+use Rattle.rules_every.proofs.every.rule6.Reads as rule6-reads
 use Rattle.rules_system.proofs.system.rule8.Reads as rule8-reads
 use Rattle.rules_system.proofs.system.rule9.Reads as rule9-reads
 use Rattle.rules.proofs.order.section_fault.Reads as section-fault-reads

@@ -4,7 +4,7 @@ use Rattle.rules.proofs.order.rule11.Statement.{statement}
 use Rattle.rules.proofs.order.rule11.Tie as tie
 use Rattle.rules.proofs.order.rule11.Reads as reads
 use Rattle.rules.proofs.order.rule11.Lts as lts
-use Rattle.rules_section.proofs.text.rule11_text.Reads as rule11-text-reads
+use Rattle.rules_text.proofs.text.rule11_text.Reads as rule11-text-reads
 use Rattle.rules_section.proofs.headings.rule11_heading.Reads as rule11-heading-reads
 
 -- src/order.rt:48:16

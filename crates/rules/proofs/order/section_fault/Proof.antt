@@ -5,7 +5,7 @@ use Rattle.rules.proofs.order.section_fault.Statement.{statement}
 use Rattle.rules.proofs.order.section_fault.Tie as tie
 use Rattle.rules.proofs.order.section_fault.Reads as reads
 use Rattle.rules.proofs.order.section_fault.Lts as lts
-use Rattle.rules_section.proofs.text.rule10.Reads as rule10-reads
+use Rattle.rules_text.proofs.text.rule10.Reads as rule10-reads
 use Rattle.rules.proofs.order.rule11.Reads as rule11-reads
 use Rattle.rules_section.proofs.headings.rule12.Reads as rule12-reads
 use Rattle.rules_section.proofs.headings.rule13.Reads as rule13-reads

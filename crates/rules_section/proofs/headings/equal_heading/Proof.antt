@@ -13,7 +13,7 @@ use Rattle.rules_section.proofs.headings.equal_heading.Tie as tie
 use Rattle.rules_section.proofs.headings.equal_heading.Reads as reads
 use Rattle.rules_section.proofs.headings.equal_heading.Lts as lts
 use Rattle.columns.proofs.fields.field.Reads as field-reads
-use Rattle.record.proofs.word.same_heading.Reads as same-heading-reads
+use Rattle.record_words.proofs.word.same_heading.Reads as same-heading-reads
 use Rattle.rules_section.proofs.headings.headings_in.Reads as headings-in-reads
 use Rattle.rules_section.proofs.headings.headings_of.Reads as headings-of-reads
 use Rattle.rules_section.proofs.headings.part_of.Reads as part-of-reads

@@ -6,7 +6,7 @@ use Rattle.rules_section.proofs.headings.pointer_found.Tie as tie
 use Rattle.rules_section.proofs.headings.pointer_found.Reads as reads
 use Rattle.rules_section.proofs.headings.pointer_found.Lts as lts
 use Rattle.rules_section.proofs.headings.heading_pointer_in.Reads as heading-pointer-in-reads
-use Rattle.rules_section.proofs.text.pointer_in.Reads as pointer-in-reads
+use Rattle.rules_text.proofs.text.pointer_in.Reads as pointer-in-reads
 
 -- src/headings.rt:206:8
 pointer-in-requires : tie.Need-pointer-in-requires

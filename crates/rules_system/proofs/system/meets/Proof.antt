@@ -3,7 +3,7 @@ use Rattle.rules_system.proofs.system.meets.Statement.{statement}
 use Rattle.rules_system.proofs.system.meets.Tie as tie
 use Rattle.rules_system.proofs.system.meets.Reads as reads
 use Rattle.rules_system.proofs.system.meets.Lts as lts
-use Rattle.record.proofs.word.is_within.Reads as is-within-reads
+use Rattle.record_words.proofs.word.is_within.Reads as is-within-reads
 
 -- src/system.rt:149:24
 enum-known-limit : tie.Need-enum-known-limit

@@ -6,7 +6,7 @@ use Rattle.entry.proofs.step.Judge.after.Reads as reads
 use Rattle.entry.proofs.step.Judge.after.Lts as lts
 use Rattle.entry_next.proofs.due.phase_after.Reads as phase-after-reads
 use Rattle.entry_next.proofs.parts.ranges_after.Reads as ranges-after-reads
-use Rattle.entry_next.proofs.counted.track_after.Reads as track-after-reads
+use Rattle.entry_counted.proofs.counted.track_after.Reads as track-after-reads
 
 -- src/step.rt:76:13
 phase-after-requires : tie.Need-phase-after-requires

@@ -1,0 +1,11 @@
+pub mod Digits
+pub mod Sizes
+pub mod Says
+pub mod Ties
+pub mod Laid
+pub mod First
+pub mod Shortest
+pub mod Winner
+pub mod Numbers
+pub mod Layouts
+pub mod Preparing

@@ -1,0 +1,42 @@
+use borrow.Author.Needs.{needs}
+use Rattle.copy_records.proofs.fields.put_field.Statement.{statement}
+use Rattle.copy_records.proofs.fields.put_field.Tie as tie
+use Rattle.copy_records.proofs.fields.put_field.Reads as reads
+use Rattle.copy_records.proofs.fields.put_field.Lts as lts
+use Rattle.copy_records.proofs.fields.put_canonical.Reads as put-canonical-reads
+use Rattle.copy_records.proofs.fields.put_plain.Reads as put-plain-reads
+
+-- src/fields.rt:55:9
+put-canonical-requires : tie.Need-put-canonical-requires
+put-canonical-requires c κs = search needs
+
+-- src/fields.rt:56:9
+same-length : tie.Need-same-length
+same-length c = search needs
+
+-- src/fields.rt:56:9
+returns : tie.Need-returns
+returns c = rw (c .before .before .before .before .if1 .taken) (c .before .before .put-canonical .ensures)
+
+-- src/fields.rt:58:5
+put-plain-requires : tie.Need-put-plain-requires
+put-plain-requires c κs = search needs
+
+-- src/fields.rt:50:1
+same-length-2 : tie.Need-same-length-2
+same-length-2 c = search needs
+
+-- src/fields.rt:50:1
+returns-2 : tie.Need-returns-2
+returns-2 c = rw (c .before .before .before .before .if1 .left) (c .before .before .put-plain .ensures)
+
+pub put-field-spec : {M : Type 1} → statement M
+put-field-spec =
+    tie.close
+    (tie.spec
+    put-canonical-requires
+    same-length
+    returns
+    put-plain-requires
+    same-length-2
+    returns-2)

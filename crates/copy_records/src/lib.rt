@@ -1,0 +1,3 @@
+// The canonical copy of one record.
+mod fields;
+pub mod records;

@@ -1,0 +1,29 @@
+use borrow.Author.Tests.{eq-eqb, ne-eqb}
+use native.Mathlib.Omega.{arith}
+use borrow.Author.Needs.{needs}
+use Rattle.entry_counted.proofs.counted.lines_read.Statement.{statement}
+use Rattle.entry_counted.proofs.counted.lines_read.Tie as tie
+use Rattle.entry_counted.proofs.counted.lines_read.Reads as reads
+use Rattle.entry_counted.proofs.counted.lines_read.Lts as lts
+use Rattle.rules_state.proofs.state.Track.row_ends.Reads as row-ends-reads
+
+-- src/next.rt:346:9
+returns : tie.Need-returns
+returns c = (rw (ne-eqb _ _ (c .if1 .taken)), omega arith)
+
+-- src/next.rt:348:8
+row-ends-requires : tie.Need-row-ends-requires
+row-ends-requires c κs = search needs
+
+-- src/next.rt:349:9
+returns-2 : tie.Need-returns-2
+returns-2 c =
+    (rw (eq-eqb _ _ (c .before .before .if1 .left), ← c .before .row-ends .ensures, c .if2 .taken), omega arith)
+
+-- src/next.rt:341:1
+returns-3 : tie.Need-returns-3
+returns-3 c =
+    (rw (eq-eqb _ _ (c .before .before .if1 .left), ← c .before .row-ends .ensures, c .if2 .left), omega arith)
+
+pub lines-read-spec : {M : Type 1} → statement M
+lines-read-spec = tie.close (tie.spec returns row-ends-requires returns-2 returns-3)

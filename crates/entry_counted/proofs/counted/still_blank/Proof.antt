@@ -1,0 +1,15 @@
+use Rattle.entry_counted.proofs.counted.still_blank.Statement.{statement}
+use Rattle.entry_counted.proofs.counted.still_blank.Tie as tie
+use Rattle.entry_counted.proofs.counted.still_blank.Reads as reads
+use Rattle.entry_counted.proofs.counted.still_blank.Lts as lts
+
+-- src/next.rt:323:9
+returns : tie.Need-returns
+returns c = rw (c .if1 .taken)
+
+-- src/next.rt:319:1
+returns-2 : tie.Need-returns-2
+returns-2 c = rw (c .if1 .left)
+
+pub still-blank-spec : {M : Type 1} → statement M
+still-blank-spec = tie.close (tie.spec returns returns-2)

@@ -1,0 +1,30 @@
+use Rattle.entry_counted.specs.Counted.{unitsRead}
+use borrow.Author.Tests.{le-leb, lt-leb}
+use borrow.Author.Needs.{needs}
+use Rattle.entry_counted.proofs.counted.units_read.Statement.{statement}
+use Rattle.entry_counted.proofs.counted.units_read.Tie as tie
+use Rattle.entry_counted.proofs.counted.units_read.Reads as reads
+use Rattle.entry_counted.proofs.counted.units_read.Lts as lts
+use Rattle.entry_counted.proofs.counted.next_row.Reads as next-row-reads
+use Rattle.entry_counted.proofs.counted.same_row.Reads as same-row-reads
+
+-- src/next.rt:314:9
+next-row-requires : tie.Need-next-row-requires
+next-row-requires c κs = search needs
+
+-- src/next.rt:314:9
+returns : tie.Need-returns
+unfolding unitsRead
+returns c = rw (le-leb _ _ (c .before .before .if1 .taken)) (c .next-row .ensures)
+
+-- src/next.rt:316:5
+same-row-requires : tie.Need-same-row-requires
+same-row-requires c κs = search needs
+
+-- src/next.rt:309:1
+returns-2 : tie.Need-returns-2
+unfolding unitsRead
+returns-2 c = rw (lt-leb _ _ (c .before .if1 .left)) (c .same-row .ensures)
+
+pub units-read-spec : {M : Type 1} → statement M
+units-read-spec = tie.close (tie.spec next-row-requires returns same-row-requires returns-2)

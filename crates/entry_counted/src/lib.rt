@@ -1,0 +1,2 @@
+// What is counted after a record without fault.
+pub mod counted;

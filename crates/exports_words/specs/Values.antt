@@ -1,0 +1,57 @@
+-- A number field as a call answers it: a word, and eight numbers in the lent array: the kind (0 blank, 1 number),
+-- whether it is below zero (0, 1), the coefficient, the power of ten in two's complement, and four zeros.
+use mathlib.Core.Bool.{Bool, true, false, cond}
+use mathlib.Core.List.{List, [], _∷_}
+use Prim.Native.Nat.{ℕ, _-_, _^_}
+use lib.Dec.{eqb, ltb}
+use lib.IntN.{ℤ, pos, negsuc}
+use lib.ListN.{getD, replicate}
+use Rattle.number.specs.declared.value.Decimal.{Decimal}
+use Rattle.number.specs.declared.value.Reading.{Reading}
+use Rattle.number.specs.declared.value.Reading.the-variants.{Blank, Number, Refused}
+use Rattle.number.specs.Value.{decimal}
+use Rattle.entry.specs.declared.answer.Answer.{Answer}
+use Rattle.entry.specs.Answer.{answerOf}
+use Rattle.exports_words.specs.Words.{answerIn}
+
+abbrev pub bit : Bool → ℕ
+bit true = 1
+bit false = 0
+
+-- two's complement in 64 bits; `negsuc n` is -1 - n
+abbrev pub twos : ℤ → ℕ
+twos (pos n) = n
+twos (negsuc n) = 2 ^ 64 - 1 - n
+
+-- ---- the eight numbers
+
+unfoldable pub valueNumbers : Decimal → List ℕ
+valueNumbers v = 1 ∷ bit (v .negative) ∷ v .coefficient ∷ twos (v .power) ∷ 0 ∷ 0 ∷ 0 ∷ 0 ∷ []
+
+abbrev pub blankNumbers : List ℕ
+blankNumbers = replicate 8 0
+
+-- the array after the call: a refused field stores nothing
+unfoldable pub readingStored : List ℕ → Reading → List ℕ
+readingStored before Blank = blankNumbers
+readingStored before (Number v) = valueNumbers v
+readingStored before (Refused n) = before
+
+-- the call's number, with zeros beside it
+unfoldable pub readingAnswer : Reading → Answer
+readingAnswer Blank = answerOf 0
+readingAnswer (Number v) = answerOf 0
+readingAnswer (Refused n) = answerOf n
+
+-- ---- the reading that a word and an array say: what a host does with them
+
+abbrev pub powerIn : ℕ → ℤ
+powerIn w = cond (ltb w (2 ^ 63)) (pos w) (negsuc (2 ^ 64 - 1 - w))
+
+abbrev pub valueIn : List ℕ → Reading
+valueIn xs =
+    cond (eqb (getD xs 0 0) 0) Blank
+    (Number (decimal (eqb (getD xs 1 0) 1) (getD xs 2 0) (powerIn (getD xs 3 0))))
+
+unfoldable pub readingIn : ℕ → List ℕ → Reading
+readingIn w xs = cond (eqb (answerIn w .number) 0) (valueIn xs) (Refused (answerIn w .number))

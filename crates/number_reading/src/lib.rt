@@ -1,0 +1,4 @@
+// Number fields: reading a field of eleven columns as an exact decimal.
+pub mod read;
+mod signed;
+mod walk;

@@ -1,0 +1,42 @@
+-- A row that names records of an entry still does after one record more.
+-- Assumes nothing.
+use Prim.Native.Nat.{ℕ, _<_, _≤_}
+use mathlib.Core.Bool.{Bool, true, false, cond}
+use mathlib.Core.List.{List}
+use native.Mathlib.Omega.{arith}
+use lib.Dec.{eqb}
+use Rattle.columns.specs.Columns.{recordOf}
+use Rattle.record.specs.Identifier.{BIB, COMMON, DATA}
+use Rattle.columns.specs.declared.columns.RecordNo.{RecordNo}
+use Rattle.rules_state.specs.declared.state.Track.{Track}
+use Rattle.rules_state.specs.State.{MOST-RECORDS}
+use Rattle.rules_state.specs.Role.{opensSubentry}
+use Rattle.questions_rows.specs.declared.row.Row.{Row}
+use Rattle.questions_rows.specs.Row.{emptyRow, withFirstAt, withBibAt, withCommonAt, withDataAt, noted}
+use Rattle.questions_rows.specs.Row.{subentryIn}
+use Rattle.questions_rows.specs.Row.{notedAs, Met}
+
+pub met-empty : (number : ℕ) → Met (emptyRow number)
+met-empty number = record { first = omega arith; bib = omega arith; common = omega arith; «data» = omega arith }
+
+module _ (x : Row) (m : Met x) where
+  met-noted : (role : ℕ) (at : RecordNo) → at .0 ≤ MOST-RECORDS → Met (noted x role at)
+  unfolding noted
+  met-noted role at h = by-test (opensSubentry role) (eqb role BIB) (eqb role COMMON) (eqb role DATA)
+    where
+      by-test : (a b c d : Bool)
+          → Met (cond a (withFirstAt x at) (cond b (withBibAt x at) (cond c (withCommonAt x at) (cond d (withDataAt x at) x))))
+      by-test true b c d = record { first = h; bib = m .bib; common = m .common; «data» = m .«data» }
+      by-test false true c d = record { first = m .first; bib = h; common = m .common; «data» = m .«data» }
+      by-test false false true d = record { first = m .first; bib = m .bib; common = h; «data» = m .«data» }
+      by-test false false false true = record { first = m .first; bib = m .bib; common = m .common; «data» = h }
+      by-test false false false false = m
+
+  pub met-next : (t : Track) (role : ℕ) (fs : List (List ℕ)) → t .records .0 < MOST-RECORDS
+      → Met (notedAs t role fs x)
+  unfolding notedAs
+  met-next t role fs h = by-test (eqb (subentryIn t role fs) (x .number))
+    where
+      by-test : (b : Bool) → Met (cond b (noted x role (recordOf (t .records))) x)
+      by-test true = met-noted role (recordOf (t .records)) (omega arith)
+      by-test false = m

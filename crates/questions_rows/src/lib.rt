@@ -1,0 +1,2 @@
+// Where a subentry stands in an entry: its row.
+pub mod row;

@@ -1,0 +1,3 @@
+pub mod WordsAndBlanks
+pub mod EqualColumns
+pub mod EightColumns

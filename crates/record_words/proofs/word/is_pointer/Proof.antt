@@ -1,0 +1,25 @@
+use borrow.Author.Needs.{needs}
+use Rattle.record_words.proofs.word.is_pointer.Statement.{statement}
+use Rattle.record_words.proofs.word.is_pointer.Tie as tie
+use Rattle.record_words.proofs.word.is_pointer.Reads as reads
+use Rattle.record_words.proofs.word.is_pointer.Lts as lts
+use Rattle.record_words.proofs.word.is_from.Reads as is-from-reads
+
+-- src/word.rt:123:8
+is-from-requires : tie.Need-is-from-requires
+is-from-requires c κs = search needs
+
+-- src/word.rt:124:9
+returns : tie.Need-returns
+returns c = rw (← c .before .is-from .ensures, c .if1 .taken)
+
+-- src/word.rt:126:5
+is-from-requires-2 : tie.Need-is-from-requires-2
+is-from-requires-2 c κs = search needs
+
+-- src/word.rt:120:1
+returns-2 : tie.Need-returns-2
+returns-2 c = rw (← c .before .before .is-from .ensures, c .before .if1 .left) (c .is-from2 .ensures)
+
+pub is-pointer-spec : {M : Type 1} → statement M
+is-pointer-spec = tie.close (tie.spec is-from-requires returns is-from-requires-2 returns-2)

@@ -1,0 +1,2 @@
+// Words, pointers and equal columns in the fields of a record.
+pub mod word;

@@ -1,0 +1,124 @@
+// The rules for every record: refusals 2 to 6. Each gives the leftmost column at fault, 0 where there is none.
+ghost use mathlib.Core.Path.{_≡_};
+ghost use Prim.Native.Nat.{ℕ, _+_, _-_, _*_, _≤_, _<_};
+ghost use lib.ListN.{length, getD};
+ghost use Rattle.columns.specs.Columns.{Whole};
+ghost use Rattle.columns.specs.Class.{ClassesLent};
+ghost use Rattle.rules_state.specs.Ranging.{Bounded};
+ghost use Rattle.rules_state.specs.Fault.{leftmost};
+ghost use Rattle.rules_every.specs.Every.{rule2, rule3, rule4, expectedIdentification, rule5, expectedSequence};
+ghost use Rattle.rules_every.specs.Every.{rule6};
+use columns::class::permitted_to;
+use columns::columns::has_line_feed;
+use record::expected::entry_accession;
+use record::expected::five_digits;
+use record::expected::identification;
+use record::expected::identification_for;
+use record::expected::same_five;
+use record::expected::same_identification;
+use record::expected::sequence;
+use record::expected::subent_identification;
+use record::identifier::ENDENTRY;
+use record::identifier::ENDSUBENT;
+use record::identifier::ENTRY;
+use rules_state::role::NOT_DUE;
+use rules_state::role::opens_subentry;
+use rules_state::state::Track;
+
+pub fn rule2(rec: &[u8]) -> u8
+    requires { ⌜ Whole (now rec) ⌝ }
+    ensures { λ r. ⌜ r ≡ leftmost (rule2 (now (rec .entry))) ⌝ }
+{
+    if has_line_feed(rec) {
+        return 0;
+    }
+    81
+}
+
+pub fn rule3(classes: &[u8; 256], rec: &[u8]) -> u8
+    requires { ⌜ ClassesLent (now classes) ⌝ }
+    requires { ⌜ Whole (now rec) ⌝ }
+    ensures { λ r. ⌜ r ≡ leftmost (rule3 (now (rec .entry))) ⌝ }
+{
+    let n = permitted_to(classes, rec);
+    if n < 80 {
+        let column = (n + 1) as u8;
+        return column;
+    }
+    0
+}
+
+pub fn rule4(role: usize) -> u8
+    ensures { λ r. ⌜ r ≡ leftmost (rule4 role) ⌝ }
+{
+    if role == NOT_DUE {
+        return 1;
+    }
+    0
+}
+
+// The identification that a record with the role and these fields must bear.
+fn expected_identification(track: Track, role: usize, fs: [[u8; 11]; 6]) -> [u8; 8]
+    ensures { λ r. ⌜ r ≡ expectedIdentification track role fs ⌝ }
+{
+    let f = fs[1];
+    let accession = track.accession;
+    if role == ENTRY {
+        let own = entry_accession(f);
+        return identification_for(own, 0);
+    }
+    if opens_subentry(role) {
+        return subent_identification(f);
+    }
+    if role == ENDENTRY {
+        return identification_for(accession, 999);
+    }
+    let s = track.subentry;
+    identification_for(accession, s.number)
+}
+
+pub fn rule5(track: Track, role: usize, fs: [[u8; 11]; 6], rec: &[u8]) -> u8
+    requires { ⌜ Whole (now rec) ⌝ }
+    ensures { λ r. ⌜ r ≡ leftmost (rule5 track role fs (now (rec .entry))) ⌝ }
+{
+    let own = identification(rec);
+    let due = expected_identification(track, role, fs);
+    if same_identification(own, due) {
+        return 0;
+    }
+    67
+}
+
+// The sequence number that a record with the role must bear.
+fn expected_sequence(track: Track, role: usize) -> u32
+    requires { ⌜ Bounded track ⌝ }
+    ensures { λ r. ⌜ r ≡ expectedSequence track role ⌝ }
+{
+    if role == ENTRY {
+        return 1;
+    }
+    if opens_subentry(role) {
+        return 1;
+    }
+    if role == ENDSUBENT {
+        return 99999;
+    }
+    if role == ENDENTRY {
+        return 99999;
+    }
+    let s = track.subentry;
+    s.records + 2
+}
+
+pub fn rule6(track: Track, role: usize, rec: &[u8]) -> u8
+    requires { ⌜ Whole (now rec) ⌝ }
+    requires { ⌜ Bounded track ⌝ }
+    ensures { λ r. ⌜ r ≡ leftmost (rule6 track role (now (rec .entry))) ⌝ }
+{
+    let own = sequence(rec);
+    let due = five_digits(expected_sequence(track, role));
+    if same_five(own, due) {
+        return 0;
+    }
+    75
+}

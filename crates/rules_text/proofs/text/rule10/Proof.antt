@@ -1,0 +1,52 @@
+use Rattle.rules_text.specs.Text.{rule10}
+use borrow.Author.Tests.{eq-eqb, ne-eqb}
+use borrow.Author.Needs.{needs}
+use Rattle.rules_text.proofs.text.rule10.Statement.{statement}
+use Rattle.rules_text.proofs.text.rule10.Tie as tie
+use Rattle.rules_text.proofs.text.rule10.Reads as reads
+use Rattle.rules_text.proofs.text.rule10.Lts as lts
+use Rattle.rules_text.proofs.text.keyword_fault.Reads as keyword-fault-reads
+use Rattle.rules_state.proofs.ranging.part.Reads as part-reads
+
+-- src/text.rt:89:13
+returns : tie.Need-returns
+returns c = rw (ne-eqb _ _ (c .if1 .taken))
+
+-- src/text.rt:92:17
+array-copy-out-f : tie.Need-array-copy-out-f
+array-copy-out-f c = search needs
+
+-- src/text.rt:93:31
+part-requires : tie.Need-part-requires
+part-requires c κs = search needs
+
+-- src/text.rt:93:12
+keyword-fault-requires : tie.Need-keyword-fault-requires
+keyword-fault-requires c κs = search needs
+
+-- src/text.rt:94:13
+returns-2 : tie.Need-returns-2
+unfolding rule10
+returns-2 c =
+    rw (
+      eq-eqb _ _ (c .before .before .before .before .before .if1 .left),
+      ← c .before .before .part .ensures,
+      ← c .before .keyword-fault .ensures,
+      c .if2 .taken,
+    )
+
+-- src/text.rt:84:5
+returns-3 : tie.Need-returns-3
+unfolding rule10
+returns-3 c =
+    rw (
+      eq-eqb _ _ (c .before .before .before .before .before .if1 .left),
+      ← c .before .before .part .ensures,
+      ← c .before .keyword-fault .ensures,
+      c .if2 .left,
+    )
+
+pub rule10-spec : {M : Type 1} → statement M
+rule10-spec =
+    tie.close
+    (tie.spec returns array-copy-out-f part-requires keyword-fault-requires returns-2 returns-3)
