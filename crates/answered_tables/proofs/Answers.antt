@@ -9,11 +9,9 @@ use mathlib.Core.Path.{_≡_, refl, sym, _∙_, ap}
 use mathlib.Core.Bool.{Bool, true, false}
 use mathlib.Core.List.{List, [], _∷_, _++_}
 use native.Mathlib.Omega.{arith}
-use lib.ListN.{length, getD, take, length-append, List·getD-append}
-use lib.Seq.{getD-append-seam}
+use lib.ListN.{length, getD, take}
 use Rattle.laws.specs.Walk.{All}
-use Rattle.laws.specs.Blocks.{blocks, blockAt}
-use Rattle.laws.proofs.Blocks.{blocks-joined, length-joined, block-at}
+use Rattle.laws.specs.Blocks.{blockAt}
 use Rattle.number.specs.Reading.{readField}
 use Rattle.columns.specs.Columns.{recordsFor, placeOf}
 use Rattle.columns.specs.Fields.{fieldsOf, fieldAt, n2}
@@ -22,10 +20,9 @@ use Rattle.columns.specs.declared.columns.RecordNo.{RecordNo}
 use Rattle.record_words.specs.Word.{pointerOf}
 use Rattle.record.specs.System.{countOf}
 use Rattle.record.specs.declared.system.Count.the-variants.{Number}
-use Rattle.rules_state.specs.State.{Context, startContext}
+use Rattle.record.proofs.PlainDigits.{count-exactly}
 use Rattle.rules_system.specs.System.{countN1}
-use Rattle.entry.specs.declared.verdict.Verdict.{Verdict}
-use Rattle.entry.specs.Verdict.{roleOf, judgeOf, Accepted}
+use Rattle.entry.specs.Verdict.{judgeOf}
 use Rattle.entry.specs.Answer.{answerOf}
 use Rattle.entry.specs.Contexts.{contextAt}
 use Rattle.questions.specs.declared.ask.PartAnswer.{PartAnswer}
@@ -37,7 +34,6 @@ use Rattle.questions.specs.Ask.{unitBy}
 use Rattle.questions.specs.Ask.{unitAsked}
 use Rattle.questions_rows.proofs.RowChanges.{opener}
 use Rattle.inside.specs.Inside.{OpensSection, InsideValue, InsideColumn, linesAnnounced}
-use Rattle.inside.proofs.Contexts.{context-start}
 use Rattle.inside.proofs.TableLaid.{sectionRole, linesOf}
 use Rattle.inside.proofs.RowFound.{Opening}
 use Rattle.inside.proofs.Answered.{sectionNo, sectionOf, shape-columns, value-answered, heading-answered, unit-answered}
@@ -48,52 +44,13 @@ use Rattle.good.specs.Parts.{Record, Table, rowsOf, recordsOf}
 use Rattle.good.specs.Tables.{columnsOf, cell, GoodValues, GoodTable, GoodCommon, GoodData}
 use Rattle.good.specs.Subentries.{ownNumber}
 use Rattle.good.specs.Good.{GoodBytes}
-use Rattle.good.proofs.Steps.{next, Passes}
-use Rattle.good.proofs.Lists.{Long}
-use Rattle.good.proofs.Entries.{entry-pass}
-use Rattle.good.proofs.Theorems.{passes-long, good-accepted}
 use Rattle.answered_tables.specs.Tables.{first-common, later-common, later-data, LineIn, ColumnIn}
 use Rattle.answered_tables.specs.Tables.{PartOf, ValueOfTable, HeadingOfTable, UnitOfTable}
+use Rattle.answered_tables.proofs.Indexed.{size, records, block-is, accepted, block-behind, context-behind}
+use Rattle.answered_tables.proofs.Indexed.{there-behind}
 use Rattle.answered_tables.proofs.Reached.{Reached, data-reached, data-good, common-reached, common-good}
 use Rattle.answered_tables.proofs.Reached.{first-reached, first-common-good}
 use Rattle.answered_tables.proofs.Rows.{line-at, head-at, unit-at, ten-of}
-
--- ---- the records of a good entry, by their index
-
-module _ (s : List ℕ) (g : GoodBytes s) where
-  abbrev rs : List Record
-  rs = recordsOf (g .entry)
-
-  long : All Long rs
-  long = let f = entry-pass (g .entry) (g .good) in passes-long startContext rs (f .last) (f .passes)
-
-  size : length s ≡ length rs * 81
-  size = ap length (g .same) ∙ length-joined 81 rs long
-
-  records : length s / 81 ≡ length rs
-  records = let e = size in omega arith
-
-  block-is : (i : ℕ) → i < length rs → blockAt 81 s i ≡ getD rs i []
-  block-is i l =
-      sym (block-at 81 (length rs) s i l)
-      ∙ ap (λ (xs : List Record). getD xs i []) (ap (blocks 81 (length rs)) (g .same) ∙ blocks-joined 81 rs long)
-
-  accepted : Accepted s
-  accepted = ap (λ (v : Verdict). v .refusal) (good-accepted s g)
-
--- the context behind records that the judge passes
-reach : (s : List ℕ) (pre : List Record) (i : ℕ) (c d : Context) → contextAt s i ≡ c
-    → ((j : ℕ) → j < length pre → blockAt 81 s (i + j) ≡ getD pre j []) → Passes c pre d
-    → contextAt s (i + length pre) ≡ d
-unfolding Passes contextAt
-reach s [] i c d e b p = let z : i + 0 ≡ i = omega arith in rw z (e ∙ p)
-reach s (r ∷ pre) i c d e b p =
-    let z : i + suc (length pre) ≡ suc i + length pre = omega arith in
-    let o : i + 0 ≡ i = omega arith in
-    let here : blockAt 81 s i ≡ r = rw o at (b 0 (omega arith)) in
-    rw z
-    (reach s pre (suc i) (next c (roleOf c r) r) d (rw (e, here) refl)
-    (λ j l. let y : suc i + j ≡ i + suc j = omega arith in rw y (b (suc j) (omega arith))) (p .1))
 
 -- ---- beside 0 stand zeros
 
@@ -133,33 +90,17 @@ module _ (s : List ℕ) (g : GoodBytes s) (b : Bool) (n : ℕ) (t : Table) (r : 
   abbrev a : ℕ
   a = length (r .before)
 
-  count : length (recordsOf (g .entry)) ≡ a + suc (length (rowsOf t ++ r .behind))
-  count = ap length (r .split) ∙ length-append (r .before) (t .opening ∷ (rowsOf t ++ r .behind))
-
   at-opening : blockAt 81 s a ≡ t .opening
-  at-opening =
-      block-is s g a (let c = count in omega arith)
-      ∙ ap (λ (xs : List Record). getD xs a []) (r .split)
-      ∙ getD-append-seam (r .before) (t .opening) (rowsOf t ++ r .behind) []
-
-  at-before : (j : ℕ) → j < a → blockAt 81 s (0 + j) ≡ getD (r .before) j []
-  at-before j l =
-      let z : 0 + j ≡ j = omega arith in
-      rw z
-      (block-is s g j (let c = count in omega arith)
-      ∙ ap (λ (xs : List Record). getD xs j []) (r .split)
-      ∙ List·getD-append (r .before) (t .opening ∷ (rowsOf t ++ r .behind)) [] j l)
+  at-opening = block-behind s g (r .before) (t .opening) (rowsOf t ++ r .behind) (r .split)
 
   context-is : contextAt s a ≡ r .here
-  context-is = start (reach s (r .before) 0 startContext (r .here) (context-start s) at-before (r .passes))
-    where
-      start : contextAt s (0 + a) ≡ r .here → contextAt s a ≡ r .here
-      start e = let z : 0 + a ≡ a = omega arith in rw z at e
+  context-is =
+      context-behind s g (r .before) (t .opening) (rowsOf t ++ r .behind) (r .split) (r .here) (r .passes)
 
   opening : Opening s n (sectionOf b) a
   opening =
       record {
-        there = (let c = count in let d = records s g in omega arith);
+        there = there-behind s g (r .before) (t .opening) (rowsOf t ++ r .behind) (r .split);
         role = rw (context-is, at-opening) (r .due ∙ role-of b);
         subentry = rw context-is (r .number);
       }
@@ -342,7 +283,8 @@ values-long o n (row ∷ rows) h = (h .0 .records, values-long o n rows (h .1))
 
 laid-data : (t : Table) → GoodData t → Laid true t
 laid-data t g =
-    let e : countOf (n2 (fieldsOf (t .opening))) ≡ Number (length (t .lines)) = g .lines in
+    let e : countOf (n2 (fieldsOf (t .opening))) ≡ Number (length (t .lines)) =
+    count-exactly 11 (n2 (fieldsOf (t .opening))) (length (t .lines)) .1 (g .lines) in
     record {
       table = g .table;
       lines = rw e;

@@ -1,5 +1,5 @@
--- The walk of the judge over a good entry, up to the record that opens a table: the records before it are passed, and
--- in the context there the record is due as COMMON or DATA of its subentry.
+-- The walk of the judge over a good entry, up to the record that opens a section: the records before it are passed, and
+-- in the context there the record is due as BIB, COMMON or DATA of its subentry.
 --
 -- A later subentry is reached behind 001 and the subentries before it (`reach-later`), each of which the judge passes
 -- whole; within the subentry its SUBENT, its BIB and, for DATA, its COMMON stand before the table.
@@ -10,7 +10,7 @@ use mathlib.Core.Bool.{true, false}
 use mathlib.Core.List.{List, [], _∷_, _++_, append-assoc, append-nil}
 use native.Mathlib.Omega.{arith}
 use Rattle.laws.specs.Walk.{All}
-use Rattle.record.specs.Identifier.{ENTRY, SUBENT, NOSUBENT, ENDENTRY, COMMON, NOCOMMON, DATA, NODATA}
+use Rattle.record.specs.Identifier.{ENTRY, SUBENT, NOSUBENT, ENDENTRY, BIB, NOBIB, COMMON, NOCOMMON, DATA, NODATA}
 use Rattle.laws.specs.Blocks.{joined}
 use Rattle.laws.specs.Members.{listOf}
 use Rattle.record.specs.Expected.{accessionOf, identificationFor}
@@ -19,9 +19,10 @@ use Rattle.rules_state.specs.State.{Context, startContext, LAST-SUBENTRY}
 use Rattle.entry.specs.Verdict.{roleOf}
 use Rattle.good.specs.Parts.{Record, Bib, Table, Section, present, bibRecords, tableRecords, rowsOf, Subentry001, Later}
 use Rattle.good.specs.Parts.{Subentry, nosubent, subent, Entry, firstRecords, laterRecords, subentriesRecords}
-use Rattle.good.specs.Parts.{recordsOf}
+use Rattle.good.specs.Parts.{recordsOf, textsOf}
 use Rattle.good.specs.Marks.{nameOf}
-use Rattle.good.specs.Tables.{GoodCommon, GoodData}
+use Rattle.good.specs.Bib.{GoodBib}
+use Rattle.good.specs.Tables.{GoodCommon, GoodData, headingsOfPart}
 use Rattle.good.specs.Subentries.{ownNumber, GoodLater, GoodSubentry, NumbersRise}
 use Rattle.good.specs.Totals.{keywordsIn, linesIn, numbersOf}
 use Rattle.good.specs.Good.{GoodEntry}
@@ -29,7 +30,8 @@ use Rattle.good.proofs.Steps.{next, Passes, next-pass, pass-nothing, passes-as}
 use Rattle.good.proofs.Runs.{only-role, either-left}
 use Rattle.good.proofs.Marks.{following-as, following-left}
 use Rattle.good.proofs.Systems.{identificationIn}
-use Rattle.good.proofs.BibContexts.{afterBib, behind-bib}
+use Rattle.good.proofs.Repeats.{said-twice}
+use Rattle.good.proofs.BibContexts.{afterBib, behind-bib, bib-role}
 use Rattle.good.proofs.Bibs.{bib-pass}
 use Rattle.good.proofs.Openings.{number-first, opens-takes, number-later, entry-takes, after-opening}
 use Rattle.good.proofs.FirstSubentry.{afterFirst, first-stands, subent-due, first-pass-on}
@@ -214,6 +216,29 @@ pub record Reached (e : Entry) (n role : ℕ) (t : Table) : Type 0 where
   pub due : roleOf here (t .opening) ≡ role
   pub number : here .track .subentry .number ≡ n
 
+-- the walk has come to the record that opens a BIB section
+pub record BibReached (e : Entry) (n : ℕ) (b : Bib) : Type 0 where
+  pub before : List Record
+  pub behind : List Record
+  pub split : recordsOf e ≡ before ++ (b .opening ∷ (textsOf (b .keywords) ++ behind))
+  pub here : Context
+  pub passes : Passes startContext before here
+  pub due : roleOf here (b .opening) ≡ BIB
+  pub number : here .track .subentry .number ≡ n
+
+bib-split : (o : Record) (first before : List Record) (r u : Record) (texts : List Record) (v : Record)
+    (tables : List Record) (w : Record) (after : List Record) (z : Record)
+    → o ∷ (first
+    ++ ((before ++ ((r ∷ (((u ∷ (texts ++ (v ∷ []))) ++ tables) ++ (w ∷ []))) ++ after)) ++ (z ∷ [])))
+    ≡ (o ∷ (first ++ (before ++ (r ∷ [])))) ++ (u ∷ (texts ++ (v ∷ (tables ++ (w ∷ (after ++ (z ∷ [])))))))
+bib-split o first before r u texts v tables w after z = simp (append-assoc, append-nil)
+
+first-bib-split : (o r u : Record) (texts : List Record) (v : Record) (common : List Record) (w : Record)
+    (rest : List Record)
+    → o ∷ ((r ∷ (((u ∷ (texts ++ (v ∷ []))) ++ common) ++ (w ∷ []))) ++ rest)
+    ≡ (o ∷ (r ∷ [])) ++ (u ∷ (texts ++ (v ∷ (common ++ (w ∷ rest)))))
+first-bib-split o r u texts v common w rest = simp (append-assoc, append-nil)
+
 common-split : (o : Record) (first before : List Record) (r : Record) (bib : List Record) (u : Record)
     (rows : List Record) (v : Record) (values : List Record) (w : Record) (after : List Record) (z : Record)
     → o ∷ (first
@@ -299,6 +324,29 @@ module _ (e : Entry) (good : GoodEntry e) (before after : List Subentry) (s : La
       ++ ((subentriesRecords before ++ (laterRecords (subent s) ++ subentriesRecords after)) ++ (e .ending ∷ [])))
   split-of = rw (among, records-append before (subent s ∷ after), records-cons (subent s) after)
 
+  -- its BIB
+  module _ (b : Bib) (there : s .bib ≡ present b) where
+    pub bib-good : GoodBib b
+    bib-good = rw there at (w .good .bib)
+
+    pub bib-reached : BibReached e (ownNumber (s .opening)) b
+    bib-reached =
+        let c = next d SUBENT (s .opening) in
+        record {
+          before = e .opening ∷ (firstRecords (e .first) ++ (subentriesRecords before ++ (s .opening ∷ [])));
+          behind = b .ending ∷ ((tableRecords (s .common) ++ tableRecords (s .values))
+              ++ (s .ending ∷ (subentriesRecords after ++ (e .ending ∷ []))));
+          split = split-of ∙ rw there
+              (bib-split (e .opening) (firstRecords (e .first)) (subentriesRecords before) (s .opening) (b .opening)
+              (textsOf (b .keywords)) (b .ending) (tableRecords (s .common) ++ tableRecords (s .values)) (s .ending)
+              (subentriesRecords after) (e .ending));
+          here = c;
+          passes = entered [] c (pass-nothing c);
+          due = bib-role c (b .opening) (hg .begun .phase)
+              ∙ either-left BIB NOBIB (nameOf (b .opening)) (bib-good .opens);
+          number = hg .begun .number-is;
+        }
+
   -- its DATA
   module _ (t : Table) (there : s .values ≡ present t) where
     pub data-good : GoodData t
@@ -381,7 +429,7 @@ module _ (e : Entry) (good : GoodEntry e) (t : Table) (there : e .first .common 
         shown-rows = none-shown;
         good-bib = good .first .bib;
         good-common = good .first .common;
-        once = good .first .headings;
+        once = said-twice (headingsOfPart (e .first .common)) (good .first .headings);
         follows = rw (append-nil (tableRecords (e .first .common))) (good .first .encloses .between);
       }
     where
@@ -414,4 +462,35 @@ module _ (e : Entry) (good : GoodEntry e) (t : Table) (there : e .first .common 
         due = common-due (afterBib o1 (e .first .bib)) (x .phase) (t .opening)
             ∙ either-left COMMON NOCOMMON (nameOf (t .opening)) (first-common-good .opens);
         number = x .own ∙ good .first .number;
+      }
+
+module _ (e : Entry) (good : GoodEntry e) (b : Bib) (there : e .first .bib ≡ present b) where
+  pub first-bib-good : GoodBib b
+  first-bib-good = rw there at (good .first .bib)
+
+  pub first-bib-reached : BibReached e 1 b
+  first-bib-reached =
+      let g = ready (e .opening) in
+      let r = e .first .opening in
+      let c0 = next startContext ENTRY (e .opening) in
+      let c1 = next c0 SUBENT r in
+      let o = after-opening false c0 r in
+      record {
+        before = e .opening ∷ (r ∷ []);
+        behind = b .ending ∷ (tableRecords (e .first .common)
+            ++ (e .first .ending ∷ (subentriesRecords (e .later) ++ (e .ending ∷ []))));
+        split = rw there
+            (first-bib-split (e .opening) r (b .opening) (textsOf (b .keywords)) (b .ending)
+            (tableRecords (e .first .common)) (e .first .ending) (subentriesRecords (e .later) ++ (e .ending ∷ [])));
+        here = c1;
+        passes = next-pass startContext ENTRY (e .opening) (r ∷ []) c1
+            (entry-due (e .opening) ∙ only-role ENTRY (nameOf (e .opening)) (good .opening .named))
+            (entry-takes startContext (e .opening) (good .opening))
+            (next-pass c0 SUBENT r [] c1
+            (subent-due c0 (g .phase) r ∙ only-role SUBENT (nameOf r) (good .first .opens .named))
+            (opens-takes false c0 r (accessionOf (e .opening)) (g .accession-is) (good .first .opens)
+            (number-first c0 (ownNumber r) (g .subentries) (good .first .number))) (pass-nothing c1));
+        due = bib-role c1 (b .opening) (o .phase)
+            ∙ either-left BIB NOBIB (nameOf (b .opening)) (first-bib-good .opens);
+        number = o .number ∙ good .first .number;
       }

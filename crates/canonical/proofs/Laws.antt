@@ -1,26 +1,26 @@
 -- The laws of canonical fields, which the layers above cite by these names.
 -- Assumes nothing.
 use mathlib.Core.Path.{_≡_, refl, sym, ap, _∙_}
-use mathlib.Core.Bool.{Bool}
 use mathlib.Core.List.{List, _++_}
 use mathlib.Core.Logic.{_↔_}
 use Prim.Native.Nat.{ℕ, _+_, _-_, _<_, _≤_}
 use native.Mathlib.Omega.{arith}
-use lib.IntN.{ℤ}
+use borrow.Author.Tests.{ne-eqb, le-leb, lt-leb}
 use lib.ListN.{length, getD}
 use Rattle.number.specs.declared.value.Decimal.{Decimal}
 use Rattle.number.specs.declared.value.Reading.{Reading}
 use Rattle.number.specs.declared.value.Reading.the-variants.{Blank, Number}
 use Rattle.number.specs.declared.value.Reading.the-variants as R
-use Rattle.number.specs.Grammar.{blanks, Field, write, GoodField, Letter}
-use Rattle.number.specs.Value.{Normal, Means, valueOf}
+use Rattle.number.specs.Grammar.{blanks, Letter}
+use Rattle.number.specs.Value.{Normal, valueOf}
 use Rattle.number.specs.Reading.{readField}
 use Rattle.number.proofs.Laws.{value-found, reads-exactly, blank-exactly, number-letters}
-use Rattle.canonical.specs.declared.write.Written.the-variants.{Done, Refused}
-use Rattle.canonical_layout.specs.Canonical.{columns, Canonical, ExactlyOne, NoField, Best, span}
 use Rattle.canonical_layout.specs.Closed.{canonicalText, canonicalField}
 use Rattle.canonical.specs.Replacing.{replacedBy, canonical, Formed}
-use Rattle.canonical.specs.Writing.{written, bytes}
+use Rattle.canonical.specs.Claims.{CanonicalOne, ClosedForm, CanonicalNone, CanonicalBest, BestOne, ColumnsSpan}
+use Rattle.canonical.specs.Claims.{WrittenBest, WrittenNone}
+use Rattle.canonical.specs.declared.write.Written.the-variants.{Done, Refused}
+use Rattle.canonical.specs.Writing.{answered, storedField, written, bytes}
 use Rattle.canonical.proofs.Theorems as Theorems
 use Rattle.canonical.proofs.Characters as Characters
 use Rattle.canonical.proofs.Promises as Promises
@@ -28,27 +28,27 @@ use Rattle.canonical.proofs.Promises as Promises
 -- ---- what wins, for every value and every width
 
 -- "That exactly one field wins is proved": of every value that some field of w columns reads to
-pub canonical-one : (w : ℕ) (v : Decimal) (g : Field) → GoodField g → length (write g) ≡ w → Means g v → ExactlyOne w v
+pub canonical-one : CanonicalOne
 canonical-one w v g good wide means = Theorems.canonical-one w v g good wide means
 
 -- what wins is the closed form
-pub closed-form : (w : ℕ) (v : Decimal) (f : Field) → Canonical w v f → write f ≡ canonicalField w v
+pub closed-form : ClosedForm
 closed-form w v f c = Theorems.closed-form w v f c
 
 -- no field reads to the value exactly when the closed form is wider
-pub canonical-none : (w : ℕ) (v : Decimal) → Normal v → NoField w v ↔ (w < length (canonicalText v))
+pub canonical-none : CanonicalNone
 canonical-none w v h = Theorems.canonical-none w v h
 
 -- the closed form is ahead of all columns that read to the value
-pub canonical-best : (w : ℕ) (v : Decimal) → Normal v → length (canonicalText v) ≤ w → Best w v (canonicalField w v)
+pub canonical-best : CanonicalBest
 canonical-best w v h l = Theorems.canonical-best w v h l
 
 -- of bytes, no two win
-pub best-one : (w : ℕ) (v : Decimal) (l m : List ℕ) → Best w v l → Best w v m → l ≡ m
+pub best-one : BestOne
 best-one w v l m a b = Theorems.best-one w v l m a b
 
 -- the columns of a field are those of its bytes, from first to last non-blank
-pub columns-span : (f : Field) → GoodField f → span (write f) ≡ columns f
+pub columns-span : ColumnsSpan
 columns-span f h = Characters.columns-span f h
 
 -- ---- the canonical text of a value
@@ -98,14 +98,27 @@ canonical-wider k w v h = Theorems.wider k w v h
 -- ---- writing
 
 -- "Writing a decimal" that is done leaves its one canonical field in the buffer
-pub written-best : (l : List ℕ) (negative : Bool) (a : ℕ) (p : ℤ) → written l (valueOf negative a p) ≡ Done
-    → Best 11 (valueOf negative a p) (bytes l (valueOf negative a p))
+pub written-best : WrittenBest
 written-best l negative a p e = Promises.done-best l (valueOf negative a p) (value-found negative a p .normal) e
 
 -- "41 no field reads to the value", and no other
-pub written-none : (l : List ℕ) (negative : Bool) (a : ℕ) (p : ℤ) → length l ≡ 11
-    → (written l (valueOf negative a p) ≡ Refused 41) ↔ NoField 11 (valueOf negative a p)
+pub written-none : WrittenNone
 written-none l negative a p w = Promises.refused-none l (valueOf negative a p) (value-found negative a p .normal) w
+
+-- by the buffer's length and the text's: done; 41; 40. "A refused call stores nothing."
+pub written-fits : (l : List ℕ) (v : Decimal) → length l ≡ 11 → length (canonicalText v) ≤ 11
+    → (written l v ≡ Done) × (bytes l v ≡ canonicalField 11 v)
+unfolding written bytes answered storedField
+written-fits l v w h = rw (w, le-leb (length (canonicalText v)) 11 h) (refl, refl)
+
+pub written-wide : (l : List ℕ) (v : Decimal) → length l ≡ 11 → 11 < length (canonicalText v)
+    → (written l v ≡ Refused 41) × (bytes l v ≡ l)
+unfolding written bytes answered storedField
+written-wide l v w h = rw (w, lt-leb (length (canonicalText v)) 11 h) (refl, refl)
+
+pub written-short : (l : List ℕ) (v : Decimal) → (length l ≡ 11 → ⊥) → (written l v ≡ Refused 40) × (bytes l v ≡ l)
+unfolding written bytes
+written-short l v w = rw (ne-eqb (length l) 11 w) (refl, refl)
 
 -- ---- the canonical field of a field: of all columns, whatever they hold
 

@@ -17,7 +17,7 @@ use Rattle.canonical.specs.Writing.{storedField, bytes}
 -- a value in its normal form is the value of its own three parts
 pub value-of-normal : (v : Decimal) → Normal v → valueOf (v .negative) (v .coefficient) (v .power) ≡ v
 value-of-normal v h =
-    value-one (value-found (v .negative) (v .coefficient) (v .power))
+    value-one _ _ _ _ _ (value-found (v .negative) (v .coefficient) (v .power))
     (record { size = record { m = 0; n = 0; powers = refl; numbers = refl }; sign = λ z. refl; normal = h })
 
 -- written into eleven columns

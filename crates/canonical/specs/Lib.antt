@@ -1,3 +1,4 @@
 pub mod Replacing
 pub mod Writing
 pub mod Marked
+pub mod Claims

@@ -86,7 +86,11 @@ marked =
     ∷ unwritable 1 (pos 100000000)
     ∷ []
 
-pub marked-right : map found marked ≡ map said marked
+-- the one statement: the definitions give what the paper says, row by row
+abbrev pub MarkedRight : Type 0
+MarkedRight = map found marked ≡ map said marked
+
+pub marked-right : MarkedRight
 unfolding finish readField readNumber trimFrom trim valueOf write
     countFrom count digitsN shift layoutUp layoutDown laidOut shortest canonicalText canonicalField
     answered storedField written bytes

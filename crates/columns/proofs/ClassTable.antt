@@ -1,24 +1,27 @@
 -- Every entry of the table is the byte's class, and a byte is permitted exactly when its class is not 0.
 -- Assumes nothing.
-use mathlib.Core.Path.{_≡_, _∙_, refl, ap}
+use mathlib.Core.Path.{_≡_, _∙_, refl, sym, ap}
 use mathlib.Core.Bool.{Bool, true, false, cond, not}
-use mathlib.Core.List.{_++_}
-use Prim.Native.Nat.{ℕ, _<_}
-use lib.Dec.{eqb, eqb→eq}
-use lib.ListN.{getD}
-use Rattle.laws.specs.Members.{anyOf}
-use Rattle.laws.proofs.Table.{at}
-use Rattle.laws.proofs.Members.{any-append}
+use mathlib.Core.List.{List, _++_}
+use Prim.Native.Nat.{ℕ, _+_}
+use native.Mathlib.Nat.{zero-add}
+use lib.Dec.{eqb}
+use lib.ListN.{take, drop, take-append-drop}
+use Rattle.laws.specs.Members.{listOf}
+use Rattle.laws.proofs.Listing.{list-split}
+use Rattle.laws.proofs.Members.{any-append, list-at}
 use Rattle.columns.specs.Text.{text}
 use Rattle.columns.specs.Class.{capitals, smalls, digits, specials, isAmong, isPermitted, classOf, classTable}
+use Rattle.columns.specs.Claims.{ClassAt, PermittedClass}
 
--- the one test, computed for all 256 entries
-right : ℕ → ℕ → Bool
-right k x = eqb x (classOf k)
+-- The table of the code is held against the classes part by part, so that an entry that differs is shown.
+pub by-parts : (n m i : ℕ) (t : List ℕ) → take n t ≡ listOf classOf i n → drop n t ≡ listOf classOf (i + n) m
+    → t ≡ listOf classOf i (n + m)
+by-parts n m i t a b = sym (take-append-drop n t) ∙ rw (a, b) (sym (list-split classOf i n m))
 
-pub class-at : (k : ℕ) → k < 256 → getD classTable k 0 ≡ classOf k
-unfolding classTable right classOf anyOf
-class-at k h = eqb→eq (getD classTable k 0) (classOf k) (at right classTable tt k h)
+pub class-at : ClassAt
+unfolding classTable
+class-at k h = list-at classOf 0 256 k 0 h ∙ rw (zero-add k) refl
 
 -- Of the five lists that a byte may be in, `permitted` joins all and `classOf` names the first.
 by-lists : (blank capital small digit special : Bool)
@@ -33,7 +36,7 @@ by-lists false false false true p = refl
 by-lists false false false false true = refl
 by-lists false false false false false = refl
 
-pub permitted-class : (b : ℕ) → isPermitted b ≡ not (eqb (classOf b) 0)
+pub permitted-class : PermittedClass
 unfolding isPermitted classOf
 permitted-class b =
     any-append (eqb b) (text " ") (capitals ++ (smalls ++ (digits ++ specials)))

@@ -5,7 +5,7 @@ use mathlib.Core.List.{List, [], _∷_, _++_}
 use Prim.Native.Nat.{ℕ, zero, suc, _+_, _≤_, _<_}
 use native.Mathlib.Nat.{add-suc, add-zero}
 use native.Mathlib.Omega.{arith}
-use lib.ListN.{length, getD, take, drop}
+use lib.ListN.{length, getD, take, drop, List·getD-eq-default}
 use lib.Seq.{drop-cons, take-all}
 use Rattle.columns.specs.Columns.{columnsAt}
 use Rattle.columns.specs.Fields.{fieldAt, fieldsOf}
@@ -35,6 +35,11 @@ field-of r (suc (suc (suc zero))) h = refl
 field-of r (suc (suc (suc (suc zero)))) h = refl
 field-of r (suc (suc (suc (suc (suc zero))))) h = refl
 field-of r (suc (suc (suc (suc (suc (suc k)))))) h = let none : ⊥ = omega arith in absurd none
+
+-- there are no more than six
+pub past-fields : (r : List ℕ) (k : ℕ) → 6 ≤ k → getD (fieldsOf r) k [] ≡ []
+unfolding fieldsOf
+past-fields r k h = List·getD-eq-default (fieldsOf r) [] h
 
 -- two lists that are read whole, one behind the other
 whole : (r : List ℕ) (w : ℕ) → length r ≡ w → reads r 0 0 w ≡ r

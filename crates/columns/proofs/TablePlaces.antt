@@ -1,7 +1,7 @@
 -- The place of a column lies in its section: behind the heading and unit records, and not behind the last line.
 -- Assumes nothing.
-use mathlib.Core.Path.{_≡_}
-use Prim.Native.Nat.{ℕ, _+_, _-_, _*_, _<_, _≤_}
+use mathlib.Core.Path.{_≡_, refl}
+use Prim.Native.Nat.{ℕ, _+_, _-_, _*_, _/_, _%_, _<_, _≤_}
 use native.Mathlib.Nat.{mul-le-mul-right, add-mul}
 use native.Mathlib.Omega.{arith}
 use Rattle.columns.specs.Columns.{recordsFor, placeOf, InTable}
@@ -9,6 +9,16 @@ use Rattle.columns.specs.declared.columns.RecordNo.{RecordNo}
 use Rattle.columns.specs.declared.columns.LineNo.{LineNo}
 
 module _ (section : RecordNo) (columns : ℕ) (line : LineNo) (column : ℕ) where
+  -- its record and its field
+  pub place-at : placeOf section columns line column .at .0
+      ≡ section .0 + (2 * recordsFor columns + ((line .0 - 1) * recordsFor columns + ((column - 1) / 6 + 1)))
+  unfolding placeOf
+  place-at = refl
+
+  pub place-field : placeOf section columns line column .field ≡ (column - 1) % 6
+  unfolding placeOf
+  place-field = refl
+
   pub place-behind : section .0 + 2 * recordsFor columns < placeOf section columns line column .at .0
   unfolding placeOf
   place-behind = omega arith

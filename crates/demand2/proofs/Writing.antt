@@ -1,11 +1,11 @@
 -- Writing comes to its canonical field, to 41 or to 40, and to nothing else.
 -- Assumes nothing.
 use Prim.Native.Nat.{ℕ}
-use mathlib.Core.Path.{_≡_, refl, sym, _∙_, subst}
-use mathlib.Core.Bool.{Bool, true, false, cond}
+use mathlib.Core.Path.{_≡_, refl, sym, ap, _∙_, subst}
+use mathlib.Core.Bool.{Bool, true, false}
 use mathlib.Core.List.{List}
 use native.Mathlib.Omega.{arith}
-use borrow.Author.Tests.{eqb-true, eq-eqb, leb-true, leb-false}
+use borrow.Author.Tests.{eqb-true, eqb-false, leb-true, leb-false}
 use lib.Dec.{eqb, leb}
 use lib.IntN.{ℤ}
 use lib.ListN.{length}
@@ -15,13 +15,14 @@ use Rattle.number.specs.Value.{Normal, Value, valueOf}
 use Rattle.number.specs.Reading.{readField}
 use Rattle.number.proofs.Laws.{value-found, value-one, reads-exactly}
 use Rattle.canonical.specs.declared.write.Written.{Written}
-use Rattle.canonical.specs.declared.write.Written.the-variants.{Done, Refused}
+use Rattle.canonical.specs.declared.write.Written.the-variants.{Refused}
 use Rattle.canonical_layout.specs.Canonical.{Best}
-use Rattle.canonical_layout.specs.Closed.{canonicalText, canonicalField}
-use Rattle.canonical.specs.Writing.{answered, storedField, written, bytes}
-use Rattle.canonical.proofs.Laws.{canonical-best, best-one, none-reads}
+use Rattle.canonical_layout.specs.Closed.{canonicalText}
+use Rattle.canonical.specs.Writing.{written, bytes}
+use Rattle.canonical.proofs.Laws.{canonical-one, canonical-best, best-one, none-reads, written-fits, written-wide}
+use Rattle.canonical.proofs.Laws.{written-short}
 use Rattle.demand2.specs.Writing.{NoneReads, Writes, its-field, no-field, no-room, WrittenSo, WrittenAlone}
-use Rattle.demand2.specs.Writing.{RefusedExactly}
+use Rattle.demand2.specs.Writing.{OneWins, RefusedExactly}
 
 -- ---- a decimal in its normal form
 
@@ -29,22 +30,24 @@ module _ (v : Decimal) (l : List ℕ) where
   abbrev columns : ℕ
   columns = length (canonicalText v)
 
-  by-tests : Normal v → (t u : Bool) → eqb (length l) 11 ≡ t → leb columns (length l) ≡ u
-      → Writes v l (cond t (cond u Done (Refused 41)) (Refused 40)) (cond t (cond u (canonicalField (length l) v) l) l)
-  by-tests h true true e d =
-      let w = eqb-true (length l) 11 e in
-      let k = leb-true columns (length l) d in
-      its-field _ w (subst (λ (n : ℕ). Best n v (canonicalField (length l) v)) w (canonical-best (length l) v h k))
-  by-tests h true false e d =
-      let w = eqb-true (length l) 11 e in
-      let k = leb-false columns (length l) d in
-      no-field w (λ m wide r. none-reads 11 v (omega arith) m wide r)
-  by-tests h false u e d =
-      no-room (λ w. let z = sym e ∙ eq-eqb (length l) 11 w in let q : _≡_ {A = ℕ} 0 1 = cc in omega arith)
-
   writes : Normal v → Writes v l (written l v) (bytes l v)
-  unfolding written bytes answered storedField
-  writes h = by-tests h (eqb (length l) 11) (leb columns (length l)) refl refl
+  writes h = by-tests (eqb (length l) 11) (leb columns 11) refl refl
+    where
+      by-tests : (t u : Bool) → eqb (length l) 11 ≡ t → leb columns 11 ≡ u → Writes v l (written l v) (bytes l v)
+      by-tests true true e d =
+          let w = eqb-true (length l) 11 e in
+          let k = leb-true columns 11 d in
+          let (a, b) = written-fits l v w k in
+          rw (a, b) (its-field _ w (canonical-best 11 v h k))
+      by-tests true false e d =
+          let w = eqb-true (length l) 11 e in
+          let k = leb-false columns 11 d in
+          let (a, b) = written-wide l v w (omega arith) in
+          rw (a, b) (no-field w (none-reads 11 v (omega arith)))
+      by-tests false u e d =
+          let n = eqb-false (length l) 11 e in
+          let (a, b) = written-short l v n in
+          rw (a, b) (no-room n)
 
   -- ---- no two
 
@@ -71,7 +74,7 @@ module _ (v : Decimal) (l : List ℕ) where
 
 module _ (negative : Bool) (a : ℕ) (p : ℤ) (v : Decimal) (h : Value negative a p v) where
   same : v ≡ valueOf negative a p
-  same = value-one h (value-found negative a p)
+  same = value-one negative a p v (valueOf negative a p) h (value-found negative a p)
 
   so : (l : List ℕ) → Writes v l (written l (valueOf negative a p)) (bytes l (valueOf negative a p))
   so l = subst (λ (u : Decimal). Writes v l (written l u) (bytes l u)) same (writes v l (h .normal))
@@ -81,6 +84,10 @@ written-so negative a p v h l = so negative a p v h l
 
 pub written-alone : WrittenAlone
 written-alone negative a p v h l r m x = one-way v l x (so negative a p v h l)
+
+pub one-wins : OneWins
+one-wins w v l e r =
+    let s = r .spells in canonical-one w v (r .field) (s .good) (ap length (s .same) ∙ e) (r .means)
 
 pub refused-exactly : RefusedExactly
 refused-exactly negative a p v h l w = (

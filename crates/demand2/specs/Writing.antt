@@ -10,11 +10,11 @@ use lib.IntN.{ℤ}
 use lib.ListN.{length}
 use Rattle.number.specs.declared.value.Decimal.{Decimal}
 use Rattle.number.specs.declared.value.Reading.the-variants.{Number}
-use Rattle.number.specs.Value.{Value, valueOf}
+use Rattle.number.specs.Value.{Value, Reads, valueOf}
 use Rattle.number.specs.Reading.{readField}
 use Rattle.canonical.specs.declared.write.Written.{Written}
 use Rattle.canonical.specs.declared.write.Written.the-variants.{Done, Refused}
-use Rattle.canonical_layout.specs.Canonical.{Best}
+use Rattle.canonical_layout.specs.Canonical.{Best, ExactlyOne}
 use Rattle.canonical.specs.Writing.{written, bytes}
 
 -- "no such field reads back as that decimal"
@@ -41,6 +41,10 @@ WrittenAlone =
     (negative : Bool) (a : ℕ) (p : ℤ) (v : Decimal) → Value negative a p v
     → (l : List ℕ) (r : Written) (m : List ℕ) → Writes v l r m
     → (r ≡ written l (valueOf negative a p)) × (m ≡ bytes l (valueOf negative a p))
+
+-- "That exactly one field wins is proved.": of every value that columns read to
+abbrev pub OneWins : Type 0
+OneWins = (w : ℕ) (v : Decimal) (l : List ℕ) → length l ≡ w → Reads l v → ExactlyOne w v
 
 -- "and is refused exactly when no such field reads back as that decimal"
 abbrev pub RefusedExactly : Type 0

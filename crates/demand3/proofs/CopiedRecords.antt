@@ -5,7 +5,7 @@ use mathlib.Core.Path.{_≡_, refl, sym, _∙_, ap}
 use mathlib.Core.Bool.{Bool, true, false, cond}
 use mathlib.Core.List.{List, []}
 use native.Mathlib.Omega.{arith}
-use lib.ListN.{length, getD, replicate, List·getD-eq-default}
+use lib.ListN.{length, getD, replicate}
 use Rattle.laws.specs.Blocks.{blockAt}
 use Rattle.laws.specs.Copies.{Passing}
 use Rattle.laws.proofs.Search.{either}
@@ -14,7 +14,7 @@ use Rattle.columns.specs.Fields.{fieldsOf}
 use Rattle.record.specs.Identifier.{identifierOf}
 use Rattle.columns.specs.declared.columns.RecordNo.{RecordNo}
 use Rattle.columns.specs.declared.columns.Place.{Place}
-use Rattle.columns.proofs.ReadColumns.{field-of}
+use Rattle.columns.proofs.ReadColumns.{field-of, past-fields}
 use Rattle.rules_state.specs.State.{Context}
 use Rattle.rules_state.specs.Role.{isValue}
 use Rattle.entry.specs.Verdict.{turnOf, Accepted}
@@ -77,10 +77,6 @@ module _ (s : List ℕ) (accepted : Accepted s) where
       let r = blockAt 81 s i in
       rw (field-of (blockAt 81 (copyOf s) i) 0 (omega arith), field-of r 0 (omega arith), copied-block s accepted i l)
       (identifier-kept c i r (contextAt s (suc i)) (walked s accepted .turns i l)))
-
-  past-fields : (r : List ℕ) (k : ℕ) → 6 ≤ k → getD (fieldsOf r) k [] ≡ []
-  unfolding fieldsOf
-  past-fields r k h = List·getD-eq-default (fieldsOf r) [] h
 
   -- every field of the copy reads alike
   pub copied-places : (p : Place) → readField (fieldOf (copyOf s) p) ≡ readField (fieldOf s p)

@@ -10,7 +10,7 @@ use lib.ListN.{replicate}
 use borrow.Author.Tests.{eq-eqb, ltb-true}
 use Rattle.laws.specs.Search.{first}
 use Rattle.laws.proofs.Search.{first-to, first-same}
-use Rattle.record.specs.System.{integerOf}
+use Rattle.record.proofs.BlankCount.{blank-count}
 use Rattle.columns.specs.declared.columns.RecordNo.{RecordNo}
 use Rattle.rules_system.specs.System.{countN2}
 use Rattle.entry.specs.declared.verdict.Verdict.{Verdict}
@@ -31,8 +31,7 @@ use Rattle.demand3.proofs.Parts.{NoValues, Words, fields-same, part-sam
 
 -- without a BIB section there are no text records
 no-count : countN2 (replicate 6 (replicate 11 32)) ≡ 0
-unfolding integerOf first
-no-count = refl
+no-count = blank-count
 
 none-there : (s : List ℕ) (bib : RecordNo) → bib .0 ≡ 0 → textRecords s bib ≡ 0
 unfolding textRecords fieldsAt

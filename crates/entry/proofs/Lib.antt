@@ -6,3 +6,5 @@ pub mod Walking
 pub mod AcceptedWalk
 pub mod FirstRefused
 pub mod FirstAlone
+pub mod Answers
+pub mod PartPlace

@@ -4,3 +4,4 @@ pub mod Contexts
 pub mod Pass
 pub mod First
 pub mod Answer
+pub mod Part

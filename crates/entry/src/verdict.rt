@@ -91,7 +91,8 @@ impl Judge {
                 totals,
             };
         }
-        refused(16, record_of(past), 0)
+        let at = record_of(past);
+        refused(16, at, 0)
     }
 }
 

@@ -1,11 +1,11 @@
 -- No answer is lost: it comes back from the word and the lent array, whatever stood in the array before.
 -- Assumes nothing.
 use mathlib.Core.Path.{_≡_, refl, ap, _∙_}
-use mathlib.Core.Bool.{Bool, true, false, cond}
+use mathlib.Core.Bool.{Bool, true, false}
 use mathlib.Core.List.{List}
 use Prim.Native.Nat.{ℕ, _+_, _*_, _/_, _%_, _^_, _<_}
 use native.Mathlib.Omega.{arith}
-use borrow.Author.Tests.{eqb-true, ne-eqb}
+use borrow.Author.Tests.{eqb-true, eqb-false, ne-eqb}
 use lib.Dec.{eqb}
 use lib.IntN.{pos, negℤ}
 use lib.ListN.{length}
@@ -14,7 +14,7 @@ use Rattle.number.specs.declared.value.Reading.{Reading}
 use Rattle.number.specs.declared.value.Reading.the-variants.{Blank, Number, Refused}
 use Rattle.number.specs.Value.{Says, blank, number, malformed}
 use Rattle.number.specs.Reading.{readField, readNumber}
-use Rattle.number.proofs.Laws.{read-bounds-eleven, reads-exactly, says-exactly}
+use Rattle.number.proofs.Laws.{read-bounds-eleven, reads-exactly, says-exactly, eleven-read, others-refused}
 use Rattle.columns.specs.declared.columns.RecordNo.{RecordNo}
 use Rattle.rules_state.specs.declared.state.Totals.{Totals}
 use Rattle.rules_state.proofs.EitherWay.{either-way}
@@ -25,6 +25,7 @@ use Rattle.entry.specs.Verdict.{refused, accepted, judgeOf}
 use Rattle.exports_words.specs.Words.{answerWord, answerIn, lentAfter}
 use Rattle.exports_words.specs.Values.{bit, twos, valueNumbers, readingAnswer, readingStored, readingIn}
 use Rattle.exports.specs.Verdicts.{verdictAnswer, totalsNumbers, verdictIn}
+use Rattle.exports.specs.Claims.{ReadingBack, VerdictBack}
 use Rattle.exports.proofs.Sizes.{NearRefusal, Fitting, accepting, refusing, judge-fits}
 use Rattle.exports_words.proofs.Twos.{twos-back}
 
@@ -121,14 +122,14 @@ held l w (Number v) (number x) =
 held l w (Refused n) (malformed x y) = (omega arith, omega arith)
 
 -- what a slice says comes back
-pub reading-back : (l before : List ℕ)
-    → readingIn (answerWord (readingAnswer (readNumber l))) (readingStored before (readNumber l)) ≡ readNumber l
-unfolding readNumber
+pub reading-back : ReadingBack
 reading-back l before = held-back before (readNumber l) (by-length (eqb (length l) 11) refl)
   where
-    by-length : (t : Bool) → eqb (length l) 11 ≡ t → Held (cond t (readField l) (Refused 40))
-    by-length true e = held l (eqb-true (length l) 11 e) (readField l) (says-exactly l (readField l) .0 refl)
-    by-length false e = (omega arith, omega arith)
+    by-length : (t : Bool) → eqb (length l) 11 ≡ t → Held (readNumber l)
+    by-length true e =
+        let w = eqb-true (length l) 11 e in
+        rw (eleven-read l w) (held l w (readField l) (says-exactly l (readField l) .0 refl))
+    by-length false e = rw (others-refused l (eqb-false (length l) 11 e)) (omega arith, omega arith)
 
 -- ---- verdicts
 
@@ -160,8 +161,5 @@ fitting-back before (accepting t) = accepted-back before t
 fitting-back before (refusing n at k z h) = rw (answer-refused n at k z) (refused-in n at k z h _)
 
 -- the verdict on an entry comes back
-pub verdict-back : (s before : List ℕ)
-    → verdictIn (answerWord (verdictAnswer (judgeOf s)))
-    (lentAfter (judgeOf s .refusal) before (totalsNumbers (judgeOf s .totals)))
-    ≡ judgeOf s
+pub verdict-back : VerdictBack
 verdict-back s before = fitting-back before (judge-fits s)

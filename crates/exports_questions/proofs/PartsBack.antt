@@ -19,9 +19,11 @@ use Rattle.questions.specs.Ask.{sectionIn, columnRefusal, headingBy, headingAsk
 use Rattle.questions.specs.Ask.{passageBy, passageAsked, sectionRefusals, noColumn, noPassage}
 use Rattle.questions.specs.Ask.{noPart, partFrom, partWith}
 use Rattle.exports_words.specs.Words.{answerWord, answerIn, lentAfter}
+use Rattle.exports_questions.specs.Claims.{HeadingBack, UnitBack, PassageBack}
 use Rattle.exports_questions.specs.Questions.{partStored, partIn}
 use Rattle.exports.proofs.Laws.{Fits, word-back, answer-fits}
-use Rattle.exports_questions.proofs.Refusals.{answer-number, Numbered, one, section-numbered}
+use Rattle.entry.proofs.Answers.{answer-number}
+use Rattle.exports_questions.proofs.Refusals.{Numbered, one, section-numbered}
 
 -- ---- parts
 
@@ -57,9 +59,7 @@ part-back s before number from bytes pointer few = by-number (eqb number 0) refl
 
 -- ---- the parts of an entry
 
-pub heading-back : (s before : List ℕ) (n section column : ℕ)
-    → let p = headingAsked s n section column in
-    partIn (answerWord (p .answer)) (partStored before p) ≡ p
+pub heading-back : HeadingBack
 unfolding headingAsked headingBy columnRefusal
 heading-back s before n section column =
     let x = rowOf s n in
@@ -69,9 +69,7 @@ heading-back s before n section column =
     part-back s before (firstOf (sectionRefusals s (judgeOf s) x at ++ last)) (byteOf place) 10
     (pointerOf (fieldOf s place)) (section-numbered s x at last (one 35 (omega arith) (omega arith), tt))
 
-pub unit-back : (s before : List ℕ) (n section column : ℕ)
-    → let p = unitAsked s n section column in
-    partIn (answerWord (p .answer)) (partStored before p) ≡ p
+pub unit-back : UnitBack
 unfolding unitAsked unitBy columnRefusal
 unit-back s before n section column =
     let x = rowOf s n in
@@ -82,9 +80,7 @@ unit-back s before n section column =
     (byteOf (unitPlace at (shape .columns) column)) 10 (pointerOf (fieldOf s (headingPlace at column)))
     (section-numbered s x at last (one 35 (omega arith) (omega arith), tt))
 
-pub passage-back : (s before : List ℕ) (n : ℕ) (keyword : List ℕ) (pointer : ℕ)
-    → let p = passageAsked s n keyword pointer in
-    partIn (answerWord (p .answer)) (partStored before p) ≡ p
+pub passage-back : PassageBack
 unfolding passageAsked passageBy passageRefusal
 passage-back s before n keyword pointer =
     let x = rowOf s n in

@@ -1,31 +1,16 @@
 -- The numbers of refusals of questions: they fit their words.
 -- Assumes nothing.
 use Prim.Native.Nat.{ℕ, _^_, _<_, _≤_}
-use mathlib.Core.Path.{_≡_, refl, sym}
-use mathlib.Core.Bool.{Bool, true, false, cond}
+use mathlib.Core.Path.{_≡_, refl}
 use mathlib.Core.List.{List, [], _∷_, _++_}
 use native.Mathlib.Omega.{arith}
-use borrow.Author.Tests.{eqb-true}
-use lib.Dec.{eqb}
 use Rattle.laws.specs.Walk.{All}
 use Rattle.columns.specs.declared.columns.RecordNo.{RecordNo}
 use Rattle.rules_state.proofs.EitherWay.{either-way}
-use Rattle.entry.specs.declared.verdict.Verdict.{Verdict}
 use Rattle.entry.specs.Verdict.{judgeOf}
-use Rattle.entry.specs.Answer.{Refusal, refusal, firstOf, answerOf, answerFor}
+use Rattle.entry.specs.Answer.{Refusal, firstOf}
 use Rattle.questions_rows.specs.declared.row.Row.{Row}
 use Rattle.questions.specs.Ask.{sectionRefusals}
-
-pub answer-number : (v : Verdict) (number : ℕ) → answerFor v number .number ≡ number
-answer-number v number = by-test (eqb number 31) refl
-  where
-    by-test : (b : Bool) → eqb number 31 ≡ b
-        → cond b (record { number = 31; refusal = v .refusal; «record» = v .«record»; column = v .column })
-        (answerOf number) .number ≡ number
-    by-test true e = sym (eqb-true number 31 e)
-    by-test false e = refl
-
--- ---- the numbers of refusals
 
 -- 0, or one from 31 on that has room
 pub record Numbered (n : ℕ) : Type 0 where

@@ -15,7 +15,6 @@ use Rattle.number.specs.declared.value.Reading.the-variants.{Blank, Number, Ref
 use Rattle.number.specs.Value.{Says, malformed}
 use Rattle.number.specs.Reading.{readField}
 use Rattle.number.proofs.Laws.{says-exactly}
-use Rattle.columns.specs.declared.columns.LineNo.{LineNo}
 use Rattle.columns.specs.declared.columns.Place.{Place}
 use Rattle.columns.specs.Columns.{placeOf}
 use Rattle.columns.specs.Fields.{fieldAt, fieldsOf}
@@ -33,9 +32,11 @@ use Rattle.questions.proofs.Parts.{value-field}
 use Rattle.copy.specs.Call.{copied}
 use Rattle.exports_words.specs.Words.{answerWord, answerIn, lentAfter}
 use Rattle.exports_words.specs.Values.{readingAnswer, readingStored}
+use Rattle.exports_questions.specs.Claims.{ValueBack, CopiedBack}
 use Rattle.exports_questions.specs.Questions.{valueAnswer, valueStored, valueAnswerIn}
 use Rattle.exports.proofs.Laws.{Fits, word-back, answer-fits, held, held-back}
-use Rattle.exports_questions.proofs.Refusals.{answer-number, Numbered, one, first-numbered, section-numbered}
+use Rattle.entry.proofs.Answers.{answer-number}
+use Rattle.exports_questions.proofs.Refusals.{Numbered, one, first-numbered, section-numbered}
 
 -- a field of an entry is that of a record, or blank
 field-cases : (P : List ℕ → Type 0) (s : List ℕ) (p : Place) → p .field ≤ 5
@@ -97,9 +98,7 @@ value-with s before number l h w = by-number (eqb number 0) refl
         rw (same, e)
         (refused-value before (answerFor (judgeOf s) number) (answer-fits s number (h .few)) (rw same far))
 
-pub value-back : (s before : List ℕ) (n section : ℕ) (line : LineNo) (column : ℕ)
-    → let v = valueAsked s n section line column in
-    valueAnswerIn (answerWord (valueAnswer v)) (valueStored before v) ≡ v
+pub value-back : ValueBack
 unfolding valueAsked valueBy valueRefusal
 value-back s before n section line column =
     let x = rowOf s n in
@@ -114,7 +113,7 @@ value-back s before n section line column =
 
 -- ---- a copy
 
-pub copied-back : (s : List ℕ) (room : ℕ) → answerIn (answerWord (copied s room)) ≡ copied s room
+pub copied-back : CopiedBack
 unfolding copied
 copied-back s room =
     let list = refusal 31 (isRefused (judgeOf s)) ∷ refusal 37 (ltb room (length s)) ∷ [] in

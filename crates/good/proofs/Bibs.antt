@@ -10,6 +10,9 @@ use borrow.Author.Tests.{eqb-true}
 use Rattle.laws.specs.Blocks.{joined}
 use Rattle.columns.specs.Fields.{fieldsOf, n1, n2}
 use Rattle.record.specs.Identifier.{BIB, NOBIB, ENDBIB}
+use Rattle.record_words.specs.Word.{equalTo}
+use Rattle.record.specs.Plain.{SameColumns}
+use Rattle.record.proofs.PlainColumns.{equal-exactly}
 use Rattle.rules_state.specs.declared.state.Phase.the-variants.{InSubentry}
 use Rattle.rules_state.specs.State.{Context}
 use Rattle.rules_state.specs.Role.{TEXT}
@@ -17,7 +20,8 @@ use Rattle.rules_system.specs.System.{trueCount, countN1, countN2}
 use Rattle.entry.specs.Verdict.{isDone}
 use Rattle.good.specs.Parts.{Record, Bib, Section, present, absent, textsOf, bibRecords}
 use Rattle.good.specs.Marks.{Marked, Following, nameOf}
-use Rattle.good.specs.Bib.{GoodBibPart}
+use Rattle.good.specs.Bib.{GoodBibPart, keywordPlaces}
+use Rattle.good.proofs.Repeats.{once-said, said-once}
 use Rattle.good.proofs.Steps.{Takes, next, Passes, next-pass}
 use Rattle.good.proofs.Runs.{only-role, either-left, either-right, pass-only, pass-either, rest-of}
 use Rattle.good.proofs.Runs.{Step, Run, afterRun}
@@ -97,7 +101,7 @@ ended-bib c r xs ys z done named t l run left p =
         records = says-as (n2 (fieldsOf r)) (countN2 (fieldsOf r)) (length (textsOf (ks .keywords))) (a .second)
             (sym l ∙ n);
         each = ks .each;
-        once = ks .once;
+        once = once-said (equalTo 10) (SameColumns 10) (equal-exactly 10) [] (keywordPlaces (ks .keywords)) (ks .once);
         ends = s .named;
         between = says-as (n1 (fieldsOf e)) (c2 .track .section) (length (textsOf (ks .keywords))) between sec;
       };
@@ -160,7 +164,8 @@ bib-pass c (present b) rest z e g f p =
     let k : countN1 (fieldsOf r) ≡ length (b .keywords) = counted1 r (length (b .keywords)) (g .keywords) in
     let (l1, l2) = bib-limits (length (b .keywords)) (length texts) (g .least) (keywords-least (b .keywords)) in
     let fine = keywords-fine (identificationIn c) (c .track .subentry .records + 3) [] [] [] (b .keywords)
-    (record { same = λ f w. refl }) (g .each) (g .once)
+    (record { same = λ f w. refl }) (g .each)
+    (said-once (equalTo 10) (SameColumns 10) (equal-exactly 10) [] (keywordPlaces (b .keywords)) (g .once))
     (following-as (identificationIn c) (identificationIn c) (c .track .subentry .records + 2 + 1)
     (c .track .subentry .records + 3) texts refl (omega arith)
     (following-left (identificationIn c) (c .track .subentry .records + 2 + 1) texts (b .ending ∷ []) (f .1))) in

@@ -1,5 +1,5 @@
 -- The cells of a row: by record and field, and by column. Assumes nothing.
-use Prim.Native.Nat.{ℕ, zero, suc, _+_, _-_, _*_, _/_, _%_, _<_, _≤_}
+use Prim.Native.Nat.{ℕ, suc, _+_, _-_, _*_, _/_, _%_, _<_, _≤_}
 use mathlib.Core.Path.{_≡_, refl, ap}
 use mathlib.Core.Bool.{Bool, true, false, cond}
 use mathlib.Core.List.{List, [], _∷_, _++_}
@@ -9,6 +9,7 @@ use lib.ListN.{length, getD}
 use borrow.Author.Tests.{leb-true, leb-false}
 use Rattle.laws.proofs.Search.{either}
 use Rattle.columns.specs.Fields.{fieldAt, fieldsOf}
+use Rattle.columns.proofs.ReadColumns.{field-of}
 use Rattle.rules_state.specs.declared.state.Track.{Track}
 use Rattle.rules_state.specs.State.{used}
 use Rattle.good.specs.Parts.{Record}
@@ -18,14 +19,7 @@ use Rattle.good.proofs.Rowwise.{RowFine}
 -- ---- a record's fields
 
 pub field-at : (r : Record) (j : ℕ) → j < 6 → getD (fieldsOf r) j [] ≡ fieldAt r j
-unfolding fieldsOf
-field-at r zero l = refl
-field-at r (suc zero) l = refl
-field-at r (suc (suc zero)) l = refl
-field-at r (suc (suc (suc zero))) l = refl
-field-at r (suc (suc (suc (suc zero)))) l = refl
-field-at r (suc (suc (suc (suc (suc zero))))) l = refl
-field-at r (suc (suc (suc (suc (suc (suc j)))))) l = absurd (omega arith)
+field-at r j l = field-of r j l
 
 -- six, or what is left of the columns
 abbrev pub few : ℕ → ℕ

@@ -17,6 +17,7 @@ use Rattle.columns.specs.Columns.{recordsFor}
 use Rattle.columns.specs.Fields.{fieldAt, fieldsOf, inField}
 use Rattle.columns.specs.Text.{isBlank}
 use Rattle.record_words.specs.Word.{isWord, blankTo, pointerOf, pointerFault, headingFault}
+use Rattle.record.proofs.PlainColumns.{blank-exactly, word-exactly, pointer-exactly}
 use Rattle.rules_state.specs.State.{Context, used}
 use Rattle.rules_state.specs.Role.{DATA-HEADING, NOT-DUE, isHeading}
 use Rattle.rules_state.specs.Fault.{fieldColumn, pointerColumn}
@@ -111,13 +112,16 @@ module _ (d : Bool) (first common : List Record) (pointers : List ℕ) where
         cells = record {
           used = λ j l a.
               record {
-                word = not-false (isWord 10 (fieldAt r j))
-                    (rw (u, lt-ltb j (few rest) (few-below rest j l a), field-at r j l) at (h12 j l));
-                pointer = rw (u, lt-ltb j (few rest) (few-below rest j l a), field-at r j l) at (h11 j l);
+                word = word-exactly 10 (fieldAt r j) .0
+                    (not-false (isWord 10 (fieldAt r j))
+                    (rw (u, lt-ltb j (few rest) (few-below rest j l a), field-at r j l) at (h12 j l)));
+                pointer = pointer-exactly (fieldAt r j) .0
+                    (rw (u, lt-ltb j (few rest) (few-below rest j l a), field-at r j l) at (h11 j l));
               };
           unused = λ j l a.
-              not-false (blankTo 11 (fieldAt r j))
-              (rw (u, le-ltb j (few rest) (few-past rest j l a), field-at r j l) at (h12 j l));
+              blank-exactly 11 (fieldAt r j) .0
+              (not-false (blankTo 11 (fieldAt r j))
+              (rw (u, le-ltb j (few rest) (few-past rest j l a), field-at r j l) at (h12 j l)));
         };
         new = λ j l a.
             search-new first common before r j (fieldAt r j) (k .long-first) (k .long-common) (k .long-before)
@@ -147,14 +151,21 @@ module _ (d : Bool) (first common : List Record) (pointers : List ℕ) where
             (λ j l.
             rw (u, field-at r j l)
             (either j rest
-            (λ a. rw (lt-ltb j (few rest) (few-below rest j l a)) (f .cells .used j l a .pointer))
+            (λ a. rw (lt-ltb j (few rest) (few-below rest j l a))
+            (pointer-exactly (fieldAt r j) .1 (f .cells .used j l a .pointer)))
             (λ a. rw (le-ltb j (few rest) (few-past rest j l a))))))
             (none-where (inField (headingFault (used (c .track))) (fieldsOf r)) fieldColumn 6
             (λ j l.
             rw (u, field-at r j l)
             (either j rest
-            (λ a. rw (lt-ltb j (few rest) (few-below rest j l a), f .cells .used j l a .word))
-            (λ a. rw (le-ltb j (few rest) (few-past rest j l a), f .cells .unused j l a)))))
+            (λ a. rw (
+              lt-ltb j (few rest) (few-below rest j l a),
+              word-exactly 10 (fieldAt r j) .1 (f .cells .used j l a .word),
+            ))
+            (λ a. rw (
+              le-ltb j (few rest) (few-past rest j l a),
+              blank-exactly 11 (fieldAt r j) .1 (f .cells .unused j l a),
+            )))))
             (none-where (headingRepeated (c .seen .common001) (c .seen .common) (c .seen .table) r (fieldsOf r))
             fieldColumn (used (c .track))
             (λ j l.

@@ -2,27 +2,46 @@
 use Prim.Native.Nat.{ℕ, _+_, _≤_}
 use mathlib.Core.Path.{_≡_, refl, sym, _∙_, ap}
 use mathlib.Core.Bool.{Bool, true, false, cond, not, _&&_}
+use mathlib.Core.Logic.{_↔_}
 use mathlib.Core.List.{List, [], _∷_, _++_, map, map-append}
 use native.Mathlib.Omega.{arith}
 use lib.Dec.{eqb}
 use lib.ListN.{length, length-append}
-use borrow.Author.Tests.{ne-eqb, not-false}
-use Rattle.laws.proofs.Booleans.{differ, or-left, or-right, cond-itself}
+use borrow.Author.Tests.{eqb-true, eqb-false, eq-eqb, ne-eqb, not-true, not-false}
+use Rattle.laws.proofs.Booleans.{differ, and-left, and-right, or-left, or-right, cond-itself}
 use Rattle.laws.proofs.Listing.{any-and}
 use Rattle.laws.specs.Walk.{All}
 use Rattle.laws.specs.Members.{anyOf}
 use Rattle.laws.proofs.Members.{any-append}
 use Rattle.columns.specs.Text.{isBlank}
 use Rattle.record_words.specs.Word.{blankTo, equalTo, isWord, pointerOf}
+use Rattle.record.specs.Plain.{BlankColumns}
 use Rattle.good.specs.Parts.{Record, Keyword, textsOf}
-use Rattle.good.specs.Marks.{Following, Once}
-use Rattle.good.specs.Bib.{bibPlace, Text, samePointer, pointersIn, GoodKeyword, keywordPlaces}
+use Rattle.good.specs.Marks.{Following}
+use Rattle.good.specs.Bib.{bibPlace, Text, SamePointer, pointersIn, GoodKeyword, keywordPlaces}
 use Rattle.record_words.proofs.WordsAndBlanks.{word-blank, word-differs}
+use Rattle.record.proofs.PlainColumns.{and-both, blank-exactly, word-exactly, pointer-exactly}
+use Rattle.good.proofs.Repeats.{OnceBy, once-said, said-once}
 use Rattle.good.proofs.TextContexts.{bearing}
 use Rattle.good.proofs.Texts.{TextFine, TextsFine, underAfter}
 
 abbrev BlankPlace : Record → Type 0
-BlankPlace r = blankTo 10 (bibPlace r) ≡ true
+BlankPlace r = BlankColumns 10 (bibPlace r)
+
+place-computed : (r : Record) → BlankPlace r → blankTo 10 (bibPlace r) ≡ true
+place-computed r b = blank-exactly 10 (bibPlace r) .1 b
+
+abbrev samePointer : ℕ → ℕ → Bool
+samePointer p q = not (isBlank p) && eqb p q
+
+pointers-agree : (p q : ℕ) → (samePointer p q ≡ true) ↔ SamePointer p q
+pointers-agree p q = (
+  λ e. (
+    eqb-false p 32 (not-true (isBlank p) (and-left (not (isBlank p)) (eqb p q) e)),
+    eqb-true p q (and-right (not (isBlank p)) (eqb p q) e),
+  ),
+  λ s. and-both (ap not (ne-eqb p 32 (s .0))) (eq-eqb p q (s .1)),
+)
 
 -- among the places of the records before, a word is found exactly where it is among the keywords before
 pub record Places (before : List Record) (places : List (List ℕ)) : Type 0 where
@@ -41,7 +60,8 @@ place-blank before places r e p =
       same = λ f w.
           ap (anyOf (equalTo 10 f)) (map-append bibPlace before (r ∷ []))
           ∙ any-one f (map bibPlace before) (bibPlace r)
-          ∙ rw (word-differs f (bibPlace r) w e, p .same f w) (cond-itself (anyOf (equalTo 10 f) places));
+          ∙ rw (word-differs f (bibPlace r) w (place-computed r e), p .same f w)
+          (cond-itself (anyOf (equalTo 10 f) places));
     }
 
 place-word : (before : List Record) (places : List (List ℕ)) (r : Record) → Places before places
@@ -65,7 +85,7 @@ pub record Keywords (places : List (List ℕ)) (texts : List Record) : Type 0 wh
   pub keywords : List Keyword
   pub split : texts ≡ textsOf keywords
   pub each : All GoodKeyword keywords
-  pub once : Once (equalTo 10) places (keywordPlaces keywords)
+  pub once : OnceBy (equalTo 10) places (keywordPlaces keywords)
 
 -- behind a keyword: the records that are still under it, then keywords
 record Grouped (under : List Record) (places : List (List ℕ)) (texts : List Record) : Type 0 where
@@ -74,17 +94,17 @@ record Grouped (under : List Record) (places : List (List ℕ)) (texts : List Re
   split : texts ≡ more ++ rest
   blank : All BlankPlace more
   fine : All Text more
-  pointers : Once samePointer (pointersIn under) (pointersIn more)
+  pointers : OnceBy samePointer (pointersIn under) (pointersIn more)
   behind : Keywords places rest
 
 text-of : (before under : List Record) (r : Record) → TextFine before under r → Text r
-text-of before under r f = record { no-system = f .other; pointer = f .pointer }
+text-of before under r f = record { no-system = f .other; pointer = pointer-exactly (bibPlace r) .0 (f .pointer) }
 
 -- a keyword, with what is grouped behind it
 begin : (before under : List Record) (places : List (List ℕ)) (r : Record) (rs : List Record) → Places before places
     → blankTo 10 (bibPlace r) ≡ false → TextFine before under r
     → (isWord 10 (bibPlace r) ≡ true → Grouped (r ∷ []) (places ++ (bibPlace r ∷ [])) rs) → Keywords places (r ∷ rs)
-unfolding textsOf Once anyOf
+unfolding textsOf OnceBy anyOf
 begin before under places r rs p e f next =
     let k = rw e at (f .keyword) in
     let w =
@@ -98,10 +118,10 @@ begin before under places r rs p e f next =
           ap (λ (x : List Record). r ∷ x) (g .split ∙ ap (λ (x : List Record). g .more ++ x) (g .behind .split));
       each = (
         record {
-          word = w;
+          word = word-exactly 10 (bibPlace r) .0 w;
           blank = g .blank;
           texts = (text-of before under r f, g .fine);
-          pointers = (refl, g .pointers);
+          pointers = once-said samePointer SamePointer pointers-agree [] (pointersIn (r ∷ g .more)) (refl, g .pointers);
         },
         g .behind .each,
       );
@@ -110,7 +130,7 @@ begin before under places r rs p e f next =
 
 group : (identification : List ℕ) (n : ℕ) (before under : List Record) (places : List (List ℕ)) (rs : List Record)
     → Places before places → TextsFine identification n before under rs → Grouped under places rs
-unfolding TextsFine Once textsOf
+unfolding TextsFine OnceBy textsOf
 group identification n before under places [] p h =
     record {
       more = [];
@@ -124,7 +144,7 @@ group identification n before under places [] p h =
 group identification n before under places (r ∷ rs) p h =
     by-test (blankTo 10 (bibPlace r)) refl
     (λ e. group identification (n + 1) (before ++ (r ∷ [])) (under ++ (r ∷ [])) places rs
-    (place-blank before places r e p) (rw e at (h .2)))
+    (place-blank before places r (blank-exactly 10 (bibPlace r) .0 e) p) (rw e at (h .2)))
     (λ e. group identification (n + 1) (before ++ (r ∷ [])) (r ∷ []) (places ++ (bibPlace r ∷ [])) rs
     (place-word before places r p) (rw e at (h .2)))
   where
@@ -138,7 +158,7 @@ group identification n before under places (r ∷ rs) p h =
           more = r ∷ g .more;
           rest = g .rest;
           split = ap (λ (x : List Record). r ∷ x) (g .split);
-          blank = (e, g .blank);
+          blank = (blank-exactly 10 (bibPlace r) .0 e, g .blank);
           fine = (text-of before under r (h .1), g .fine);
           pointers = (
             any-and (not (isBlank (pointerOf (bibPlace r)))) (eqb (pointerOf (bibPlace r))) (pointersIn under)
@@ -161,7 +181,7 @@ group identification n before under places (r ∷ rs) p h =
 -- the text records of a section are its keywords
 pub fine-keywords : (identification : List ℕ) (n : ℕ) (rs : List Record)
     → TextsFine identification n [] [] rs → Keywords [] rs
-unfolding TextsFine Once textsOf
+unfolding TextsFine OnceBy textsOf
 fine-keywords identification n [] h = record { keywords = []; split = refl; each = tt; once = tt }
 fine-keywords identification n (r ∷ rs) h = by-test (blankTo 10 (bibPlace r)) refl
   where
@@ -183,46 +203,50 @@ fine-following identification n before under (r ∷ rs) h =
 
 more-fine : (identification : List ℕ) (n : ℕ) (before under : List Record) (places : List (List ℕ))
     (more rest : List Record) → 1 ≤ length before → Places before places → All BlankPlace more → All Text more
-    → Once samePointer (pointersIn under) (pointersIn more) → Following identification n (more ++ rest)
+    → OnceBy samePointer (pointersIn under) (pointersIn more) → Following identification n (more ++ rest)
     → ((n : ℕ) (before under : List Record) → 1 ≤ length before → Places before places → Following identification n rest
     → TextsFine identification n before under rest)
     → TextsFine identification n before under (more ++ rest)
-unfolding TextsFine Following Once
+unfolding TextsFine Following OnceBy
 more-fine identification n before under places [] rest l p b t o m k = k n before under l p m
 more-fine identification n before under places (r ∷ more) rest l p b t o m k = (
   m .0,
   record {
     other = t .0 .no-system;
-    keyword = rw (b .0) (ne-eqb (length before) 0 (λ e. omega arith));
-    pointer = t .0 .pointer;
-    repeated = rw (b .0)
-        (sym (any-and (not (isBlank (pointerOf (bibPlace r)))) (eqb (pointerOf (bibPlace r))) (pointersIn under)) ∙ o .0);
+    keyword = rw (place-computed r (b .0)) (ne-eqb (length before) 0 (λ e. omega arith));
+    pointer = pointer-exactly (bibPlace r) .1 (t .0 .pointer);
+    repeated = rw (place-computed r (b .0))
+        (sym (any-and (not (isBlank (pointerOf (bibPlace r)))) (eqb (pointerOf (bibPlace r))) (pointersIn under))
+        ∙ o .0);
   },
-  rw (b .0)
+  rw (place-computed r (b .0))
       (more-fine identification (n + 1) (before ++ (r ∷ [])) (under ++ (r ∷ [])) places more rest
       (rw length-append (omega arith)) (place-blank before places r (b .0) p) (b .1) (t .1)
       (rw (map-append (λ (x : Record). pointerOf (bibPlace x)) under (r ∷ [])) (o .1)) (m .1) k),
 )
 
 pub keywords-fine : (identification : List ℕ) (n : ℕ) (before under : List Record) (places : List (List ℕ))
-    (ks : List Keyword) → Places before places → All GoodKeyword ks → Once (equalTo 10) places (keywordPlaces ks)
+    (ks : List Keyword) → Places before places → All GoodKeyword ks → OnceBy (equalTo 10) places (keywordPlaces ks)
     → Following identification n (textsOf ks) → TextsFine identification n before under (textsOf ks)
-unfolding TextsFine Following Once textsOf anyOf
+unfolding TextsFine Following OnceBy textsOf anyOf
 keywords-fine identification n before under places [] p each once m = tt
 keywords-fine identification n before under places (k ∷ ks) p each once m =
     let g = each .0 in
-    let b = word-blank (bibPlace (k .first)) (g .word) in (
+    let w = word-exactly 10 (bibPlace (k .first)) .1 (g .word) in
+    let pointers =
+    said-once samePointer SamePointer pointers-agree [] (pointersIn (k .first ∷ k .more)) (g .pointers) in
+    let b = word-blank (bibPlace (k .first)) w in (
       m .0,
       record {
         other = g .texts .0 .no-system;
-        keyword = rw (b, g .word, p .same (bibPlace (k .first)) (g .word)) (once .0);
-        pointer = g .texts .0 .pointer;
+        keyword = rw (b, w, p .same (bibPlace (k .first)) w) (once .0);
+        pointer = pointer-exactly (bibPlace (k .first)) .1 (g .texts .0 .pointer);
         repeated = rw b (no-and (not (isBlank (pointerOf (bibPlace (k .first))))));
       },
       rw b
           (more-fine identification (n + 1) (before ++ (k .first ∷ [])) (k .first ∷ [])
           (places ++ (bibPlace (k .first) ∷ [])) (k .more) (textsOf ks) (rw length-append (omega arith))
-          (place-word before places (k .first) p) (g .blank) (g .texts .1) (g .pointers .1) (m .1)
+          (place-word before places (k .first) p) (g .blank) (g .texts .1) (pointers .1) (m .1)
           (λ n before under l p m. keywords-fine identification n before under
           (places ++ (bibPlace (k .first) ∷ [])) ks p
           (each .1) (once .1) m)),
@@ -237,13 +261,13 @@ keywords-fine identification n before under places (k ∷ ks) p each once m =
 bearing-append : (xs ys : List Record) → All BlankPlace xs → bearing (xs ++ ys) ≡ bearing ys
 unfolding bearing
 bearing-append [] ys b = refl
-bearing-append (x ∷ xs) ys b = rw (b .0) (let e = bearing-append xs ys (b .1) in omega arith)
+bearing-append (x ∷ xs) ys b = rw (place-computed x (b .0)) (let e = bearing-append xs ys (b .1) in omega arith)
 
 pub bearing-keywords : (ks : List Keyword) → All GoodKeyword ks → bearing (textsOf ks) ≡ length ks
 unfolding bearing textsOf
 bearing-keywords [] g = refl
 bearing-keywords (k ∷ ks) g =
-    rw (word-blank (bibPlace (k .first)) (g .0 .word))
+    rw (word-blank (bibPlace (k .first)) (word-exactly 10 (bibPlace (k .first)) .1 (g .0 .word)))
     (let a = bearing-append (k .more) (textsOf ks) (g .0 .blank) in
     let e = bearing-keywords ks (g .1) in
     omega arith)

@@ -25,7 +25,7 @@ use Rattle.good.specs.Subentries.{ownNumber, NoneTwice, pointersOn, Good
 use Rattle.good.specs.Totals.{keywordsIn, linesIn, numbersOf}
 use Rattle.good.proofs.Steps.{next}
 use Rattle.good.proofs.Lists.{Long}
-use Rattle.good.proofs.Repeats.{once-append, once-left, once-right}
+use Rattle.good.proofs.Repeats.{twice-said, said-twice, once-append, once-left, once-right}
 use Rattle.good.proofs.Marks.{following-long}
 use Rattle.good.proofs.HeadingsByColumn.{NewIn}
 use Rattle.good.proofs.TableKinds.{GoodPart}
@@ -164,12 +164,14 @@ pub headings-together : (first : Subentry001) (common values : Section Table) �
     (headingRows values) x)
     → NoneTwice (headingsOfPart (first .common) ++ (headingsOfPart common ++ headingsOfPart values))
 headings-together first common values g h a b new =
-    once-append (equalTo 11) [] (headingsOfPart (first .common)) (headingsOfPart common ++ headingsOfPart values) a
+    twice-said (headingsOfPart (first .common) ++ (headingsOfPart common ++ headingsOfPart values))
+    (once-append (equalTo 11) [] (headingsOfPart (first .common)) (headingsOfPart common ++ headingsOfPart values)
+    (said-twice (headingsOfPart (first .common)) a)
     (once-append (equalTo 11) (headingsOfPart (first .common)) (headingsOfPart common) (headingsOfPart values)
     (rw (← part-headings (first .common)) at b)
     (rw (part-headings (first .common), part-headings common, part-headings values)
     (new-once (headingRows (first .common)) (headingRows common) (headingRows values) (columnsIn (first .common))
-    (columnsIn common) (columnsIn values) (part-shown false (first .common) g) (part-shown false common h) new)))
+    (columnsIn common) (columnsIn values) (part-shown false (first .common) g) (part-shown false common h) new))))
 
 pub together-common : (first : Subentry001) (common values : Section Table)
     → NoneTwice (headingsOfPart (first .common) ++ (headingsOfPart common ++ headingsOfPart values))
@@ -177,7 +179,8 @@ pub together-common : (first : Subentry001) (common values : Section Table)
 together-common first common values h =
     rw (← part-headings (first .common))
     (once-left (equalTo 11) (headingsOfPart (first .common)) (headingsOfPart common) (headingsOfPart values)
-    (once-right (equalTo 11) [] (headingsOfPart (first .common)) (headingsOfPart common ++ headingsOfPart values) h))
+    (once-right (equalTo 11) [] (headingsOfPart (first .common)) (headingsOfPart common ++ headingsOfPart values)
+    (said-twice (headingsOfPart (first .common) ++ (headingsOfPart common ++ headingsOfPart values)) h)))
 
 pub together-new : (first : Subentry001) (common values : Section Table) → GoodPart false (first .common)
     → GoodPart false common → GoodPart true values
@@ -190,4 +193,5 @@ together-new first common values f g v h =
     (part-words true values v)
     (rw (part-headings (first .common), part-headings common, part-headings values) at
     (once-right (equalTo 11) (headingsOfPart (first .common)) (headingsOfPart common) (headingsOfPart values)
-    (once-right (equalTo 11) [] (headingsOfPart (first .common)) (headingsOfPart common ++ headingsOfPart values) h)))
+    (once-right (equalTo 11) [] (headingsOfPart (first .common)) (headingsOfPart common ++ headingsOfPart values)
+    (said-twice (headingsOfPart (first .common) ++ (headingsOfPart common ++ headingsOfPart values)) h))))

@@ -22,6 +22,7 @@ pub mod Earlier
 pub mod Headings
 pub mod HeadingsByColumn
 pub mod Lines
+pub mod LineNumbers
 pub mod TableKinds
 pub mod TableContexts
 pub mod TableWalked

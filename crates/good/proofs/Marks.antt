@@ -1,6 +1,6 @@
 -- Laws of the marks of a record: the count that a field says, and records that follow one another. Assumes nothing.
 use Prim.Native.Nat.{ℕ, suc, _+_}
-use mathlib.Core.Path.{_≡_, refl, sym, _∙_, ap}
+use mathlib.Core.Path.{_≡_, refl, sym, ap, subst}
 use mathlib.Core.Bool.{true}
 use mathlib.Core.List.{List, [], _∷_, _++_}
 use native.Mathlib.Omega.{arith}
@@ -11,6 +11,7 @@ use Rattle.columns.specs.Fields.{fieldsOf, n1, n2}
 use Rattle.record.specs.System.{countOf, isCount, numberOf}
 use Rattle.record.specs.declared.system.Count.{Count}
 use Rattle.record.specs.declared.system.Count.the-variants.{Number, Bad}
+use Rattle.record.proofs.PlainDigits.{count-exactly}
 use Rattle.rules_system.specs.System.{countN1, countN2}
 use Rattle.good.specs.Parts.{Record}
 use Rattle.good.specs.Marks.{Following, CountIs}
@@ -19,20 +20,20 @@ use Rattle.good.proofs.Lists.{Long}
 -- ---- counts
 
 pub counted-says : (f : List ℕ) → isCount (countOf f) ≡ true → CountIs f (numberOf (countOf f))
-counted-says f e = by-count (countOf f) refl e
+counted-says f e = count-exactly 11 f (numberOf (countOf f)) .0 (by-count (countOf f) refl e)
   where
     by-count : (x : Count) → countOf f ≡ x → isCount x ≡ true → x ≡ Number (numberOf x)
     by-count (Number n) q h = refl
     by-count Bad q h = differ (sym h)
 
 pub says-as : (f : List ℕ) (m n : ℕ) → CountIs f m → m ≡ n → CountIs f n
-says-as f m n s e = s ∙ ap Number e
+says-as f m n s e = subst (λ (k : ℕ). CountIs f k) e s
 
 pub says-number : (f : List ℕ) (n : ℕ) → CountIs f n → numberOf (countOf f) ≡ n
-says-number f n s = ap numberOf s
+says-number f n s = ap numberOf (count-exactly 11 f n .1 s)
 
 pub says-count : (f : List ℕ) (n : ℕ) → CountIs f n → isCount (countOf f) ≡ true
-says-count f n s = ap isCount s
+says-count f n s = ap isCount (count-exactly 11 f n .1 s)
 
 pub counted1 : (r : Record) (n : ℕ) → CountIs (n1 (fieldsOf r)) n → countN1 (fieldsOf r) ≡ n
 counted1 r n s = says-number (n1 (fieldsOf r)) n s

@@ -7,12 +7,14 @@ use native.Mathlib.Omega.{arith}
 use lib.Dec.{eqb, ltb, leb}
 use borrow.Author.Tests.{not-false, eqb-true, eq-eqb, ne-eqb, ltb-true, lt-ltb, leb-true, le-leb}
 use Rattle.laws.proofs.Booleans.{differ, and-left, and-right}
-use Rattle.laws.specs.Search.{first}
 use Rattle.columns.specs.Fields.{fieldsOf, n1, n2}
 use Rattle.record_words.specs.Word.{equalTo}
-use Rattle.record.specs.Identifier.{ENTRY, SUBENT, NOSUBENT, ENDSUBENT, ENDENTRY, isEnd}
+use Rattle.record.specs.Identifier.{ENTRY, SUBENT, NOSUBENT, ENDSUBENT, ENDENTRY}
+use Rattle.record.proofs.NameTable.{end-letters}
 use Rattle.record.specs.System.{isSubentN1, isDate}
 use Rattle.record.specs.Expected.{accessionOf, identificationFor, subentAccession, subentIdentification}
+use Rattle.record.proofs.PlainColumns.{equal-exactly}
+use Rattle.record.proofs.PlainDigits.{date-exactly, entry-exactly, subent-exactly}
 use Rattle.rules_state.specs.declared.state.Phase.{Phase}
 use Rattle.rules_state.specs.declared.state.Phase.the-variants.{Opened, InSubentry, Between, Done}
 use Rattle.rules_state.specs.State.{Context, LAST-SUBENTRY, startContext}
@@ -59,18 +61,18 @@ opening-marked true c r t = takes-marked c NOSUBENT r t
 
 rules-opening : (b : Bool) (c : Context) (r : Record) → Marked (subentIdentification (n1 (fieldsOf r))) 1 r
     → isSubentN1 (n1 (fieldsOf r)) ≡ true → isDate (n2 (fieldsOf r)) ≡ true → Due c r ≡ true → Takes c (nameFor b) r
-unfolding formN1 formN2 inForm rule8 rule9 ownNumber expectedIdentification expectedSequence isEnd equalTo
-    first
+unfolding formN1 formN2 inForm rule8 rule9 ownNumber expectedIdentification expectedSequence
 rules-opening false c r m p q d =
     rules-takes c SUBENT r refl m
-    (record { form1 = p; form2 = q; rule-8 = refl; rule-9 = λ h. none-when (not (Due c r)) 12 (ap not d) })
+    (record { form1 = p; form2 = q; rule-8 = rw (end-letters SUBENT); rule-9 = λ h. none-when (not (Due c r)) 12 (ap not d) })
 rules-opening true c r m p q d =
     rules-takes c NOSUBENT r refl m
-    (record { form1 = p; form2 = q; rule-8 = refl; rule-9 = λ h. none-when (not (Due c r)) 12 (ap not d) })
+    (record { form1 = p; form2 = q; rule-8 = rw (end-letters NOSUBENT); rule-9 = λ h. none-when (not (Due c r)) 12 (ap not d) })
 
 pub takes-opens : (b : Bool) (c : Context) (r : Record) (accession : List ℕ) → c .track .accession ≡ accession
     → nameOf r ≡ nameFor b → Takes c (nameFor b) r
     → OpensSubentry (nameFor b) accession r × (numberDue (c .track) (ownNumber r) ≡ true)
+unfolding ownNumber
 takes-opens b c r accession e named t =
     let x = opening-rules b c r t in
     let a = and-left (equalTo 5 (subentAccession (n1 (fieldsOf r))) (c .track .accession))
@@ -79,9 +81,10 @@ takes-opens b c r accession e named t =
     (numberDue (c .track) (ownNumber r)) (x .2) in (
       record {
         named = named;
-        numbered = x .0;
-        dated = x .1;
-        same = ap (equalTo 5 (subentAccession (n1 (fieldsOf r)))) (sym e) ∙ a;
+        numbered = subent-exactly (n1 (fieldsOf r)) (ownNumber r) .0 (x .0, refl);
+        dated = date-exactly (n2 (fieldsOf r)) .0 (x .1);
+        same = equal-exactly 5 (subentAccession (n1 (fieldsOf r))) accession .0
+            (ap (equalTo 5 (subentAccession (n1 (fieldsOf r)))) (sym e) ∙ a);
         marked = opening-marked b c r t;
       },
       n,
@@ -90,8 +93,10 @@ takes-opens b c r accession e named t =
 pub opens-takes : (b : Bool) (c : Context) (r : Record) (accession : List ℕ) → c .track .accession ≡ accession
     → OpensSubentry (nameFor b) accession r → numberDue (c .track) (ownNumber r) ≡ true → Takes c (nameFor b) r
 opens-takes b c r accession e o n =
-    rules-opening b c r (o .marked) (o .numbered) (o .dated)
-    (and-both (ap (equalTo 5 (subentAccession (n1 (fieldsOf r)))) e ∙ o .same) n)
+    rules-opening b c r (o .marked) (subent-exactly (n1 (fieldsOf r)) (ownNumber r) .1 (o .numbered) .0)
+    (date-exactly (n2 (fieldsOf r)) .1 (o .dated))
+    (and-both (ap (equalTo 5 (subentAccession (n1 (fieldsOf r)))) e
+    ∙ equal-exactly 5 (subentAccession (n1 (fieldsOf r))) accession .1 (o .same)) n)
   where
     and-both : {a b : Bool} → a ≡ true → b ≡ true → (a && b) ≡ true
     and-both p q = rw (p, q)
@@ -216,13 +221,23 @@ pub takes-entry : (c : Context) (r : Record) → nameOf r ≡ ENTRY → Takes c 
 unfolding formN1 formN2 inForm expectedIdentification expectedSequence
 takes-entry c r named t =
     let x = takes-rules c ENTRY r refl t in
-    record { named = named; numbered = x .form1; dated = x .form2; marked = takes-marked c ENTRY r t }
+    record {
+      named = named;
+      numbered = entry-exactly (n1 (fieldsOf r)) .0 (x .form1);
+      dated = date-exactly (n2 (fieldsOf r)) .0 (x .form2);
+      marked = takes-marked c ENTRY r t;
+    }
 
 pub entry-takes : (c : Context) (r : Record) → GoodOpening r → Takes c ENTRY r
-unfolding formN1 formN2 inForm rule8 expectedIdentification expectedSequence isEnd equalTo first
+unfolding formN1 formN2 inForm rule8 expectedIdentification expectedSequence
 entry-takes c r g =
     rules-takes c ENTRY r refl (g .marked)
-    (record { form1 = g .numbered; form2 = g .dated; rule-8 = refl; rule-9 = λ h. differ (sym h) })
+    (record {
+      form1 = entry-exactly (n1 (fieldsOf r)) .1 (g .numbered);
+      form2 = date-exactly (n2 (fieldsOf r)) .1 (g .dated);
+      rule-8 = rw (end-letters ENTRY);
+      rule-9 = λ h. differ (sym h);
+    })
 
 pub record EntryOpened (e : Context) (r : Record) : Type 0 where
   pub phase : e .phase ≡ Opened

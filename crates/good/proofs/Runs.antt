@@ -10,7 +10,7 @@ use lib.Dec.{eqb}
 use lib.ListN.{length}
 use borrow.Author.Tests.{eqb-true, eq-eqb, ne-eqb}
 use Rattle.laws.proofs.Booleans.{differ}
-use Rattle.columns.specs.Fields.{fieldsOf}
+use Rattle.columns.proofs.ReadColumns.{field-of}
 use Rattle.rules_state.specs.declared.state.Phase.{Phase}
 use Rattle.rules_state.specs.State.{Context}
 use Rattle.rules_state.specs.Role.{NOT-DUE, only, roleIn, either as oneOf}
@@ -22,8 +22,7 @@ use Rattle.good.proofs.Steps.{Takes, next, Passes, takes-due, pass-next
 -- ---- a single record
 
 pub role-at : (c : Context) (p : Phase) (r : Record) → c .phase ≡ p → roleOf c r ≡ roleIn p (c .track) (nameOf r)
-unfolding fieldsOf
-role-at c p r e = rw e
+role-at c p r e = rw (e, field-of r 0 (omega arith))
 
 only-due : (a k : ℕ) → eqb (only a k) NOT-DUE ≡ false → k ≡ a
 only-due a k e = by-test (eqb k a) refl e

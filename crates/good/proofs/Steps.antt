@@ -13,6 +13,7 @@ use Rattle.columns.specs.Class.{isPermitted, notPermitted}
 use Rattle.columns.specs.Fields.{fieldsOf}
 use Rattle.record_words.specs.Word.{equalTo}
 use Rattle.record.specs.Expected.{identificationOf, sequenceOf, inDigits}
+use Rattle.record.proofs.PlainColumns.{equal-exactly}
 use Rattle.rules_state.specs.State.{Context}
 use Rattle.rules_state.specs.Role.{NOT-DUE}
 use Rattle.rules_every.specs.Every.{rule2, rule3, rule4, rule5, rule6, expectedIdentification, expectedSequence}
@@ -51,11 +52,13 @@ takes-marked c role r t =
           not-false (isPermitted (getD r i 0)) (where-none (notPermitted r) (λ i. i + 1) 80 (every .three) i l);
       identified =
           let e = expectedIdentification (c .track) role (fieldsOf r) in
-          not-false (equalTo 8 (identificationOf r) e)
-          (when-none (not (equalTo 8 (identificationOf r) e)) 67 (every .five));
+          equal-exactly 8 (identificationOf r) e .0
+          (not-false (equalTo 8 (identificationOf r) e)
+          (when-none (not (equalTo 8 (identificationOf r) e)) 67 (every .five)));
       sequenced =
           let e = inDigits 5 (expectedSequence (c .track) role) in
-          not-false (equalTo 5 (sequenceOf r) e) (when-none (not (equalTo 5 (sequenceOf r) e)) 75 (every .six));
+          equal-exactly 5 (sequenceOf r) e .0
+          (not-false (equalTo 5 (sequenceOf r) e) (when-none (not (equalTo 5 (sequenceOf r) e)) 75 (every .six)));
     }
 
 pub takes-due : (c : Context) (role : ℕ) (r : Record) → Takes c role r → eqb role NOT-DUE ≡ false
@@ -70,8 +73,9 @@ marked-every c role r m due =
       two = rw (m .line-feed);
       three = none-where (notPermitted r) (λ i. i + 1) 80 (λ k l. rw (m .permitted k l));
       four = rw due;
-      five = rw (m .identified);
-      six = rw (m .sequenced);
+      five = rw (equal-exactly 8 (identificationOf r) (expectedIdentification (c .track) role (fieldsOf r)) .1
+          (m .identified));
+      six = rw (equal-exactly 5 (sequenceOf r) (inDigits 5 (expectedSequence (c .track) role)) .1 (m .sequenced));
     }
 
 -- ---- all records

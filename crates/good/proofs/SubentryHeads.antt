@@ -17,10 +17,11 @@ use Rattle.rules_state.specs.State.{Context}
 use Rattle.rules_section.specs.Headings.{pointersFor as pointersSeen}
 use Rattle.entry.specs.Verdict.{isDone}
 use Rattle.good.specs.Parts.{Record, Bib, Table, Section, bibRecords, tableRecords}
-use Rattle.good.specs.Marks.{Following, Once}
+use Rattle.good.specs.Marks.{Following}
 use Rattle.good.specs.Bib.{GoodBibPart, textsOfPart}
 use Rattle.good.specs.Tables.{GoodCommonPart, headingsOfPart}
 use Rattle.good.specs.Totals.{keywordsIn, numbersOf}
+use Rattle.good.proofs.Repeats.{OnceBy}
 use Rattle.good.proofs.Steps.{Passes}
 use Rattle.good.proofs.Moves.{Moved, moved-on, recount}
 use Rattle.good.proofs.Lists.{Long}
@@ -126,7 +127,7 @@ common-known c accession number rows bib g b =
 
 -- COMMON's headings behind those of 001
 abbrev pub Behind : List (List ℕ) → Section Table → Type 0
-Behind before part = Once (equalTo 11) before (headingsOfPart part)
+Behind before part = OnceBy (equalTo 11) before (headingsOfPart part)
 
 pub record PassedHead (c : Context) (rs : List Record) (z : Context) (accession : List ℕ) (number : ℕ)
     (rows : List Record)

@@ -1,9 +1,8 @@
 -- The system records inside a subentry, and the END records: which of the three kinds each is of. Assumes nothing.
 use mathlib.Core.Path.{refl}
-use Rattle.laws.specs.Search.{first}
-use Rattle.record_words.specs.Word.{equalTo}
 use Rattle.record.specs.Identifier.{BIB, NOBIB, ENDBIB, COMMON, NOCOMMON, ENDCOMMON, DATA, NODATA, ENDDATA, ENDSUBENT}
-use Rattle.record.specs.Identifier.{ENDENTRY, isEnd}
+use Rattle.record.specs.Identifier.{ENDENTRY}
+use Rattle.record.proofs.NameTable.{end-letters}
 use Rattle.rules_every.specs.Every.{expectedIdentification, expectedSequence}
 use Rattle.rules_system.specs.System.{formN1, formN2}
 use Rattle.good.proofs.Systems.{Inside, FreeRole, OpenRole, EndRole}
@@ -36,16 +35,37 @@ inside-NODATA =
     }
 
 pub free-NOBIB : FreeRole NOBIB
-unfolding formN1 formN2 isEnd equalTo first
-free-NOBIB = record { inside = inside-NOBIB; form1 = refl; form2 = refl; not-section = refl; not-end = refl }
+unfolding formN1 formN2
+free-NOBIB =
+    record {
+      inside = inside-NOBIB;
+      form1 = rw (end-letters NOBIB);
+      form2 = refl;
+      not-section = refl;
+      not-end = end-letters NOBIB;
+    }
 
 pub free-NOCOMMON : FreeRole NOCOMMON
-unfolding formN1 formN2 isEnd equalTo first
-free-NOCOMMON = record { inside = inside-NOCOMMON; form1 = refl; form2 = refl; not-section = refl; not-end = refl }
+unfolding formN1 formN2
+free-NOCOMMON =
+    record {
+      inside = inside-NOCOMMON;
+      form1 = rw (end-letters NOCOMMON);
+      form2 = refl;
+      not-section = refl;
+      not-end = end-letters NOCOMMON;
+    }
 
 pub free-NODATA : FreeRole NODATA
-unfolding formN1 formN2 isEnd equalTo first
-free-NODATA = record { inside = inside-NODATA; form1 = refl; form2 = refl; not-section = refl; not-end = refl }
+unfolding formN1 formN2
+free-NODATA =
+    record {
+      inside = inside-NODATA;
+      form1 = rw (end-letters NODATA);
+      form2 = refl;
+      not-section = refl;
+      not-end = end-letters NODATA;
+    }
 
 inside-BIB : Inside BIB
 unfolding expectedIdentification expectedSequence
@@ -87,61 +107,61 @@ unfolding formN1 formN2
 open-DATA = record { inside = inside-DATA; form1 = refl; form2 = refl; section = refl }
 
 pub end-BIB : EndRole ENDBIB
-unfolding formN1 formN2 isEnd equalTo first
+unfolding formN1 formN2
 end-BIB =
     record {
       system = refl;
       not-opening = refl;
-      form1 = refl;
+      form1 = rw (end-letters ENDBIB);
       form2 = refl;
       not-section = refl;
-      end = refl;
+      end = end-letters ENDBIB;
     }
 
 pub end-COMMON : EndRole ENDCOMMON
-unfolding formN1 formN2 isEnd equalTo first
+unfolding formN1 formN2
 end-COMMON =
     record {
       system = refl;
       not-opening = refl;
-      form1 = refl;
+      form1 = rw (end-letters ENDCOMMON);
       form2 = refl;
       not-section = refl;
-      end = refl;
+      end = end-letters ENDCOMMON;
     }
 
 pub end-DATA : EndRole ENDDATA
-unfolding formN1 formN2 isEnd equalTo first
+unfolding formN1 formN2
 end-DATA =
     record {
       system = refl;
       not-opening = refl;
-      form1 = refl;
+      form1 = rw (end-letters ENDDATA);
       form2 = refl;
       not-section = refl;
-      end = refl;
+      end = end-letters ENDDATA;
     }
 
 pub end-SUBENT : EndRole ENDSUBENT
-unfolding formN1 formN2 isEnd equalTo first
+unfolding formN1 formN2
 end-SUBENT =
     record {
       system = refl;
       not-opening = refl;
-      form1 = refl;
+      form1 = rw (end-letters ENDSUBENT);
       form2 = refl;
       not-section = refl;
-      end = refl;
+      end = end-letters ENDSUBENT;
     }
 
 pub end-ENTRY : EndRole ENDENTRY
-unfolding formN1 formN2 isEnd equalTo first
+unfolding formN1 formN2
 end-ENTRY =
     record {
       system = refl;
       not-opening = refl;
-      form1 = refl;
+      form1 = rw (end-letters ENDENTRY);
       form2 = refl;
       not-section = refl;
-      end = refl;
+      end = end-letters ENDENTRY;
     }

@@ -25,6 +25,7 @@ use Rattle.good.proofs.Systems.{Here, FreeRole, OpenRole, EndRole}
 use Rattle.good.proofs.SystemRoles.{free-NOCOMMON, free-NODATA, open-COMMON, open-DATA, end-COMMON, end-DATA}
 use Rattle.good.proofs.Rows.{endFor}
 use Rattle.good.proofs.Lines.{LinesGood}
+use Rattle.good.proofs.LineNumbers.{counted-lines, lines-counted}
 
 -- ---- the two kinds
 
@@ -160,7 +161,7 @@ pieces-good true t b p =
       least = rw m at l;
       most = rw m at h;
       values = p .lines .0;
-      numbers = p .lines .1 refl;
+      numbers = counted-lines (columnsOf t) (t .lines) (p .lines .1 refl);
       ends = p .ends;
     }
 
@@ -199,6 +200,6 @@ good-pieces true t g =
         data-most = λ e. g .most;
       };
       many = omega arith;
-      lines = (g .values, λ e. g .numbers);
+      lines = (g .values, λ e. lines-counted (columnsOf t) (t .lines) (g .numbers));
       ends = g .ends;
     }

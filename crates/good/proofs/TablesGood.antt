@@ -8,8 +8,6 @@ use native.Mathlib.Omega.{arith}
 use lib.ListN.{length}
 use Rattle.columns.specs.Columns.{recordsFor}
 use Rattle.columns.specs.Fields.{fieldsOf, n1}
-use Rattle.record.specs.System.{countOf, numberOf}
-use Rattle.record.specs.declared.system.Count.the-variants.{Number}
 use Rattle.rules_state.specs.State.{Context}
 use Rattle.rules_state.specs.Role.{either as oneOf}
 use Rattle.rules_system.specs.System.{trueCount}
@@ -20,7 +18,7 @@ use Rattle.good.specs.Tables.{columnsOf, cell}
 use Rattle.good.specs.Subentries.{Occurs}
 use Rattle.good.proofs.Steps.{next, Passes, next-pass}
 use Rattle.good.proofs.Runs.{only-role, either-left, either-right}
-use Rattle.good.proofs.Marks.{counted-says, says-as, counted2, following-left, following-right, following-as}
+use Rattle.good.proofs.Marks.{says-as, counted2, following-left, following-right, following-as}
 use Rattle.good.proofs.Systems.{identificationIn, Here, free-takes, announces-takes, end-takes}
 use Rattle.good.proofs.Rows.{headings, units, values, endFor}
 use Rattle.good.proofs.RowPlaces.{table-end-role, row-pass, row-left}
@@ -169,10 +167,6 @@ no-name : (d : Bool) (r : Record) → GoodPart d (absent r) → nameOf r ≡ noF
 no-name false r e = e
 no-name true r e = e
 
-columns-are : (t : Table) → numberOf (countOf (n1 (fieldsOf (t .opening)))) ≡ columnsOf t
-unfolding columnsOf
-columns-are t = refl
-
 pub table-pass : (d : Bool) (c : Context) (part : Section Table) (rest : List Record) (z : Context)
     (first common : List Record) (pointers : List ℕ) → PartsKnown first common pointers c
     → ((r : Record) → roleOf c r ≡ oneOf (openFor d) (noFor d) (nameOf r)) → GoodHere d c part first common pointers
@@ -209,8 +203,7 @@ table-pass d c (present t) rest z first common pointers k due g p =
     (due r ∙ either-left (openFor d) (noFor d) (nameOf r) (pc .opens))
     (announces-takes c (openFor d) r a b (open-for d) first-mark
     (record {
-      first = counted-says (n1 (fieldsOf r)) (pc .table .counted) ∙ ap Number
-          (columns-are t);
+      first = pc .table .counted;
       second = pc .second;
       limit1 = l1;
       limit2 = l2;

@@ -18,7 +18,7 @@ use Rattle.good.specs.Tables.{columnsOf, cell}
 use Rattle.good.specs.Subentries.{Occurs}
 use Rattle.good.proofs.Steps.{Takes, next, Passes, takes-marked}
 use Rattle.good.proofs.Runs.{pass-only, pass-either, rest-of, Step, afterRun}
-use Rattle.good.proofs.Marks.{says-as, says-count, following-append, following-as}
+use Rattle.good.proofs.Marks.{says-as, following-append, following-as}
 use Rattle.good.proofs.Systems.{identificationIn, Here, here-of, takes-announces, takes-end}
 use Rattle.good.proofs.Rows.{headings, units, values, roleFor, endFor}
 use Rattle.good.proofs.RowPlaces.{table-end-role, phase-open, pass-row}
@@ -112,7 +112,7 @@ table-of d c t ts z first common pointers k named takes w s =
           (record {
             opens = named;
             table = record {
-              counted = says-count (n1 (fieldsOf r)) a (an .first);
+              counted = an .first;
               least = w .limits .least;
               most = w .limits .most;
               headings = heads .1;

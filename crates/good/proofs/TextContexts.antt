@@ -5,11 +5,12 @@ use mathlib.Core.Bool.{Bool, true, false, cond}
 use mathlib.Core.List.{List, [], _∷_, _++_, append-nil, append-assoc}
 use native.Mathlib.Omega.{arith}
 use lib.Dec.{eqb}
-use lib.ListN.{length}
+use lib.ListN.{length, getD}
 use borrow.Author.Tests.{eqb-true, eq-eqb, ne-eqb}
 use Rattle.laws.proofs.Booleans.{differ}
 use Rattle.laws.specs.Blocks.{joined}
 use Rattle.columns.specs.Fields.{fieldsOf}
+use Rattle.columns.proofs.ReadColumns.{field-of}
 use Rattle.record_words.specs.Word.{blankTo}
 use Rattle.record.specs.Identifier.{OTHER}
 use Rattle.rules_state.specs.declared.state.Phase.the-variants.{InBib}
@@ -75,10 +76,10 @@ pub record AfterText (c d : Context) (n k : ℕ) (records : List ℕ) : Type 0 w
   pub phase : c .phase ≡ InBib → d .phase ≡ InBib
 
 pub after-text : (c : Context) (r : Record) → AfterText c (next c TEXT r) 1 (bears r) r
-unfolding contextAfter phaseAfter trackAfter afterInside textRead seenAfter partAfter bibChange fieldsOf
-after-text c r = by-test (blankTo 10 (bibPlace r)) refl
+unfolding contextAfter phaseAfter trackAfter afterInside textRead seenAfter partAfter bibChange
+after-text c r = by-test (blankTo 10 (bibPlace r)) (ap (blankTo 10) (field-of r 0 (omega arith)))
   where
-    by-test : (b : Bool) → blankTo 10 (bibPlace r) ≡ b → AfterText c (next c TEXT r) 1 (cond b 0 1) r
+    by-test : (b : Bool) → blankTo 10 (getD (fieldsOf r) 0 []) ≡ b → AfterText c (next c TEXT r) 1 (cond b 0 1) r
     by-test true e =
         record {
           moved = record {

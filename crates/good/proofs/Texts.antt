@@ -7,13 +7,14 @@ use mathlib.Core.Logic.{_↔_}
 use mathlib.Core.List.{List, [], _∷_, _++_, map, append-nil}
 use native.Mathlib.Omega.{arith}
 use lib.Dec.{eqb}
-use lib.ListN.{length, length-append}
+use lib.ListN.{length, getD, length-append}
 use Rattle.laws.proofs.Booleans.{or-left, or-right}
 use Rattle.laws.proofs.Listing.{all-append, joined-one}
 use Rattle.laws.specs.Walk.{All}
 use Rattle.laws.specs.Blocks.{joined}
 use Rattle.laws.specs.Members.{anyOf}
 use Rattle.columns.specs.Fields.{fieldsOf}
+use Rattle.columns.proofs.ReadColumns.{field-of}
 use Rattle.columns.specs.Text.{isBlank}
 use Rattle.record_words.specs.Word.{blankTo, equalTo, isWord, pointerOf, badPointer}
 use Rattle.record.specs.Expected.{identificationFor}
@@ -66,10 +67,10 @@ pub record Holding (c : Context) (identification : List ℕ) (n : ℕ) (before u
 
 under-next : (c : Context) (r : Record) (under : List Record) → c .seen .under ≡ joined under
     → next c TEXT r .seen .under ≡ joined (underAfter under r)
-unfolding contextAfter seenAfter partAfter underChange fieldsOf joined
-under-next c r under h = by-test (blankTo 10 (bibPlace r)) refl
+unfolding contextAfter seenAfter partAfter underChange joined
+under-next c r under h = by-test (blankTo 10 (bibPlace r)) (ap (blankTo 10) (field-of r 0 (omega arith)))
   where
-    by-test : (b : Bool) → blankTo 10 (bibPlace r) ≡ b
+    by-test : (b : Bool) → blankTo 10 (getD (fieldsOf r) 0 []) ≡ b
         → next c TEXT r .seen .under ≡ joined (cond b (under ++ (r ∷ [])) (r ∷ []))
     by-test true e = rw (e, h) (sym (joined-one under r))
     by-test false e = rw e (sym (append-nil r))
@@ -96,33 +97,37 @@ hold-next c identification n before under r l h =
 text-fine : (c : Context) (identification : List ℕ) (n : ℕ) (before under : List Record) (r : Record)
     → Holding c identification n before under → Other r → Takes c TEXT r
     → Marked identification n r × TextFine before under r
-unfolding expectedIdentification expectedSequence fieldsOf rule10 rule11Text
+unfolding expectedIdentification expectedSequence rule10 rule11Text
 text-fine c identification n before under r h o t =
     let m = takes-marked c TEXT r t in
-    let k = when-none (keywordFault (c .seen .bib) (c .track) (bibPlace r)) 1 (t .1 .ten refl) in
-    let bad = badPointer (bibPlace r) in
-    let again = pointerRepeated (c .seen .under) (bibPlace r) in
+    let f : List ℕ = getD (fieldsOf r) 0 [] in
+    let same : f ≡ bibPlace r = field-of r 0 (omega arith) in
+    let k = when-none (keywordFault (c .seen .bib) (c .track) f) 1 (t .1 .ten refl) in
+    let bad = badPointer f in
+    let again = pointerRepeated (c .seen .under) f in
     let p = when-none (bad || again) 11 (t .1 .eleven-text refl) in (
       rw (h .identified, h .sequenced) at m,
       record {
         other = o;
-        keyword = rw (h .section, h .bib, places-joined before (h .long)) at k;
-        pointer = or-left bad again p;
-        repeated = rw (h .under-is, pointers-joined under (h .long-under)) at (or-right bad again p);
+        keyword = rw (same, h .section, h .bib, places-joined before (h .long)) at k;
+        pointer = rw same at (or-left bad again p);
+        repeated = rw (same, h .under-is, pointers-joined under (h .long-under)) at (or-right bad again p);
       },
     )
 
 fine-text : (c : Context) (identification : List ℕ) (n : ℕ) (before under : List Record) (r : Record)
     → Holding c identification n before under → Marked identification n r → TextFine before under r → Takes c TEXT r
-unfolding expectedIdentification expectedSequence fieldsOf rule10 rule11Text
+unfolding expectedIdentification expectedSequence rule10 rule11Text
 fine-text c identification n before under r h m f =
-    let marked : MarkedFor c TEXT r = rw (h .identified, h .sequenced) m in (
+    let marked : MarkedFor c TEXT r = rw (h .identified, h .sequenced) m in
+    let g : List ℕ = getD (fieldsOf r) 0 [] in
+    let same : g ≡ bibPlace r = field-of r 0 (omega arith) in (
       m .whole,
       clean-text (c .track) (c .seen) TEXT (fieldsOf r) r (marked-every c TEXT r marked refl) refl
-          (none-when (keywordFault (c .seen .bib) (c .track) (bibPlace r)) 1
-          (rw (h .section, h .bib, places-joined before (h .long)) (f .keyword)))
-          (none-when (badPointer (bibPlace r) || pointerRepeated (c .seen .under) (bibPlace r)) 11
-          (rw (f .pointer, h .under-is, pointers-joined under (h .long-under)) (f .repeated))),
+          (none-when (keywordFault (c .seen .bib) (c .track) g) 1
+          (rw (same, h .section, h .bib, places-joined before (h .long)) (f .keyword)))
+          (none-when (badPointer g || pointerRepeated (c .seen .under) g) 11
+          (rw (same, f .pointer, h .under-is, pointers-joined under (h .long-under)) (f .repeated))),
     )
 
 -- the judge's run over text records, with and without its contexts

@@ -9,7 +9,6 @@
 use Prim.Native.Nat.{ℕ, _*_, _/_, _%_, _≤_}
 use mathlib.Core.Path.{_≡_, refl, sym, _∙_, ap}
 use mathlib.Core.Bool.{Bool, true, false, cond}
-use mathlib.Core.Logic.{_↔_}
 use mathlib.Core.List.{List, [], _∷_}
 use native.Mathlib.Omega.{arith}
 use lib.ListN.{length}
@@ -25,7 +24,7 @@ use Rattle.entry.proofs.GoingOn.{done-of, out-refused}
 use Rattle.entry.proofs.Numbered.{whole-records}
 use Rattle.good.specs.Parts.{Record, recordsOf}
 use Rattle.good.specs.Good.{GoodBytes}
-use Rattle.good.specs.Totals.{totalsOf}
+use Rattle.good.specs.Claims.{AcceptedExactly, GoodAccepted}
 use Rattle.good.proofs.Steps.{Passes, next, goes-passes, passes-goes}
 use Rattle.good.proofs.Lists.{Long}
 use Rattle.good.proofs.Entries.{pass-entry, entry-pass}
@@ -82,7 +81,7 @@ accepted-good s h =
     })
 
 -- the bytes of a good entry are accepted, with the totals of that entry
-pub good-accepted : (s : List ℕ) (g : GoodBytes s) → judgeOf s ≡ accepted (totalsOf (g .entry))
+pub good-accepted : GoodAccepted
 unfolding judgeOf
 good-accepted s g =
     let rs = recordsOf (g .entry) in
@@ -98,5 +97,5 @@ good-accepted s g =
     ∙ end-is (f .last) (ap isDone (f .phase)) ∙ ap accepted (f .totals))
 
 -- demand 2: accepted exactly when it is good, and then the totals are the sums
-pub accepted-exactly : (s : List ℕ) → (judgeOf s .refusal ≡ 0) ↔ GoodBytes s
+pub accepted-exactly : AcceptedExactly
 accepted-exactly s = (accepted-good s, λ g. ap (λ (v : Verdict). v .refusal) (good-accepted s g))

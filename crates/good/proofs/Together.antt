@@ -20,26 +20,27 @@ use Rattle.record_words.specs.Word.{equalTo, isWord, pointerOf}
 use Rattle.rules_text.specs.Text.{pointersOf}
 use Rattle.rules_section.specs.Headings.{headingPointerAt, headingPointers, pointersFor as pointersSeen}
 use Rattle.good.specs.Parts.{Record}
-use Rattle.good.specs.Marks.{Once}
+use Rattle.good.proofs.Repeats.{OnceBy}
 use Rattle.good.specs.Bib.{pointersIn}
 use Rattle.good.specs.Tables.{cell, Heading, BlankCell}
 use Rattle.good.specs.Subentries.{pointersOn}
 use Rattle.good.proofs.Lists.{Long, pointers-joined}
+use Rattle.record.proofs.PlainColumns.{blank-exactly, word-exactly}
 use Rattle.record_words.proofs.WordsAndBlanks.{heading-differs, blank-pointer}
 use Rattle.good.proofs.Earlier.{heading-cell, headings-in}
 use Rattle.good.proofs.HeadingsByColumn.{NewIn}
 
 -- ---- nothing twice, by places
 
--- `Once` goes along a list and remembers what it has passed; the judge looks back from a place. Both say of the place c
--- that it differs from everything before the list, and from every lower place of it (`NewAt`).
+-- `OnceBy` goes along a list and remembers what it has passed; the judge looks back from a place. Both say of the place
+-- c that it differs from everything before the list, and from every lower place of it (`NewAt`).
 module _ {A : Type 0} (same : A → A → Bool) (g : ℕ → A) where
   abbrev NewAt : List A → ℕ → ℕ → Type 0
   NewAt before i c = (anyOf (same (g c)) before ≡ false) × ((x : ℕ) → i ≤ x → x < c → same (g c) (g x) ≡ false)
 
-  once-at : (before : List A) (i n : ℕ) → Once same before (listOf g i n)
+  once-at : (before : List A) (i n : ℕ) → OnceBy same before (listOf g i n)
       → (c : ℕ) → i ≤ c → c < i + n → NewAt before i c
-  unfolding Once listOf
+  unfolding OnceBy listOf
   once-at before i zero h c a b = absurd (omega arith)
   once-at before i (suc n) h c a b =
       either i c
@@ -50,8 +51,8 @@ module _ {A : Type 0} (same : A → A → Bool) (g : ℕ → A) where
       (λ l. let z : c ≡ i = omega arith in rw z (h .0, λ x d e. absurd (omega arith)))
 
   at-once : (before : List A) (i n : ℕ) → ((c : ℕ) → i ≤ c → c < i + n → NewAt before i c)
-      → Once same before (listOf g i n)
-  unfolding Once listOf
+      → OnceBy same before (listOf g i n)
+  unfolding OnceBy listOf
   at-once before i zero h = tt
   at-once before i (suc n) h = (
     h i (omega arith) (omega arith) .0,
@@ -86,7 +87,7 @@ any-cells : (f : List ℕ) (rows : List Record) (n : ℕ) → isWord 10 f ≡ tr
 any-cells f rows n w s e x l =
     either x n
     (λ a. any-none (equalTo 11 f) (cell rows) 0 n e x (omega arith) (omega arith))
-    (λ a. heading-differs f (cell rows x) w (s .unused x a l))
+    (λ a. heading-differs f (cell rows x) w (blank-exactly 11 (cell rows x) .1 (s .unused x a l)))
 
 any-both : (f : List ℕ) (xs ys : List (List ℕ)) → anyOf (equalTo 11 f) (xs ++ ys) ≡ false
     → (anyOf (equalTo 11 f) xs ≡ false) × (anyOf (equalTo 11 f) ys ≡ false)
@@ -104,7 +105,7 @@ both-any f xs ys a b = any-append (equalTo 11 f) xs ys ∙ rw (a, b)
 -- the headings of a table are new behind those of two earlier ones
 pub new-once : (first common rs : List Record) (n1 n2 n : ℕ) → Shown first n1 → Shown common n2
     → ((x : ℕ) → x < n → NewIn first common [] rs x)
-    → Once (equalTo 11) (shown first n1 ++ shown common n2) (shown rs n)
+    → OnceBy (equalTo 11) (shown first n1 ++ shown common n2) (shown rs n)
 new-once first common rs n1 n2 n s t h =
     at-once (equalTo 11) (cell rs) (shown first n1 ++ shown common n2) 0 n
     (λ c a b.
@@ -116,14 +117,15 @@ new-once first common rs n1 n2 n s t h =
 
 pub once-new : (first common rs : List Record) (n1 n2 n : ℕ) → Shown first n1 → Shown common n2
     → ((x : ℕ) → x < n → Heading (cell rs x))
-    → Once (equalTo 11) (shown first n1 ++ shown common n2) (shown rs n)
+    → OnceBy (equalTo 11) (shown first n1 ++ shown common n2) (shown rs n)
     → (x : ℕ) → x < n → NewIn first common [] rs x
 once-new first common rs n1 n2 n s t words h x l =
     let w = once-at (equalTo 11) (cell rs) (shown first n1 ++ shown common n2) 0 n h x (omega arith) (omega arith) in
     let (p, q) = any-both (cell rs x) (shown first n1) (shown common n2) (w .0) in
+    let word = word-exactly 10 (cell rs x) .1 (words x l .word) in
     record {
-      in-first = any-cells (cell rs x) first n1 (words x l .word) s p;
-      in-common = any-cells (cell rs x) common n2 (words x l .word) t q;
+      in-first = any-cells (cell rs x) first n1 word s p;
+      in-common = any-cells (cell rs x) common n2 word t q;
       in-before = λ y m. absurd (omega arith);
       left = λ y m. w .1 y (omega arith) m;
     }
@@ -152,7 +154,8 @@ heading-pointers rows n p a s h =
     ∙ ap (anyOf (eqb p)) (list-split at 0 n (length rows * 6 - n))
     ∙ any-append (eqb p) (listOf at 0 n) (listOf at (0 + n) (length rows * 6 - n))
     ∙ rw (none-any (eqb p) at (0 + n) (length rows * 6 - n)
-    (λ k b c. blank-pointer (cell rows k) p (s .unused k (omega arith) (omega arith)) h))
+    (λ k b c. blank-pointer (cell rows k) p
+    (blank-exactly 11 (cell rows k) .1 (s .unused k (omega arith) (omega arith))) h))
     (cond-itself (anyOf (eqb p) (listOf at 0 n)) ∙ sym (any-list (eqb p) pointerOf (cell rows) 0 n)
     ∙ sym (any-map (eqb p) pointerOf (shown rows n)))
 

@@ -13,6 +13,7 @@ use Rattle.laws.proofs.Search.{either}
 use Rattle.columns.specs.Columns.{recordsFor}
 use Rattle.columns.specs.Fields.{fieldAt, fieldsOf, inField}
 use Rattle.record_words.specs.Word.{isUnitWord, unitFault, blankTo}
+use Rattle.record.proofs.PlainColumns.{blank-exactly, unit-exactly}
 use Rattle.rules_state.specs.State.{Context, used}
 use Rattle.rules_state.specs.Role.{NOT-DUE, isUnit as unitRole}
 use Rattle.rules_state.specs.Fault.{fieldColumn}
@@ -66,11 +67,13 @@ takes-units d c rest before m r e k t =
     let h = where-none (inField (unitFault (used (c .track))) (fieldsOf r)) fieldColumn 6 (unit-rule d c r t) in
     record {
       used = λ j l a.
-          not-false (isUnitWord (fieldAt r j))
-          (rw (few-used (c .track) rest e, lt-ltb j (few rest) (few-below rest j l a), field-at r j l) at (h j l));
+          unit-exactly (fieldAt r j) .0
+          (not-false (isUnitWord (fieldAt r j))
+          (rw (few-used (c .track) rest e, lt-ltb j (few rest) (few-below rest j l a), field-at r j l) at (h j l)));
       unused = λ j l a.
-          not-false (blankTo 11 (fieldAt r j))
-          (rw (few-used (c .track) rest e, le-ltb j (few rest) (few-past rest j l a), field-at r j l) at (h j l));
+          blank-exactly 11 (fieldAt r j) .0
+          (not-false (blankTo 11 (fieldAt r j))
+          (rw (few-used (c .track) rest e, le-ltb j (few rest) (few-past rest j l a), field-at r j l) at (h j l)));
     }
 
 units-takes : (d : Bool) (c : Context) (rest : ℕ) (before : List Record) (m : ℕ) (r : Record)
@@ -83,8 +86,8 @@ units-takes d c rest before m r e k mk f =
     (λ j l.
     rw (few-used (c .track) rest e, field-at r j l)
     (either j rest
-    (λ a. rw (lt-ltb j (few rest) (few-below rest j l a), f .used j l a))
-    (λ a. rw (le-ltb j (few rest) (few-past rest j l a), f .unused j l a)))))
+    (λ a. rw (lt-ltb j (few rest) (few-below rest j l a), unit-exactly (fieldAt r j) .1 (f .used j l a)))
+    (λ a. rw (le-ltb j (few rest) (few-past rest j l a), blank-exactly 11 (fieldAt r j) .1 (f .unused j l a))))))
 
 -- the judge's run over a row of units
 run-units : (d : Bool) (n last line rest : ℕ) (c : Context) (identification : List ℕ) (s : ℕ)

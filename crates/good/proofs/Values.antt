@@ -19,6 +19,7 @@ use Rattle.number.specs.declared.form.Form.the-variants as Form
 use Rattle.columns.specs.Columns.{recordsFor}
 use Rattle.columns.specs.Fields.{fieldAt, fieldsOf, inField, firstField}
 use Rattle.record.specs.Numbers.{formAt, saysBlank, saysNumber, noValue, valueFault, isNumberAt, valuesOf}
+use Rattle.record.proofs.PlainValues.{value-exactly, unused-exactly}
 use Rattle.rules_state.specs.declared.state.Table.{Table}
 use Rattle.rules_state.specs.State.{Context, used}
 use Rattle.rules_state.specs.Role.{NOT-DUE, isValue}
@@ -109,10 +110,14 @@ unfolding valueFault
 fine-cells d c rest r e f =
     record {
       used = λ j l a.
-          rw (few-used (c .track) rest e, lt-ltb j (few rest) (few-below rest j l a), field-at r j l) at (f .none j l);
+          value-exactly d (fieldAt r j) .0
+          (rw (few-used (c .track) rest e, lt-ltb j (few rest) (few-below rest j l a), field-at r j l) at
+          (f .none j l));
       unused = λ j l a.
-          says-blank (formAt (fieldAt r j))
-          (rw (few-used (c .track) rest e, le-ltb j (few rest) (few-past rest j l a), field-at r j l) at (f .none j l));
+          unused-exactly (fieldAt r j) .0
+          (says-blank (formAt (fieldAt r j))
+          (rw (few-used (c .track) rest e, le-ltb j (few rest) (few-past rest j l a), field-at r j l) at
+          (f .none j l)));
     }
 
 cells-fine : (d : Bool) (c : Context) (rest : ℕ) (r : Record) → c .track .table .rest ≡ rest
@@ -123,8 +128,8 @@ cells-fine d c rest r e g =
       none = λ j l.
           rw (few-used (c .track) rest e, field-at r j l)
           (either j rest
-          (λ a. rw (lt-ltb j (few rest) (few-below rest j l a)) (g .used j l a))
-          (λ a. rw (le-ltb j (few rest) (few-past rest j l a), g .unused j l a)));
+          (λ a. rw (lt-ltb j (few rest) (few-below rest j l a)) (value-exactly d (fieldAt r j) .1 (g .used j l a)))
+          (λ a. rw (le-ltb j (few rest) (few-past rest j l a), unused-exactly (fieldAt r j) .1 (g .unused j l a))));
     }
 
 counted : (d : Bool) (c : Context) (rest : ℕ) (r : Record) → c .track .table .rest ≡ rest → FieldsFine d c r
@@ -154,7 +159,7 @@ blank-count d c rest r e g =
     let s = few-least rest in
     let m : k < 6 = omega arith in
     rw (field-at r k m, le-ltb k 0 (omega arith))
-    (filled-number d (formAt (fieldAt r k)) (g .used k m (below-few rest k l)))))
+    (filled-number d (formAt (fieldAt r k)) (value-exactly d (fieldAt r k) .1 (g .used k m (below-few rest k l))))))
 
 -- ---- a record of a line
 

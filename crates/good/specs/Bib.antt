@@ -1,15 +1,13 @@
 -- A BIB section (document 01, "BIB, headings, pointers" and the table of N1 and N2).
 use Prim.Native.Nat.{ℕ, _≤_}
 use mathlib.Core.Path.{_≡_}
-use mathlib.Core.Bool.{Bool, true, false, not, _&&_}
 use mathlib.Core.List.{List, [], _∷_, map}
-use lib.Dec.{eqb}
 use lib.ListN.{length}
 use Rattle.laws.specs.Walk.{All}
 use Rattle.columns.specs.Fields.{fieldAt, fieldsOf, n1, n2}
-use Rattle.columns.specs.Text.{isBlank}
-use Rattle.record_words.specs.Word.{equalTo, blankTo, isWord, pointerOf, badPointer}
+use Rattle.record_words.specs.Word.{pointerOf}
 use Rattle.record.specs.Identifier.{BIB, NOBIB, ENDBIB, OTHER}
+use Rattle.record.specs.Plain.{BlankColumns, SameColumns, Word, PointerOrBlank}
 use Rattle.good.specs.Parts.{Record, Keyword, Bib, Section, present, absent, textsOf}
 use Rattle.good.specs.Marks.{nameOf, CountIs, Once}
 
@@ -20,11 +18,11 @@ bibPlace r = fieldAt r 0
 -- any system identifier inside BIB is not due; "11 a pointer or blank"
 pub record Text (r : Record) : Type 0 where
   pub no-system : nameOf r ≡ OTHER
-  pub pointer : badPointer (bibPlace r) ≡ false
+  pub pointer : PointerOrBlank (pointerOf (bibPlace r))
 
--- "Blank means no pointer."
-abbrev pub samePointer : ℕ → ℕ → Bool
-samePointer p q = not (isBlank p) && eqb p q
+-- "Blank means no pointer.": p is a pointer, and q is the same
+abbrev pub SamePointer : ℕ → ℕ → Type 0
+SamePointer p q = (p ≡ 32 → ⊥) × (p ≡ q)
 
 abbrev pub pointersIn : List Record → List ℕ
 pointersIn rs = map (λ r. pointerOf (bibPlace r)) rs
@@ -32,10 +30,10 @@ pointersIn rs = map (λ r. pointerOf (bibPlace r)) rs
 -- one keyword and what stands under it: "a keyword (word)"; then columns 1-10 are blank; "no pointer twice under one
 -- keyword"
 pub record GoodKeyword (k : Keyword) : Type 0 where
-  pub word : isWord 10 (bibPlace (k .first)) ≡ true
-  pub blank : All (λ r. blankTo 10 (bibPlace r) ≡ true) (k .more)
+  pub word : Word 10 (bibPlace (k .first))
+  pub blank : All (λ r. BlankColumns 10 (bibPlace r)) (k .more)
   pub texts : All Text (k .first ∷ k .more)
-  pub pointers : Once samePointer [] (pointersIn (k .first ∷ k .more))
+  pub pointers : Once SamePointer [] (pointersIn (k .first ∷ k .more))
 
 abbrev pub keywordPlaces : List Keyword → List (List ℕ)
 keywordPlaces ks = map (λ k. bibPlace (k .first)) ks
@@ -49,7 +47,7 @@ pub record GoodBib (b : Bib) : Type 0 where
   pub least : 1 ≤ length (b .keywords)
   pub records : CountIs (n2 (fieldsOf (b .opening))) (length (textsOf (b .keywords)))
   pub each : All GoodKeyword (b .keywords)
-  pub once : Once (equalTo 10) [] (keywordPlaces (b .keywords))
+  pub once : Once (SameColumns 10) [] (keywordPlaces (b .keywords))
   pub ends : nameOf (b .ending) ≡ ENDBIB
   pub between : CountIs (n1 (fieldsOf (b .ending))) (length (textsOf (b .keywords)))
 

@@ -1,14 +1,13 @@
 -- A good entry, and the bytes of a good entry (document 01).
 use Prim.Native.Nat.{ℕ, _+_, _≤_}
 use mathlib.Core.Path.{_≡_}
-use mathlib.Core.Bool.{true}
 use mathlib.Core.List.{List}
 use lib.ListN.{length}
 use Rattle.laws.specs.Walk.{All}
 use Rattle.laws.specs.Blocks.{joined}
 use Rattle.columns.specs.Fields.{fieldsOf, n1, n2}
 use Rattle.record.specs.Identifier.{ENTRY, ENDENTRY}
-use Rattle.record.specs.System.{isEntryN1, isDate}
+use Rattle.record.specs.Plain.{Date, EntryN1}
 use Rattle.record.specs.Expected.{accessionOf, identificationFor, entryAccession}
 use Rattle.rules_state.specs.State.{MOST-RECORDS}
 use Rattle.good.specs.Parts.{Record, Entry, recordsOf}
@@ -20,8 +19,8 @@ use Rattle.good.specs.Subentries.{GoodFirst, GoodSubentry, NumbersRise}
 -- "ENTRY | 6 blanks, accession (capital or digit, then 4 digits) | date"; "subentry 000 on ENTRY"; "Sequence 00001"
 pub record GoodOpening (r : Record) : Type 0 where
   pub named : nameOf r ≡ ENTRY
-  pub numbered : isEntryN1 (n1 (fieldsOf r)) ≡ true
-  pub dated : isDate (n2 (fieldsOf r)) ≡ true
+  pub numbered : EntryN1 (n1 (fieldsOf r))
+  pub dated : Date (n2 (fieldsOf r))
   pub marked : Marked (identificationFor (entryAccession (n1 (fieldsOf r))) 0) 1 r
 
 -- "ENDENTRY | subentries, NOSUBENT included"; "999 on ENDENTRY"; "99999 on .. ENDENTRY"

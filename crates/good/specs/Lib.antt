@@ -5,3 +5,4 @@ pub mod Tables
 pub mod Subentries
 pub mod Good
 pub mod Totals
+pub mod Claims

@@ -2,18 +2,16 @@
 -- "Nesting and counts").
 use Prim.Native.Nat.{ℕ, _+_, _<_}
 use mathlib.Core.Path.{_≡_}
-use mathlib.Core.Bool.{Bool, true, false}
+use mathlib.Core.Bool.{true}
 use mathlib.Core.List.{List, [], _∷_, _++_}
 use lib.ListN.{length, getD}
-use Rattle.laws.specs.Members.{anyOf}
+use Rattle.laws.specs.Walk.{All}
 use Rattle.columns.specs.Columns.{hasLineFeed}
 use Rattle.columns.specs.Class.{isPermitted}
 use Rattle.columns.specs.Fields.{fieldAt}
-use Rattle.record_words.specs.Word.{equalTo}
 use Rattle.record.specs.Identifier.{identifierOf}
-use Rattle.record.specs.System.{countOf}
 use Rattle.record.specs.Expected.{identificationOf, sequenceOf, inDigits}
-use Rattle.record.specs.declared.system.Count.the-variants.{Number}
+use Rattle.record.specs.Plain.{SameColumns, CountSays}
 use Rattle.good.specs.Parts.{Record}
 
 -- ---- every record
@@ -24,8 +22,8 @@ pub record Marked (identification : List ℕ) (sequence : ℕ) (r : Record) : Ty
   pub whole : length r ≡ 81
   pub line-feed : hasLineFeed r ≡ true
   pub permitted : (i : ℕ) → i < 80 → isPermitted (getD r i 0) ≡ true
-  pub identified : equalTo 8 (identificationOf r) identification ≡ true
-  pub sequenced : equalTo 5 (sequenceOf r) (inDigits 5 sequence) ≡ true
+  pub identified : SameColumns 8 (identificationOf r) identification
+  pub sequenced : SameColumns 5 (sequenceOf r) (inDigits 5 sequence)
 
 -- "one more on each following record": records in order, the first with this sequence
 unfoldable pub Following : List ℕ → ℕ → List Record → Type 0
@@ -38,13 +36,13 @@ Following identification n (r ∷ rs) = Marked identification n r × Following i
 abbrev pub nameOf : Record → ℕ
 nameOf r = identifierOf (fieldAt r 0)
 
--- "A count is blanks, then digits up to the last column.": the field says this number
+-- "A count is blanks, then digits up to the last column.": the field, eleven columns, says this number
 abbrev pub CountIs : List ℕ → ℕ → Type 0
-CountIs f n = countOf f ≡ Number n
+CountIs f n = CountSays 11 f n
 
 -- ---- lists in which nothing occurs twice
 
 -- no member is the same as one before it, nor as one of `before`
-unfoldable pub Once : {A : Type 0} → (A → A → Bool) → List A → List A → Type 0
-Once same before [] = Unit
-Once same before (x ∷ xs) = (anyOf (same x) before ≡ false) × Once same (before ++ (x ∷ [])) xs
+unfoldable pub Once : {A : Type 0} → (A → A → Type 0) → List A → List A → Type 0
+Once Same before [] = Unit
+Once Same before (x ∷ xs) = All (λ y. Same x y → ⊥) before × Once Same (before ++ (x ∷ [])) xs

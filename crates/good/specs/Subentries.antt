@@ -9,9 +9,10 @@ use Rattle.laws.specs.Members.{anyOf}
 use Rattle.laws.specs.Walk.{All}
 use Rattle.columns.specs.Text.{isBlank}
 use Rattle.columns.specs.Fields.{fieldsOf, n1, n2}
-use Rattle.record_words.specs.Word.{equalTo, pointerOf}
+use Rattle.record_words.specs.Word.{pointerOf}
 use Rattle.record.specs.Identifier.{SUBENT, NOSUBENT, ENDSUBENT}
-use Rattle.record.specs.System.{isSubentN1, isDate, subentryOf}
+use Rattle.record.specs.System.{subentryOf}
+use Rattle.record.specs.Plain.{SameColumns, Date, SubentN1}
 use Rattle.record.specs.Expected.{identificationFor, subentIdentification, subentAccession}
 use Rattle.rules_state.specs.State.{LAST-SUBENTRY}
 use Rattle.good.specs.Parts.{Record, Subentry001, Later, Subentry, nosubent, subent, bodyOfFirst, bodyOf}
@@ -21,18 +22,18 @@ use Rattle.good.specs.Tables.{GoodCommonPart, GoodDataPart, headingsOfPa
 
 -- ---- SUBENT, NOSUBENT and ENDSUBENT
 
+-- the number of a subentry, which N1 says in its last three columns (`OpensSubentry.numbered`)
+unfoldable pub ownNumber : Record → ℕ
+ownNumber r = subentryOf (n1 (fieldsOf r))
+
 -- "SUBENT, NOSUBENT | 3 blanks, accession, 3 digits | date"; "the entry's accession throughout"; "Sequence 00001 on ..
 -- SUBENT and NOSUBENT"; "On .. SUBENT and NOSUBENT, number 5 compares bytes with the record's own N1"
 pub record OpensSubentry (name : ℕ) (accession : List ℕ) (r : Record) : Type 0 where
   pub named : nameOf r ≡ name
-  pub numbered : isSubentN1 (n1 (fieldsOf r)) ≡ true
-  pub dated : isDate (n2 (fieldsOf r)) ≡ true
-  pub same : equalTo 5 (subentAccession (n1 (fieldsOf r))) accession ≡ true
+  pub numbered : SubentN1 (n1 (fieldsOf r)) (ownNumber r)
+  pub dated : Date (n2 (fieldsOf r))
+  pub same : SameColumns 5 (subentAccession (n1 (fieldsOf r))) accession
   pub marked : Marked (subentIdentification (n1 (fieldsOf r))) 1 r
-
--- the number of a subentry
-unfoldable pub ownNumber : Record → ℕ
-ownNumber r = subentryOf (n1 (fieldsOf r))
 
 -- "ENDSUBENT | records between"; "99999 on ENDSUBENT"; the records between follow SUBENT, each with "its own number"
 pub record Encloses (accession : List ℕ) (opening : Record) (body : List Record) (ending : Record) : Type 0 where
@@ -49,7 +50,7 @@ headingsTogether first s =
     headingsOfPart (first .common) ++ (headingsOfPart (s .common) ++ headingsOfPart (s .values))
 
 abbrev pub NoneTwice : List (List ℕ) → Type 0
-NoneTwice headings = Once (equalTo 11) [] headings
+NoneTwice headings = Once (SameColumns 11) [] headings
 
 -- the eleventh columns of headings
 abbrev pub pointersOn : List (List ℕ) → List ℕ

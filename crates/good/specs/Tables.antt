@@ -7,21 +7,20 @@ use lib.ListN.{length, getD}
 use Rattle.laws.specs.Search.{howMany}
 use Rattle.laws.specs.Members.{listOf}
 use Rattle.laws.specs.Walk.{All}
-use Rattle.number.specs.declared.form.Form.{Form}
-use Rattle.number.specs.declared.form.Form.the-variants as Form
 use Rattle.columns.specs.Columns.{recordsFor}
 use Rattle.columns.specs.Fields.{fieldAt, fieldsOf, n1, n2}
-use Rattle.record_words.specs.Word.{isWord, badPointer, isUnitWord, blankTo}
+use Rattle.record_words.specs.Word.{pointerOf}
 use Rattle.record.specs.Identifier.{COMMON, NOCOMMON, ENDCOMMON, DATA, NODATA, ENDDATA, isEnd}
-use Rattle.record.specs.System.{countOf, isCount, numberOf}
-use Rattle.record.specs.Numbers.{formAt, saysNumber, noValue}
+use Rattle.record.specs.System.{countOf, numberOf}
+use Rattle.record.specs.Numbers.{formAt, saysNumber}
+use Rattle.record.specs.Plain.{BlankColumns, Word, UnitWord, PointerOrBlank, AllBlank, NumberField, NumberOrBlank}
 use Rattle.rules_state.specs.State.{MOST-COLUMNS, MOST-LINES}
 use Rattle.good.specs.Parts.{Record, Table, Section, present, absent, rowsOf}
 use Rattle.good.specs.Marks.{nameOf, CountIs}
 
 -- ---- rows
 
--- "columns, 1-18": N1 of COMMON and of DATA
+-- "columns, 1-18": what N1 of COMMON and of DATA says (`GoodTable.counted`)
 unfoldable pub columnsOf : Table → ℕ
 columnsOf t = numberOf (countOf (n1 (fieldsOf (t .opening))))
 
@@ -39,27 +38,33 @@ pub record GoodRow (Used Unused : List ℕ → Type 0) (n : ℕ) (row : List Rec
 
 -- "A heading is a word in ten columns, with a pointer or blank in the eleventh."
 pub record Heading (f : List ℕ) : Type 0 where
-  pub word : isWord 10 f ≡ true
-  pub pointer : badPointer f ≡ false
+  pub word : Word 10 f
+  pub pointer : PointerOrBlank (pointerOf f)
 
 -- "A unit is a word in ten columns, eleventh blank."
 abbrev pub UnitCell : List ℕ → Type 0
-UnitCell f = isUnitWord f ≡ true
+UnitCell f = UnitWord f
 
 abbrev pub BlankCell : List ℕ → Type 0
-BlankCell f = blankTo 11 f ≡ true
+BlankCell f = BlankColumns 11 f
 
--- "COMMON values are never blank. DATA values may be": none is malformed; what a field says is what it reads to
+-- "COMMON values are never blank. DATA values may be": number fields by the grammar, or blank where they may be
 abbrev pub GoodValue : Bool → List ℕ → Type 0
-GoodValue optional f = noValue optional (formAt f) ≡ false
+GoodValue optional f = NumberOrBlank optional f
 
 abbrev pub BlankValue : List ℕ → Type 0
-BlankValue f = formAt f ≡ Form.Blank
+BlankValue f = AllBlank f
 
+-- one of the n columns of a line is a number
+pub record HasNumber (n : ℕ) (row : List Record) : Type 0 where
+  pub column : ℕ
+  pub used : column < n
+  pub number : NumberField (cell row column)
+
+-- how many are: computed, and a column counts exactly when it is a number field (`number-exactly`, record)
 abbrev pub isNumber : List Record → ℕ → Bool
 isNumber row c = saysNumber (formAt (cell row c))
 
--- the numbers of a line
 unfoldable pub numbersInLine : ℕ → List Record → ℕ
 numbersInLine n row = howMany (isNumber row) 0 n
 
@@ -80,7 +85,7 @@ headingsOf t = listOf (cell (t .headings)) 0 (columnsOf t)
 
 -- what COMMON and DATA have in common
 pub record GoodTable (t : Table) : Type 0 where
-  pub counted : isCount (countOf (n1 (fieldsOf (t .opening)))) ≡ true
+  pub counted : CountIs (n1 (fieldsOf (t .opening))) (columnsOf t)
   pub least : 1 ≤ columnsOf t
   pub most : columnsOf t ≤ MOST-COLUMNS
   pub headings : GoodHeadings (columnsOf t) (t .headings)
@@ -104,7 +109,7 @@ pub record GoodData (t : Table) : Type 0 where
   pub least : 1 ≤ length (t .lines)
   pub most : length (t .lines) ≤ MOST-LINES
   pub values : All (GoodValues true (columnsOf t)) (t .lines)
-  pub numbers : All (λ row. 1 ≤ numbersInLine (columnsOf t) row) (t .lines)
+  pub numbers : All (HasNumber (columnsOf t)) (t .lines)
   pub ends : nameOf (t .ending) ≡ ENDDATA
 
 -- "COMMON section or NOCOMMON", "DATA section or NODATA"

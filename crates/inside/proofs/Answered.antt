@@ -20,6 +20,7 @@ use Rattle.record.specs.System.{upTo}
 use Rattle.columns.specs.declared.columns.RecordNo.{RecordNo}
 use Rattle.columns.specs.declared.columns.LineNo.{LineNo}
 use Rattle.columns.specs.declared.columns.Place.{Place}
+use Rattle.columns.proofs.TablePlaces.{place-at, place-field}
 use Rattle.number.specs.Reading.{readField}
 use Rattle.number.specs.declared.value.Reading.{Reading}
 use Rattle.number.specs.declared.value.Reading.the-variants.{Blank, Number, Refused}
@@ -191,15 +192,14 @@ module _ (s : List ℕ) (accepted : Accepted s) (n : ℕ) (b : Bool) (a : ℕ) (
     above = line .0 - 1
 
     place-record : placeOf at (countN1 fs) line column .at .0 ≡ suc (index (suc (suc above)) ((column - 1) / 6))
-    unfolding placeOf
     place-record =
+        let e = place-at at (countN1 fs) line column in
         let p = suc-mul (suc above) k in
         let q = suc-mul above k in
         let r = at-record in
         omega arith
 
     value-said : isSaid (readField (fieldOf s (placeOf at (countN1 fs) line column))) ≡ true
-    unfolding placeOf
     value-said =
         let q = suc (suc above) in
         let m = (column - 1) / 6 in
@@ -212,7 +212,7 @@ module _ (s : List ℕ) (accepted : Accepted s) (n : ℕ) (b : Bool) (a : ℕ) (
         let f = fields-laid q m h l (placeOf at (countN1 fs) line column .at) place-record in
         let fine = go-fine c i r (contextAt s (suc i)) (walked s accepted .turns i z) .0 in
         let v : isValue (roleOf c r) ≡ true = rw e (value-role b above) in
-        rw f
+        rw (f, place-field at (countN1 fs) line column)
         (said (readField (getD (fieldsOf r) ((column - 1) % 6) []))
         (fine-reads (c .track) (c .seen) (roleOf c r) (fieldsOf r) r fine v ((column - 1) % 6) (omega arith)))
 

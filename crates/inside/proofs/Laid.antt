@@ -48,7 +48,7 @@ rowRole false (suc zero) = COMMON-UNIT
 rowRole false (suc (suc l)) = COMMON-VALUE
 
 -- the row and the line as the track has them; the line is the first until the units are read
-abbrev rowOf : ℕ → ℕ
+abbrev pub rowOf : ℕ → ℕ
 rowOf zero = HEADINGS
 rowOf (suc zero) = UNITS
 rowOf (suc (suc l)) = VALUES
@@ -70,7 +70,7 @@ pub record Laid (b : Bool) (n columns lines q m : ℕ) (c : Context) : Type 0 wh
 
 -- ---- the role
 
-row-role : (b : Bool) (q : ℕ) (t : Track) (k : ℕ) → allRead t ≡ false → t .table .row ≡ rowOf q
+pub row-role : (b : Bool) (q : ℕ) (t : Track) (k : ℕ) → allRead t ≡ false → t .table .row ≡ rowOf q
     → roleIn (phaseIn b) t k ≡ cond (isEnd k) NOT-DUE (rowRole b q)
 unfolding roleIn tableRole
 row-role true zero t k a e = rw (a, e)

@@ -18,6 +18,7 @@ use Rattle.columns.specs.declared.columns.LineNo.{LineNo}
 use Rattle.columns.specs.declared.columns.Place.{Place}
 use Rattle.columns.specs.declared.columns.RecordNo.{RecordNo}
 use Rattle.columns.proofs.ReadColumns.{field-of}
+use Rattle.columns.proofs.TablePlaces.{place-at, place-field}
 use Rattle.record_words.specs.Word.{pointerOf}
 use Rattle.rules_state.specs.Role.{COMMON-HEADING, COMMON-UNIT, COMMON-VALUE, DATA-HEADING, DATA-UNIT, DATA-VALUE}
 use Rattle.rules_system.specs.System.{countN1}
@@ -114,13 +115,14 @@ module _ (s : List ℕ) (accepted : Accepted s) (n : ℕ) (b : Bool) (a : ℕ) (
     -- the line l is row l + 1, behind those of headings and units
     pub value-at : (line : LineNo) → 1 ≤ line .0 → line .0 ≤ linesOf b fs
         → fieldOf s (placeOf at (countN1 fs) line column) ≡ cellAt s (inRow (suc (suc (line .0 - 1)))) f
-    unfolding placeOf
     value-at line lf lt =
         let above = line .0 - 1 in
+        let e = place-at at (countN1 fs) line column in
         let r = at-record s accepted n b a o in
         let x = suc-mul (suc above) k in
         let y = suc-mul above k in
-        field-there (suc (suc above)) (omega arith) (placeOf at (countN1 fs) line column) (omega arith) refl
+        field-there (suc (suc above)) (omega arith) (placeOf at (countN1 fs) line column) (omega arith)
+        (place-field at (countN1 fs) line column)
 
     value-is : (line : LineNo) → valueRefusal s (judgeOf s) (rowOf s n) at shape line column ≡ 0
         → valueAsked s n (sectionNo b) line column .value ≡ readField (fieldOf s (placeOf at (countN1 fs) line column))

@@ -115,7 +115,7 @@ abbrev pub linesOf : Bool → List (List ℕ) → ℕ
 linesOf true fs = countN2 fs
 linesOf false fs = 1
 
-opened-data : (c : Context) (fs : List (List ℕ)) (r : List ℕ) → countN1 fs ≤ MOST-COLUMNS → countN2 fs ≤ MOST-LINES
+pub opened-data : (c : Context) (fs : List (List ℕ)) (r : List ℕ) → countN1 fs ≤ MOST-COLUMNS → countN2 fs ≤ MOST-LINES
     → Laid true (c .track .subentry .number) (countN1 fs) (countN2 fs) 0 0 (contextAfter c DATA fs r)
 unfolding contextAfter phaseAfter trackAfter afterSystem
 opened-data c fs r a b =
@@ -130,7 +130,7 @@ opened-data c fs r a b =
       rest = omega arith;
     })
 
-opened-common : (c : Context) (fs : List (List ℕ)) (r : List ℕ) → countN1 fs ≤ MOST-COLUMNS
+pub opened-common : (c : Context) (fs : List (List ℕ)) (r : List ℕ) → countN1 fs ≤ MOST-COLUMNS
     → Laid false (c .track .subentry .number) (countN1 fs) 1 0 0 (contextAfter c COMMON fs r)
 unfolding contextAfter phaseAfter trackAfter afterSystem
 opened-common c fs r a =

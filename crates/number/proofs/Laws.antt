@@ -1,21 +1,20 @@
 -- The laws of number fields, which the layers above cite by these names.
 -- Assumes nothing.
 use mathlib.Core.Path.{_≡_, refl, sym, ap, _∙_}
-use mathlib.Core.Bool.{Bool}
-use mathlib.Core.Logic.{_↔_}
 use mathlib.Core.List.{List, _++_}
 use Prim.Native.Nat.{ℕ, _<_, _≤_}
 use native.Mathlib.Omega.{arith}
-use lib.IntN.{ℤ, pos, negℤ}
+use borrow.Author.Tests.{eq-eqb, ne-eqb}
 use lib.ListN.{length, getD}
-use lib.Signed.{_≤ℤ_}
 use Rattle.number.specs.declared.value.Decimal.{Decimal}
 use Rattle.number.specs.declared.value.Reading.{Reading}
 use Rattle.number.specs.declared.value.Reading.the-variants.{Blank, Number, Refused}
-use Rattle.number.specs.Grammar.{blanks, Field, GoodField, write, Spells, Letter}
-use Rattle.number.specs.Value.{Value, valueOf, meaning, Reads, Says, blank, number, malformed, WithinColumns}
-use Rattle.number.specs.Reading.{Lead, finish, readField, answer}
+use Rattle.number.specs.Grammar.{blanks, Field, GoodField, write, Letter}
+use Rattle.number.specs.Value.{meaning, Reads, Says, blank, number, malformed, WithinColumns}
+use Rattle.number.specs.Reading.{Lead, finish, readField, readNumber, answer}
 use Rattle.number.specs.Form.{formOf, formRefusal}
+use Rattle.number.specs.Claims.{ValueFound, ValueOne, SpeltOnce, SaysExactly, SaysOnce, ReadsExactly}
+use Rattle.number.specs.Claims.{BlankExactly, ElevenRead, OthersRefused, ReadBoundsEleven}
 use Rattle.number.proofs.Equation as Equation
 use Rattle.number.proofs.Spelling as Spelling
 use Rattle.number.proofs.Follow as Follow
@@ -27,18 +26,18 @@ use Rattle.number.proofs.Sums as Sums
 -- ---- values
 
 -- every sign, whole number and power of ten has a value, and `valueOf` works it out
-pub value-found : (negative : Bool) (a : ℕ) (p : ℤ) → Value negative a p (valueOf negative a p)
+pub value-found : ValueFound
 value-found negative a p = Equation.found negative a p
 
 -- it has no other
-pub value-one : {negative : Bool} {a : ℕ} {p : ℤ} {v w : Decimal} → Value negative a p v → Value negative a p w → v ≡ w
-value-one x y = Equation.one x y
+pub value-one : ValueOne
+value-one negative a p v w x y = Equation.one x y
 
 -- ---- fields
 
 -- the grammar is unambiguous: columns are one field at most
-pub spelt-once : {l : List ℕ} {f g : Field} → Spells l f → Spells l g → f ≡ g
-spelt-once s t = Spelling.once s t
+pub spelt-once : SpeltOnce
+spelt-once l f g s t = Spelling.once s t
 
 -- a field reads to its value
 pub reads-field : (f : Field) → GoodField f → readField (write f) ≡ Number (meaning f)
@@ -47,7 +46,7 @@ reads-field f h = Follow.reads-field f h
 -- ---- reading
 
 -- a list reads to a value exactly when the grammar gives that value
-pub reads-exactly : (l : List ℕ) (v : Decimal) → (readField l ≡ Number v) ↔ Reads l v
+pub reads-exactly : ReadsExactly
 reads-exactly l v = (λ e. by-says (Agree.says l) e, Agree.reads-number)
   where
     by-says : {r : Reading} → Says l r → r ≡ Number v → Reads l v
@@ -60,7 +59,7 @@ pub reads-once : {l : List ℕ} {v w : Decimal} → Reads l v → Reads l w → 
 reads-once x y = let e = Agree.reads-number x in let f = Agree.reads-number y in cc
 
 -- it reads as blank exactly when it is blanks
-pub blank-exactly : (l : List ℕ) → (readField l ≡ Blank) ↔ (l ≡ blanks (length l))
+pub blank-exactly : BlankExactly
 blank-exactly l = (λ e. by-says (Agree.says l) e, λ b. Agree.said-so (blank b))
   where
     by-says : {r : Reading} → Says l r → r ≡ Blank → l ≡ blanks (length l)
@@ -69,12 +68,21 @@ blank-exactly l = (λ e. by-says (Agree.says l) e, λ b. Agree.said-so (blank b)
     by-says (malformed b n) e = let z : _≡_ {A = ℕ} 0 1 = cc in absurd (omega arith)
 
 -- the reading is total: of each list it says what the paper says
-pub says-exactly : (l : List ℕ) (r : Reading) → (readField l ≡ r) ↔ Says l r
+pub says-exactly : SaysExactly
 says-exactly l r = (λ e. rw e at (Agree.says l), Agree.said-so)
 
 -- and one: the paper says one thing of it
-pub says-once : {l : List ℕ} {r s : Reading} → Says l r → Says l s → r ≡ s
-says-once x y = sym (Agree.said-so x) ∙ Agree.said-so y
+pub says-once : SaysOnce
+says-once l r s x y = sym (Agree.said-so x) ∙ Agree.said-so y
+
+-- "40 not eleven bytes"
+pub eleven-read : ElevenRead
+unfolding readNumber
+eleven-read l w = rw (eq-eqb (length l) 11 w)
+
+pub others-refused : OthersRefused
+unfolding readNumber
+others-refused l w = rw (ne-eqb (length l) 11 w)
 
 -- its form has the number of what it reads to
 pub form-refusal : (l : List ℕ) → formRefusal (formOf (readField l)) ≡ answer (readField l) .refusal
@@ -103,12 +111,11 @@ read-bounds w l v h m e =
     let r = reads-exactly l v .0 e in
     let f = r .field in
     let s : write f ≡ l = r .spells .same in
-    let q : meaning f ≡ v = value-one (value-found _ _ _) (r .means) in
+    let q : meaning f ≡ v = value-one _ _ _ _ _ (value-found _ _ _) (r .means) in
     rw q at (Bounds.within w f (r .spells .good) h (rw s m))
 
 -- in eleven columns: coefficient at most 9,999,999,999, power from -100,000,000 to 99,999,999
-pub read-bounds-eleven : (l : List ℕ) (v : Decimal) → length l ≡ 11 → readField l ≡ Number v
-    → (v .coefficient ≤ 9999999999) × (negℤ (pos 100000000) ≤ℤ v .power) × (v .power ≤ℤ pos 99999999)
+pub read-bounds-eleven : ReadBoundsEleven
 read-bounds-eleven l v h e =
     let r = read-bounds 11 l v (omega arith) (omega arith) e in
     (omega (arith, r .coefficient), r .least, Sums.lt-le (v .power) 99999999 (r .most))

@@ -2,3 +2,4 @@ pub mod Grammar
 pub mod Value
 pub mod Reading
 pub mod Form
+pub mod Claims

@@ -1,22 +1,25 @@
--- A part that is handed back lies in the entry, and the place of a value has a number of 32 bits.
+-- A part that is handed back lies in the entry, and its answer has the number that was found; the place of a value has
+-- a number of 32 bits.
 -- Assumes nothing.
 use Prim.Native.Nat.{ℕ, _+_, _-_, _*_, _≤_}
-use mathlib.Core.Path.{_≡_, refl}
+use mathlib.Core.Path.{_≡_, refl, sym, _∙_}
 use mathlib.Core.Bool.{Bool, true, false, cond}
 use mathlib.Core.List.{List}
 use native.Mathlib.Omega.{arith}
 use native.Mathlib.Nat.{mul-le-mul}
 use lib.Dec.{eqb, leb}
 use lib.ListN.{length}
-use borrow.Author.Tests.{leb-true}
+use borrow.Author.Tests.{leb-true, eqb-true}
 use Rattle.columns.specs.Columns.{recordsFor, placeOf, InTable}
 use Rattle.rules_state.specs.State.{MOST-RECORDS, MOST-COLUMNS, MOST-LINES}
 use Rattle.columns.specs.declared.columns.RecordNo.{RecordNo}
 use Rattle.record_words.specs.Word.{pointerOf}
 use Rattle.columns.specs.declared.columns.Place.{Place}
 use Rattle.columns.specs.declared.columns.LineNo.{LineNo}
+use Rattle.columns.proofs.TablePlaces.{place-at, place-field}
 use Rattle.entry.specs.declared.verdict.Verdict.{Verdict}
 use Rattle.entry.specs.Answer.{answerOf, answerFor}
+use Rattle.entry.proofs.Answers.{answer-number}
 use Rattle.questions_rows.specs.declared.row.Row.{Row}
 use Rattle.questions_places.specs.declared.place.Shape.{Shape}
 use Rattle.questions_places.specs.Place.{shapeOf, headingPlace, unitPlace, fieldOf, firstByte, byteOf}
@@ -41,6 +44,21 @@ module _ (s : List ℕ) (v : Verdict) (number from bytes pointer : ℕ) where
           → Lies s (cond t (partFrom s (answerOf 0) from bytes pointer) (noPart (answerFor v number)))
       by-test true = from-lies
       by-test false = record { within = omega arith }
+
+  -- the number of a part's answer
+  pub part-number : partWith s v number from bytes pointer .answer .number ≡ number
+  part-number = by-number (eqb number 0) refl
+    where
+      by-room : (b : Bool)
+          → cond b (record { answer = answerOf 0; first = from; length = bytes; pointer = pointer })
+          (noPart (answerOf 0)) .answer .number ≡ 0
+      by-room true = refl
+      by-room false = refl
+
+      by-number : (b : Bool) → eqb number 0 ≡ b
+          → cond b (partFrom s (answerOf 0) from bytes pointer) (noPart (answerFor v number)) .answer .number ≡ number
+      by-number true e = by-room (leb (from + bytes) (length s)) ∙ sym (eqb-true number 0 e)
+      by-number false e = answer-number v number
 
 module _ (s : List ℕ) (v : Verdict) (x : Row) where
   abbrev asked : ℕ → ℕ → ℕ
@@ -76,8 +94,8 @@ module _ (s : List ℕ) (v : Verdict) (x : Row) where
 pub value-placed : (section : RecordNo) (shape : Shape) (line : LineNo) (column : ℕ) → section .0 ≤ MOST-RECORDS
     → shape .columns ≤ MOST-COLUMNS → shape .lines ≤ MOST-LINES → InShape shape line column
     → InTable section (shape .columns) line column
-unfolding placeOf
 value-placed section shape line column a b c i =
+    let e = place-at section (shape .columns) line column in
     let k : recordsFor (shape .columns) ≤ 3 = omega arith in
     let l : line .0 - 1 ≤ MOST-LINES = omega arith in
     let m = mul-le-mul l k in
@@ -85,5 +103,4 @@ value-placed section shape line column a b c i =
 
 pub value-field : (section : RecordNo) (columns : ℕ) (line : LineNo) (column : ℕ)
     → placeOf section columns line column .field ≤ 5
-unfolding placeOf
-value-field section columns line column = omega arith
+value-field section columns line column = let e = place-field section columns line column in omega arith

@@ -7,7 +7,8 @@
 --   pointer beside either; a passage likewise, whole records. A refused part is empty, its pointer blank; a refused
 --   value is blank beside its number. COMMON has line 1 only; headings and units skip 34."
 use Prim.Native.Nat.{ℕ, _+_, _-_, _*_, _≤_}
-use mathlib.Core.Bool.{Bool, cond, not}
+use mathlib.Core.Path.{_≡_}
+use mathlib.Core.Bool.{Bool, true, cond, not}
 use mathlib.Core.List.{List, [], _∷_, _++_}
 use lib.Dec.{eqb, leb}
 use lib.ListN.{length, take, drop}
@@ -17,7 +18,9 @@ use Rattle.record_words.specs.Word.{pointerOf}
 use Rattle.record.specs.Identifier.{SUBENT}
 use Rattle.columns.specs.declared.columns.RecordNo.{RecordNo}
 use Rattle.columns.specs.declared.columns.LineNo.{LineNo}
-use Rattle.number.specs.Reading.{readField}
+use Rattle.number.specs.Value.{zeroDecimal}
+use Rattle.number.specs.Reading.{readField, answer as readingSaid}
+use Rattle.number.specs.declared.value.Decimal.{Decimal}
 use Rattle.number.specs.declared.value.Reading.{Reading}
 use Rattle.number.specs.declared.value.Reading.the-variants.{Blank}
 use Rattle.entry.specs.declared.verdict.Verdict.{Verdict}
@@ -97,6 +100,32 @@ valueBy s v x section line column =
 
 unfoldable pub valueAsked : List ℕ → ℕ → ℕ → LineNo → ℕ → ValueAnswer
 valueAsked s n section line column = valueBy s (judgeOf s) (rowOf s n) section line column
+
+-- document 01's number and values for each answer about a value, whatever case its reading is. Beside another number
+-- than 0 it is blank (`refused-said`); 15 would stand for a malformed field, and no answered one is (`answered-said`)
+pub record ValueSaid : Type 0 where
+  pub number : ℕ
+  pub blank : Bool
+  pub decimal : Decimal
+
+abbrev pub valueSaid : ValueAnswer → ValueSaid
+valueSaid v =
+    let field = readingSaid (v .value) in
+    record {
+      number = cond (eqb (v .answer .number) 0) (field .refusal) (v .answer .number);
+      blank = field .blank;
+      decimal = field .value;
+    }
+
+-- "a refused value is blank beside its number"
+abbrev pub blankBeside : ℕ → ValueSaid
+blankBeside number = record { number = number; blank = true; decimal = zeroDecimal }
+
+abbrev pub RefusedSaid : Type 0
+RefusedSaid =
+    (s : List ℕ) (n section : ℕ) (line : LineNo) (column : ℕ)
+    → (valueAsked s n section line column .answer .number ≡ 0 → ⊥)
+    → valueSaid (valueAsked s n section line column) ≡ blankBeside (valueAsked s n section line column .answer .number)
 
 -- ---- parts of the entry
 

@@ -4,9 +4,11 @@ ghost use mathlib.Core.Path.{_≡_};
 ghost use Prim.Native.Nat.{ℕ, _+_, _≤_};
 ghost use Rattle.columns.specs.Text.{within};
 ghost use Rattle.entry.specs.Answer.{firstOf, answerOf};
+ghost use Rattle.entry.specs.Part.{Behind};
 ghost use Rattle.questions_rows.specs.Row.{Met};
 ghost use Rattle.questions.specs.Ask.{isSubent, sectionIn, sectionRefusals};
-ghost use Rattle.questions.specs.Ask.{valueRefusal, valueBy, valueAsked, noPart, partFrom, Lies, bytesIn};
+ghost use Rattle.questions.specs.Ask.{valueRefusal, valueBy, valueAsked, valueSaid};
+ghost use Rattle.questions.specs.Ask.{noPart, partFrom, Lies, bytesIn};
 ghost use Rattle.questions.specs.Ask.{columnRefusal, headingBy, headingAsked, unitBy, unitAsked, passageRefusal};
 ghost use Rattle.questions.specs.Ask.{passageBy, passageAsked};
 use columns::columns::LineNo;
@@ -85,6 +87,7 @@ fn part_from(entry: &[u8], first: usize, length: usize, pointer: u8) -> PartAnsw
 // The part itself.
 fn part_of<'a>(entry: &'a [u8], part: PartAnswer) -> &'a [u8]
     requires { ⌜ Lies (now entry) part ⌝ }
+    ensures { λ r. ⌜ Behind (entry .entry .ptr) (r .ptr) (part .first) ⌝ }
     ensures { λ r. ⌜ now r ≡ bytesIn (now (entry .entry)) part ⌝ }
 {
     let first = part.first;
@@ -284,6 +287,7 @@ fn passage_by(entry: &[u8], v: Verdict, row: Row, keyword: [u8; 10], pointer: u8
 // The value in a line and a column of COMMON (section 1) or DATA (section 2) of a subentry.
 pub fn value(entry: &[u8], number: u32, section: u32, line: LineNo, column: u32) -> ValueAnswer
     ensures { λ r. ⌜ r ≡ valueAsked (now (entry .entry)) number section line column ⌝ }
+    ensures { λ r. ⌜ valueSaid r ≡ valueSaid (valueAsked (now (entry .entry)) number section line column) ⌝ }
 {
     let found = locate(entry, number);
     let v = found.verdict;
@@ -321,8 +325,10 @@ pub fn passage(entry: &[u8], number: u32, keyword: [u8; 10], pointer: u8) -> Par
     passage_by(entry, v, row, keyword, pointer)
 }
 
-// The parts themselves; a refused one is empty.
+// The parts themselves, each in its place in the caller's entry; a refused one is empty.
 pub fn heading_part<'a>(entry: &'a [u8], number: u32, section: u32, column: u32) -> &'a [u8]
+    ensures { λ r. ⌜ Behind (entry .entry .ptr) (r .ptr)
+        (headingAsked (now (entry .entry)) number section column .first) ⌝ }
     ensures { λ r. ⌜ now r ≡ bytesIn (now (entry .entry)) (headingAsked (now (entry .entry)) number section column) ⌝ }
 {
     let part = heading(entry, number, section, column);
@@ -330,6 +336,8 @@ pub fn heading_part<'a>(entry: &'a [u8], number: u32, section: u32, column: u32)
 }
 
 pub fn unit_part<'a>(entry: &'a [u8], number: u32, section: u32, column: u32) -> &'a [u8]
+    ensures { λ r. ⌜ Behind (entry .entry .ptr) (r .ptr)
+        (unitAsked (now (entry .entry)) number section column .first) ⌝ }
     ensures { λ r. ⌜ now r ≡ bytesIn (now (entry .entry)) (unitAsked (now (entry .entry)) number section column) ⌝ }
 {
     let part = unit(entry, number, section, column);
@@ -337,6 +345,8 @@ pub fn unit_part<'a>(entry: &'a [u8], number: u32, section: u32, column: u32) ->
 }
 
 pub fn passage_part<'a>(entry: &'a [u8], number: u32, keyword: [u8; 10], pointer: u8) -> &'a [u8]
+    ensures { λ r. ⌜ Behind (entry .entry .ptr) (r .ptr)
+        (passageAsked (now (entry .entry)) number keyword pointer .first) ⌝ }
     ensures { λ r. ⌜ now r ≡ bytesIn (now (entry .entry)) (passageAsked (now (entry .entry)) number keyword pointer) ⌝ }
 {
     let part = passage(entry, number, keyword, pointer);

@@ -1,5 +1,10 @@
+pub mod BlankCount
 pub mod NameTable
 pub mod Powers
 pub mod Found
 pub mod NumberFields
 pub mod Readings
+pub mod PlainColumns
+pub mod PlainNames
+pub mod PlainDigits
+pub mod PlainValues

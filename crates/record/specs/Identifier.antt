@@ -14,60 +14,63 @@ use Rattle.record_words.specs.Word.{equalTo}
 
 -- ---- the names in one table, each known by its place
 
+abbrev pub Identifier : Type 0
+Identifier = ℕ
+
 abbrev pub names : List (List ℕ)
 names =
     text "ENTRY" ∷ text "SUBENT" ∷ text "NOSUBENT" ∷ text "BIB" ∷ text "NOBIB" ∷ text "ENDBIB" ∷ text "COMMON"
     ∷ text "NOCOMMON" ∷ text "ENDCOMMON" ∷ text "DATA" ∷ text "NODATA" ∷ text "ENDDATA" ∷ text "ENDSUBENT"
     ∷ text "ENDENTRY" ∷ []
 
-abbrev pub ENTRY : ℕ
+abbrev pub ENTRY : Identifier
 ENTRY = 0
 
-abbrev pub SUBENT : ℕ
+abbrev pub SUBENT : Identifier
 SUBENT = 1
 
-abbrev pub NOSUBENT : ℕ
+abbrev pub NOSUBENT : Identifier
 NOSUBENT = 2
 
-abbrev pub BIB : ℕ
+abbrev pub BIB : Identifier
 BIB = 3
 
-abbrev pub NOBIB : ℕ
+abbrev pub NOBIB : Identifier
 NOBIB = 4
 
-abbrev pub ENDBIB : ℕ
+abbrev pub ENDBIB : Identifier
 ENDBIB = 5
 
-abbrev pub COMMON : ℕ
+abbrev pub COMMON : Identifier
 COMMON = 6
 
-abbrev pub NOCOMMON : ℕ
+abbrev pub NOCOMMON : Identifier
 NOCOMMON = 7
 
-abbrev pub ENDCOMMON : ℕ
+abbrev pub ENDCOMMON : Identifier
 ENDCOMMON = 8
 
-abbrev pub DATA : ℕ
+abbrev pub DATA : Identifier
 DATA = 9
 
-abbrev pub NODATA : ℕ
+abbrev pub NODATA : Identifier
 NODATA = 10
 
-abbrev pub ENDDATA : ℕ
+abbrev pub ENDDATA : Identifier
 ENDDATA = 11
 
-abbrev pub ENDSUBENT : ℕ
+abbrev pub ENDSUBENT : Identifier
 ENDSUBENT = 12
 
-abbrev pub ENDENTRY : ℕ
+abbrev pub ENDENTRY : Identifier
 ENDENTRY = 13
 
 -- none of them
-abbrev pub OTHER : ℕ
+abbrev pub OTHER : Identifier
 OTHER = 14
 
 -- "one fills columns 1-11, blanks behind"
-abbrev pub nameAt : ℕ → List ℕ
+abbrev pub nameAt : Identifier → List ℕ
 nameAt k = getD names k [] ++ replicate (11 - length (getD names k [])) 32
 
 -- the names as they are lent to a function: eleven columns each, one behind the other
@@ -79,12 +82,12 @@ pub record NamesLent (t : List ℕ) : Type 0 where
 
 -- ---- the identifier of a record, by its first field
 
-unfoldable pub isName : List ℕ → ℕ → Bool
+unfoldable pub isName : List ℕ → Identifier → Bool
 isName f k = equalTo 11 f (nameAt k)
 
-unfoldable pub identifierOf : List ℕ → ℕ
+unfoldable pub identifierOf : List ℕ → Identifier
 identifierOf f = first (isName f) 0 OTHER
 
 -- "one beginning with END"
-unfoldable pub isEnd : ℕ → Bool
+unfoldable pub isEnd : Identifier → Bool
 isEnd k = equalTo 3 (nameAt k) (text "END")

@@ -17,9 +17,9 @@ use Rattle.rules_state.specs.declared.fault.Fault.the-variants.{Fine, At}
 use Rattle.rules_state.specs.declared.state.Track.{Track}
 use Rattle.rules_state.specs.State.{Seen}
 use Rattle.rules_state.specs.Fault.{Finding, firstFault, leftmost}
-use Rattle.rules.specs.Order.{findings, faultOf, Before, noFinding, Least}
+use Rattle.rules.specs.Order.{findings, faultOf, Before, noFinding, Least, FaultLeast}
 use Rattle.rules.specs.Rising.{LAST-RULE, LAST-COLUMN, Rising, no-column, column, Sorted, no-more, also}
-use Rattle.rules.specs.Rising.{FaultBounds}
+use Rattle.rules.specs.Rising.{FaultBounds, FaultBounded}
 use Rattle.rules.proofs.Rising.{findings-rise}
 
 -- ---- columns from left to right
@@ -143,16 +143,17 @@ none-first (f ∷ fs) h = rw (h .0) (none-first fs (h .1))
 
 -- ---- the fault of a record
 
+-- it is the least of what the rules find
+pub fault-least : FaultLeast
+unfolding faultOf
+fault-least t s role fs r n k e = first-least 1 (findings t s role fs r) (findings-rise t s role fs r) n k e
+
+-- in the bounds of its number and its column
+pub fault-bounds : FaultBounded
+fault-bounds t s role fs r n k e =
+    first-bounds (findings t s role fs r) (findings-rise t s role fs r) n k (fault-least t s role fs r n k e)
+
 module _ (t : Track) (s : Seen) (role : ℕ) (fs : List (List ℕ)) (r : List ℕ) where
-  -- it is the least of what the rules find
-  pub fault-least : (n k : ℕ) → faultOf t s role fs r ≡ At n k → Least (findings t s role fs r) n k
-  unfolding faultOf
-  fault-least n k e = first-least 1 (findings t s role fs r) (findings-rise t s role fs r) n k e
-
-  -- in the bounds of its number and its column
-  pub fault-bounds : (n k : ℕ) → faultOf t s role fs r ≡ At n k → FaultBounds n k
-  fault-bounds n k e = first-bounds (findings t s role fs r) (findings-rise t s role fs r) n k (fault-least n k e)
-
   -- and where there is none, no rule finds anything
   pub fine-empty : faultOf t s role fs r ≡ Fine → All Empty (findings t s role fs r)
   unfolding faultOf

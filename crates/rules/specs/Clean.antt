@@ -2,16 +2,16 @@
 -- of record only says nothing of another.
 --
 -- The law `clean-exactly`: the fault of a record is none exactly when it is clean.
-use Prim.Native.Nat.{ℕ}
 use mathlib.Core.Path.{_≡_}
 use mathlib.Core.Bool.{true}
-use mathlib.Core.List.{List, []}
+use mathlib.Core.List.{[]}
 use mathlib.Core.Logic.{_↔_}
 use lib.Dec.{eqb}
 use Rattle.rules_state.specs.declared.fault.Fault.the-variants.{Fine}
 use Rattle.rules_state.specs.declared.state.Track.{Track}
 use Rattle.rules_state.specs.State.{Seen}
-use Rattle.rules_state.specs.Role.{TEXT, DATA-HEADING, isSystem, opensSubentry, isHeading, isUnit, isValue}
+use Rattle.rules_state.specs.Fault.{Record, Fields}
+use Rattle.rules_state.specs.Role.{Role, TEXT, DATA-HEADING, isSystem, opensSubentry, isHeading, isUnit, isValue}
 use Rattle.rules_every.specs.Every.{rule2, rule3, rule4, rule5, rule6}
 use Rattle.rules_system.specs.System.{rule7, rule8, rule9}
 use Rattle.rules_text.specs.Text.{rule10, rule11Text}
@@ -20,7 +20,7 @@ use Rattle.rules_section.specs.Values.{rule15}
 use Rattle.rules.specs.Order.{faultOf}
 
 -- by the rules for every record
-pub record CleanEvery (t : Track) (role : ℕ) (fs : List (List ℕ)) (r : List ℕ) : Type 0 where
+pub record CleanEvery (t : Track) (role : Role) (fs : Fields) (r : Record) : Type 0 where
   pub two : rule2 r ≡ []
   pub three : rule3 r ≡ []
   pub four : rule4 role ≡ []
@@ -28,7 +28,7 @@ pub record CleanEvery (t : Track) (role : ℕ) (fs : List (List ℕ)) (r : List 
   pub six : rule6 t role r ≡ []
 
 -- and by those for its kind
-pub record Clean (t : Track) (s : Seen) (role : ℕ) (fs : List (List ℕ)) (r : List ℕ) : Type 0 where
+pub record Clean (t : Track) (s : Seen) (role : Role) (fs : Fields) (r : Record) : Type 0 where
   pub every : CleanEvery t role fs r
   pub seven : isSystem role ≡ true → rule7 role fs ≡ []
   pub eight : isSystem role ≡ true → rule8 t role fs ≡ []
@@ -44,5 +44,5 @@ pub record Clean (t : Track) (s : Seen) (role : ℕ) (fs : List (List ℕ)) (r :
 
 -- "a record without fault" and "each rule finds nothing" are one
 abbrev pub CleanExactly : Type 0
-CleanExactly = (t : Track) (s : Seen) (role : ℕ) (fs : List (List ℕ)) (r : List ℕ)
+CleanExactly = (t : Track) (s : Seen) (role : Role) (fs : Fields) (r : Record)
     → (faultOf t s role fs r ≡ Fine) ↔ Clean t s role fs r

@@ -13,12 +13,13 @@ use lib.ListN.{length, getD}
 use Rattle.columns.specs.Columns.{Whole}
 use Rattle.record.specs.declared.numbers.Values.{Values}
 use Rattle.rules_state.specs.declared.fault.Fault.{Fault}
+use Rattle.rules_state.specs.declared.fault.Fault.the-variants.{At}
 use Rattle.rules_state.specs.declared.state.Track.{Track}
 use Rattle.rules_state.specs.declared.ranging.Ranges.{Ranges}
 use Rattle.rules_state.specs.State.{Seen}
 use Rattle.rules_state.specs.Ranging.{Stands}
-use Rattle.rules_state.specs.Role.{TEXT, DATA-HEADING, isSystem, opensSubentry, isHeading, isUnit, isValue}
-use Rattle.rules_state.specs.Fault.{on, leftmost, Finding, finding, firstFault}
+use Rattle.rules_state.specs.Role.{Role, TEXT, DATA-HEADING, isSystem, opensSubentry, isHeading, isUnit, isValue}
+use Rattle.rules_state.specs.Fault.{Record, Fields, on, leftmost, Finding, finding, firstFault}
 use Rattle.rules_every.specs.Every.{rule2, rule3, rule4, rule5, rule6}
 use Rattle.rules_system.specs.System.{rule7, rule8, rule9}
 use Rattle.rules_text.specs.Text.{rule10, rule11Text}
@@ -26,7 +27,7 @@ use Rattle.rules_section.specs.Headings.{rule11Heading, rule12Heading, rule12Un
 use Rattle.rules_section.specs.Values.{rule15, valuesFor}
 
 -- what the rules find on a record, from what is counted and seen before it, its role and its six fields
-abbrev pub findings : Track → Seen → ℕ → List (List ℕ) → List ℕ → List Finding
+abbrev pub findings : Track → Seen → Role → Fields → Record → List Finding
 findings t s role fs r =
     finding 2 (rule2 r)
     ∷ finding 3 (rule3 r)
@@ -44,11 +45,11 @@ findings t s role fs r =
     ∷ finding 15 (on (isValue role) (rule15 t role fs))
     ∷ []
 
-unfoldable pub faultOf : Track → Seen → ℕ → List (List ℕ) → List ℕ → Fault
+unfoldable pub faultOf : Track → Seen → Role → Fields → Record → Fault
 faultOf t s role fs r = firstFault (findings t s role fs r)
 
 -- what the rules are lent: the state before the record, the record, its fields and what these read to
-pub record Judged (t : Track) (g : Ranges) (before r : List ℕ) (role : ℕ) (fs : List (List ℕ)) (values : Values)
+pub record Judged (t : Track) (g : Ranges) (before : List ℕ) (r : Record) (role : Role) (fs : Fields) (values : Values)
     : Type 0 where
   pub stands : Stands t g before
   pub whole : Whole r
@@ -73,3 +74,9 @@ pub record Least (fs : List Finding) (n k : ℕ) : Type 0 where
   pub some : 1 ≤ k
   pub least : (i j : ℕ) → i < length fs → j < length (getD fs i noFinding .columns)
       → Before n k (getD fs i noFinding .number) (getD (getD fs i noFinding .columns) j 0)
+
+-- the fault of a record is the least of what the rules find on it
+abbrev pub FaultLeast : Type 0
+FaultLeast =
+    (t : Track) (s : Seen) (role : Role) (fs : Fields) (r : Record) (n k : ℕ) → faultOf t s role fs r ≡ At n k
+    → Least (findings t s role fs r) n k

@@ -11,25 +11,25 @@ use Rattle.record_words.specs.Word.{equalTo}
 use Rattle.record.specs.Expected.{identificationOf, sequenceOf, inDigits, identificationFor, entryAccession}
 use Rattle.record.specs.Expected.{subentIdentification}
 use Rattle.rules_state.specs.declared.state.Track.{Track}
-use Rattle.rules_state.specs.Role.{NOT-DUE, opensSubentry}
-use Rattle.rules_state.specs.Fault.{when, columnsWhere}
+use Rattle.rules_state.specs.Role.{Role, NOT-DUE, opensSubentry}
+use Rattle.rules_state.specs.Fault.{Record, Fields, Columns, when, columnsWhere}
 
 -- 2, "byte 81 not a line feed", column 81
-unfoldable pub rule2 : List ℕ → List ℕ
+unfoldable pub rule2 : Record → Columns
 rule2 r = when (not (hasLineFeed r)) 81
 
 -- 3, "character not permitted", column "that one"
-unfoldable pub rule3 : List ℕ → List ℕ
+unfoldable pub rule3 : Record → Columns
 rule3 r = columnsWhere (notPermitted r) (λ i. i + 1) 80
 
 -- 4, "record not due by nesting or counts; also any system identifier inside BIB, one beginning with END inside
 -- COMMON or DATA, NOSUBENT or ENDENTRY before a SUBENT, anything after ENDENTRY", column 1
-unfoldable pub rule4 : ℕ → List ℕ
+unfoldable pub rule4 : Role → Columns
 rule4 role = when (eqb role NOT-DUE) 1
 
 -- "Identification: the entry's accession throughout; subentry 000 on ENTRY, 999 on ENDENTRY, else its own number."
 -- "On ENTRY, SUBENT and NOSUBENT, number 5 compares bytes with the record's own N1 (on ENTRY then 000)."
-unfoldable pub expectedIdentification : Track → ℕ → List (List ℕ) → List ℕ
+unfoldable pub expectedIdentification : Track → Role → Fields → List ℕ
 expectedIdentification t role fs =
     cond (eqb role ENTRY) (identificationFor (entryAccession (n1 fs)) 0)
     (cond (opensSubentry role) (subentIdentification (n1 fs))
@@ -37,15 +37,15 @@ expectedIdentification t role fs =
     (identificationFor (t .accession) (t .subentry .number))))
 
 -- 5, "wrong accession or subentry in 67-74", column 67
-unfoldable pub rule5 : Track → ℕ → List (List ℕ) → List ℕ → List ℕ
+unfoldable pub rule5 : Track → Role → Fields → Record → Columns
 rule5 t role fs r = when (not (equalTo 8 (identificationOf r) (expectedIdentification t role fs))) 67
 
 -- "Sequence 00001 on ENTRY, SUBENT and NOSUBENT, one more on each following record, 99999 on ENDSUBENT and ENDENTRY."
-unfoldable pub expectedSequence : Track → ℕ → ℕ
+unfoldable pub expectedSequence : Track → Role → ℕ
 expectedSequence t role =
     cond (eqb role ENTRY || opensSubentry role) 1
     (cond (eqb role ENDSUBENT || eqb role ENDENTRY) 99999 (t .subentry .records + 2))
 
 -- 6, "wrong sequence", column 75
-unfoldable pub rule6 : Track → ℕ → List ℕ → List ℕ
+unfoldable pub rule6 : Track → Role → Record → Columns
 rule6 t role r = when (not (equalTo 5 (sequenceOf r) (inDigits 5 (expectedSequence t role)))) 75

@@ -1,2 +1,3 @@
 pub mod EarlierParts
 pub mod ReadValues
+pub mod BlankFields

@@ -16,21 +16,21 @@ use Rattle.rules_state.specs.declared.state.Track.{Track}
 use Rattle.rules_section.specs.declared.headings.Found.{Found}
 use Rattle.rules_section.specs.declared.headings.Found.the-variants.{At, Nothing}
 use Rattle.rules_state.specs.State.{Seen, used}
-use Rattle.rules_state.specs.Fault.{columnsWhere, fieldColumn, pointerColumn}
+use Rattle.rules_state.specs.Fault.{Record, Fields, Columns, columnsWhere, fieldColumn, pointerColumn}
 use Rattle.rules_text.specs.Text.{pointersOf}
 
 -- "A heading is a word in ten columns, with a pointer or blank in the eleventh. A unit is a word in ten columns,
 -- eleventh blank." "unused fields are blank"
 
 -- 11, "bad pointer character (unused fields aside)", column "the pointer's"
-unfoldable pub rule11Heading : Track → List (List ℕ) → List ℕ
+unfoldable pub rule11Heading : Track → Fields → Columns
 rule11Heading t fs = columnsWhere (inField (pointerFault (used t)) fs) pointerColumn 6
 
 -- 12, "heading or unit no word, unit's eleventh column filled, unused field filled", column "field's first"
-unfoldable pub rule12Heading : Track → List (List ℕ) → List ℕ
+unfoldable pub rule12Heading : Track → Fields → Columns
 rule12Heading t fs = columnsWhere (inField (headingFault (used t)) fs) fieldColumn 6
 
-unfoldable pub rule12Unit : Track → List (List ℕ) → List ℕ
+unfoldable pub rule12Unit : Track → Fields → Columns
 rule12Unit t fs = columnsWhere (inField (unitFault (used t)) fs) fieldColumn 6
 
 -- ---- headings met before
@@ -107,12 +107,12 @@ earlier common001 common table r k =
     record { common001 = common001; common = common; table = table; here = r; left = k }
 
 -- "No heading with its pointer occurs twice within the COMMON of 001, this subentry's COMMON and its DATA together."
-abbrev pub headingRepeated : List ℕ → List ℕ → List ℕ → List ℕ → List (List ℕ) → ℕ → Bool
+abbrev pub headingRepeated : List ℕ → List ℕ → List ℕ → Record → Fields → ℕ → Bool
 headingRepeated common001 common table r fs k =
     isFound (equalHeading (getD fs k []) (earlier common001 common table r k))
 
 -- 13, "heading repeated", column "field's first"
-unfoldable pub rule13 : Seen → Track → List (List ℕ) → List ℕ → List ℕ
+unfoldable pub rule13 : Seen → Track → Fields → Record → Columns
 rule13 s t fs r = columnsWhere (headingRepeated (s .common001) (s .common) (s .table) r fs) fieldColumn (used t)
 
 -- ---- pointers
@@ -132,10 +132,10 @@ pointersFor bib bib001 common common001 =
 abbrev pub pointerLost : List ℕ → List ℕ → Bool
 pointerLost pointers f = not (isBlank (pointerOf f)) && not (anyOf (eqb (pointerOf f)) pointers)
 
-abbrev pub lostAt : List ℕ → List (List ℕ) → ℕ → Bool
+abbrev pub lostAt : List ℕ → Fields → ℕ → Bool
 lostAt pointers fs k = pointerLost pointers (getD fs k [])
 
 -- 14, "DATA pointer not found", column "field's first"
-unfoldable pub rule14 : Seen → Track → List (List ℕ) → List ℕ
+unfoldable pub rule14 : Seen → Track → Fields → Columns
 rule14 s t fs =
     columnsWhere (lostAt (pointersFor (s .bib) (s .bib001) (s .common) (s .common001)) fs) fieldColumn (used t)

@@ -7,25 +7,39 @@ use lib.Dec.{eqb, ltb}
 use Rattle.rules_state.specs.declared.fault.Fault.{Fault}
 use Rattle.rules_state.specs.declared.fault.Fault.the-variants.{Fine, At}
 
+-- ---- what a rule is made on, and what it gives
+
+-- the bytes of a record
+abbrev pub Record : Type 0
+Record = List ℕ
+
+-- its six fields
+abbrev pub Fields : Type 0
+Fields = List (List ℕ)
+
+-- columns of it, by their numbers, from 1
+abbrev pub Columns : Type 0
+Columns = List ℕ
+
 -- ---- columns at fault
 
 -- those of a rule that is made on this kind of record, none where it is not
-abbrev pub on : Bool → List ℕ → List ℕ
+abbrev pub on : Bool → Columns → Columns
 on true columns = columns
 on false columns = []
 
 -- the column, where the test holds
-abbrev pub when : Bool → ℕ → List ℕ
+abbrev pub when : Bool → ℕ → Columns
 when true column = column ∷ []
 when false column = []
 
 -- of the n places from i those that meet a test, each as a column
-unfoldable pub columnsFrom : (ℕ → Bool) → (ℕ → ℕ) → ℕ → ℕ → List ℕ
+unfoldable pub columnsFrom : (ℕ → Bool) → (ℕ → ℕ) → ℕ → ℕ → Columns
 columnsFrom test column i zero = []
 columnsFrom test column i (suc n) =
     cond (test i) (column i ∷ columnsFrom test column (i + 1) n) (columnsFrom test column (i + 1) n)
 
-abbrev pub columnsWhere : (ℕ → Bool) → (ℕ → ℕ) → ℕ → List ℕ
+abbrev pub columnsWhere : (ℕ → Bool) → (ℕ → ℕ) → ℕ → Columns
 columnsWhere test column n = columnsFrom test column 0 n
 
 -- the first column of the field k, and its eleventh, which is a pointer's
@@ -40,7 +54,7 @@ abbrev pub columnAt : (ℕ → ℕ) → ℕ → ℕ → ℕ
 columnAt column k n = cond (ltb k n) (column k) 0
 
 -- "within that the leftmost column"; columns are numbered from 1, and 0 is none
-abbrev pub leftmost : List ℕ → ℕ
+abbrev pub leftmost : Columns → ℕ
 leftmost [] = 0
 leftmost (column ∷ columns) = column
 
@@ -49,9 +63,9 @@ leftmost (column ∷ columns) = column
 -- what a rule found: its refusal number, and the columns
 pub record Finding : Type 0 where
   pub number : ℕ
-  pub columns : List ℕ
+  pub columns : Columns
 
-abbrev pub finding : ℕ → List ℕ → Finding
+abbrev pub finding : ℕ → Columns → Finding
 finding number columns = record { number = number; columns = columns }
 
 -- the number with its column, or what is found further on

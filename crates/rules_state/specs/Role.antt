@@ -4,7 +4,7 @@ use Prim.Native.Nat.{ℕ, _+_}
 use mathlib.Core.Bool.{Bool, cond, _||_}
 use lib.Dec.{eqb, ltb}
 use Rattle.record.specs.Identifier.{ENTRY, SUBENT, NOSUBENT, BIB, NOBIB, ENDBIB, COMMON, NOCOMMON, ENDCOMMON, DATA}
-use Rattle.record.specs.Identifier.{NODATA, ENDDATA, ENDSUBENT, ENDENTRY, OTHER, isEnd}
+use Rattle.record.specs.Identifier.{NODATA, ENDDATA, ENDSUBENT, ENDENTRY, OTHER, Identifier, isEnd}
 use Rattle.rules_state.specs.declared.state.Track.{Track}
 use Rattle.rules_state.specs.declared.state.Phase.{Phase}
 use Rattle.rules_state.specs.declared.state.Phase.the-variants.{Start, Opened, InSubentry, InBib, AfterBib}
@@ -14,65 +14,68 @@ use Rattle.rules_state.specs.State.{HEADINGS, UNITS}
 
 -- ---- the roles: a system record has its identifier's number; the records inside sections have these
 
-abbrev pub TEXT : ℕ
+abbrev pub Role : Type 0
+Role = ℕ
+
+abbrev pub TEXT : Role
 TEXT = OTHER + 1
 
-abbrev pub COMMON-HEADING : ℕ
+abbrev pub COMMON-HEADING : Role
 COMMON-HEADING = OTHER + 2
 
-abbrev pub COMMON-UNIT : ℕ
+abbrev pub COMMON-UNIT : Role
 COMMON-UNIT = OTHER + 3
 
-abbrev pub COMMON-VALUE : ℕ
+abbrev pub COMMON-VALUE : Role
 COMMON-VALUE = OTHER + 4
 
-abbrev pub DATA-HEADING : ℕ
+abbrev pub DATA-HEADING : Role
 DATA-HEADING = OTHER + 5
 
-abbrev pub DATA-UNIT : ℕ
+abbrev pub DATA-UNIT : Role
 DATA-UNIT = OTHER + 6
 
-abbrev pub DATA-VALUE : ℕ
+abbrev pub DATA-VALUE : Role
 DATA-VALUE = OTHER + 7
 
-abbrev pub NOT-DUE : ℕ
+abbrev pub NOT-DUE : Role
 NOT-DUE = OTHER + 8
 
 -- ---- kinds of roles
 
 -- one of the fourteen system identifiers
-abbrev pub isSystem : ℕ → Bool
+abbrev pub isSystem : Role → Bool
 isSystem role = ltb role OTHER
 
 -- SUBENT or NOSUBENT
-abbrev pub opensSubentry : ℕ → Bool
+abbrev pub opensSubentry : Role → Bool
 opensSubentry role = eqb role SUBENT || eqb role NOSUBENT
 
 -- BIB, COMMON or DATA, whose N1 and N2 are counts
-abbrev pub opensSection : ℕ → Bool
+abbrev pub opensSection : Role → Bool
 opensSection role = eqb role BIB || (eqb role COMMON || eqb role DATA)
 
-abbrev pub isHeading : ℕ → Bool
+abbrev pub isHeading : Role → Bool
 isHeading role = eqb role COMMON-HEADING || eqb role DATA-HEADING
 
-abbrev pub isUnit : ℕ → Bool
+abbrev pub isUnit : Role → Bool
 isUnit role = eqb role COMMON-UNIT || eqb role DATA-UNIT
 
-abbrev pub isValue : ℕ → Bool
+abbrev pub isValue : Role → Bool
 isValue role = eqb role COMMON-VALUE || eqb role DATA-VALUE
 
 -- ---- what is due
 
 -- the identifier a, and nothing else
-abbrev pub only : ℕ → ℕ → ℕ
+abbrev pub only : Identifier → Identifier → Role
 only a k = cond (eqb k a) a NOT-DUE
 
 -- the identifier a or b
-abbrev pub either : ℕ → ℕ → ℕ → ℕ
+abbrev pub either : Identifier → Identifier → Identifier → Role
 either a b k = cond (eqb k a) a (only b k)
 
 -- inside BIB: as many text records as BIB announces, "any system identifier inside BIB" being 4; then ENDBIB
-unfoldable pub bibRole : Track → ℕ → ℕ
+unfoldable pub bibRole : Track → Identifier → Role
 bibRole t k = cond (eqb (t .section) (t .bib .records)) (only ENDBIB k) (cond (eqb k OTHER) TEXT NOT-DUE)
 
 -- the lines that COMMON or DATA announces are all read
@@ -80,7 +83,7 @@ abbrev pub allRead : Track → Bool
 allRead t = ltb (t .table .last .0) (t .table .line .0)
 
 -- inside COMMON and DATA: headings, units and lines, "one beginning with END" being 4; then the END record
-unfoldable pub tableRole : ℕ → ℕ → ℕ → ℕ → Track → ℕ → ℕ
+unfoldable pub tableRole : Identifier → Role → Role → Role → Track → Identifier → Role
 tableRole end heading unit value t k =
     cond (allRead t) (only end k)
     (cond (isEnd k) NOT-DUE
@@ -88,17 +91,17 @@ tableRole end heading unit value t k =
     (cond (eqb (t .table .row) UNITS) unit value)))
 
 -- "then (except in 001) DATA section or NODATA, then ENDSUBENT"
-unfoldable pub dataRole : Track → ℕ → ℕ
+unfoldable pub dataRole : Track → Identifier → Role
 dataRole t k = cond (eqb (t .subentry .number) 1) (only ENDSUBENT k) (either DATA NODATA k)
 
 -- after a subentry: another one, or ENDENTRY
-abbrev pub nextRole : ℕ → ℕ
+abbrev pub nextRole : Identifier → Role
 nextRole k = cond (eqb k SUBENT) SUBENT (either NOSUBENT ENDENTRY k)
 
 -- "ENTRY; one or more subentries; ENDENTRY. A subentry is NOSUBENT alone, or SUBENT, then BIB section or NOBIB, then
 -- COMMON section or NOCOMMON, then (except in 001) DATA section or NODATA, then ENDSUBENT. The first subentry is
 -- SUBENT 001."
-unfoldable pub roleIn : Phase → Track → ℕ → ℕ
+unfoldable pub roleIn : Phase → Track → Identifier → Role
 roleIn Start t k = only ENTRY k
 roleIn Opened t k = only SUBENT k
 roleIn InSubentry t k = either BIB NOBIB k

@@ -9,7 +9,7 @@ use Rattle.columns.specs.Columns.{columnsAt}
 use Rattle.columns.specs.Text.{isBlank}
 use Rattle.record_words.specs.Word.{blankTo, equalTo, eightAt, isWord, pointerOf, badPointer}
 use Rattle.rules_state.specs.declared.state.Track.{Track}
-use Rattle.rules_state.specs.Fault.{when}
+use Rattle.rules_state.specs.Fault.{Fields, Columns, when}
 
 -- "BIB: columns 1-10 a keyword (word) or blank, 11 a pointer or blank, 12-66 text."
 
@@ -37,7 +37,7 @@ keywordFault bib t f =
     (not (isWord 10 f) || anyOf (equalTo 10 f) (placesOf bib))
 
 -- 10, "keyword missing, malformed or repeated", column 1
-unfoldable pub rule10 : List ℕ → Track → List (List ℕ) → List ℕ
+unfoldable pub rule10 : List ℕ → Track → Fields → Columns
 rule10 bib t fs = when (keywordFault bib t (getD fs 0 [])) 1
 
 -- "no pointer twice under one keyword"; `under` are the records under the keyword in hand, none where this record has
@@ -47,5 +47,5 @@ pointerRepeated under f =
     not (isBlank (pointerOf f)) && (blankTo 10 f && anyOf (eqb (pointerOf f)) (pointersOf under))
 
 -- 11, "bad pointer character (unused fields aside), or repeated under its keyword", column "the pointer's"
-unfoldable pub rule11Text : List ℕ → List (List ℕ) → List ℕ
+unfoldable pub rule11Text : List ℕ → Fields → Columns
 rule11Text under fs = when (badPointer (getD fs 0 []) || pointerRepeated under (getD fs 0 [])) 11

@@ -1,4 +1,6 @@
-use Rattle.columns.specs.Class.{classTable}
+use Rattle.laws.specs.Members.{anyOf, listOf}
+use Rattle.columns.specs.Class.{classOf, classTable}
+use Rattle.columns.proofs.ClassTable.{by-parts}
 use mathlib.Core.Path.{refl}
 use Rattle.columns.proofs.class.classes.Statement.{statement}
 use Rattle.columns.proofs.class.classes.Tie as tie
@@ -6,9 +8,10 @@ use Rattle.columns.proofs.class.classes.Reads as reads
 use Rattle.columns.proofs.class.classes.Lts as lts
 
 -- src/class.rt:268:1
+-- the one test of the table, computed for all 256 entries
 returns : tie.Need-returns
-unfolding classTable
-returns c = refl
+unfolding classTable listOf classOf anyOf
+returns c = by-parts 128 128 0 _ (by-parts 64 64 0 _ refl refl) (by-parts 64 64 128 _ refl refl)
 
 pub classes-spec : {M : Type 1} → statement M
 classes-spec = tie.close (tie.spec returns)

@@ -7,6 +7,11 @@ use Rattle.columns.proofs.columns.place_of.Reads as reads
 use Rattle.columns.proofs.columns.place_of.Lts as lts
 use Rattle.columns.proofs.columns.records_for.Reads as records-for-reads
 
+-- src/columns.rt:53:1
+returns : tie.Need-returns
+unfolding placeOf
+returns c = rw (← c .before .before .records-for .ensures)
+
 -- src/columns.rt:57:13
 records-for-requires : tie.Need-records-for-requires
 records-for-requires c κs = search needs
@@ -73,11 +78,6 @@ unfolding placeOf
 cast-t13 c =
     let h = rw (← c .before .before .records-for .ensures) at (c .before .before .before .pre .number) in
     omega (arith, h)
-
--- src/columns.rt:53:1
-returns : tie.Need-returns
-unfolding placeOf
-returns c = rw (← c .before .before .records-for .ensures)
 
 pub place-of-spec : {M : Type 1} → statement M
 place-of-spec =

@@ -33,7 +33,15 @@ field-requires-6 c κs = search needs
 -- src/fields.rt:28:1
 returns : tie.Need-returns
 unfolding fieldsOf
-returns c = cc
+returns c =
+    rw (
+      c .before .before .before .before .before .field .ensures,
+      c .before .before .before .before .field2 .ensures,
+      c .before .before .before .field3 .ensures,
+      c .before .before .field4 .ensures,
+      c .before .field5 .ensures,
+      c .field6 .ensures,
+    )
 
 pub fields-spec : {M : Type 1} → statement M
 fields-spec =

@@ -1,10 +1,15 @@
+use mathlib.Core.Path.{_≡_}
+use native.Mathlib.Omega.{arith}
 use borrow.Author.Tests.{eq-eqb, ne-eqb}
 use borrow.Author.Needs.{needs}
 use Rattle.entry.proofs.answer.answer_for.Statement.{statement}
 use Rattle.entry.proofs.answer.answer_for.Tie as tie
 
 returns : tie.Need-returns
-returns c = rw (eq-eqb _ _ (c .before .if1 .taken))
+returns c =
+    let t = c .before .if1 .taken in
+    let e : c .before .before .args .number ≡ 31 = omega arith in
+    rw (eq-eqb _ 31 e)
 
 answer-of-requires : tie.Need-answer-of-requires
 answer-of-requires c κs = search needs

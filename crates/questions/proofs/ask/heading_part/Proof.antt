@@ -20,7 +20,10 @@ part-of-requires c κs = rw (c .heading .ensures) (heading-lies _ _ _ _ _)
 
 -- src/ask.rt:361:1
 returns : tie.Need-returns
-returns c = c .part-of .ensures ∙ ap (bytesIn (c .before .before .before .args .entry .now)) (c .before .heading .ensures)
+returns c = (
+  rw (← c .before .heading .ensures) (c .part-of .ensures .0),
+  c .part-of .ensures .1 ∙ ap (bytesIn (c .before .before .before .args .entry .now)) (c .before .heading .ensures),
+)
 
 pub heading-part-spec : {M : Type 1} → statement M
 heading-part-spec = tie.close (tie.spec heading-requires part-of-requires returns)

@@ -1,4 +1,6 @@
+use mathlib.Core.Path.{refl}
 use native.Mathlib.Nat.{add-sub-cancel-left}
+use native.Mathlib.Omega.{arith}
 use borrow.Author.Needs.{needs}
 use Rattle.questions.proofs.ask.part_of.Statement.{statement}
 use Rattle.questions.proofs.ask.part_of.Tie as tie
@@ -23,7 +25,7 @@ part-result-end c = search needs
 
 -- src/ask.rt:111:1
 returns : tie.Need-returns
-returns c = rw add-sub-cancel-left
+returns c = (record { block = refl; offset = omega arith }, rw add-sub-cancel-left refl)
 
 pub part-of-spec : {M : Type 1} → statement M
 part-of-spec = tie.close (tie.spec add-past sub-result part-result-start part-result-end returns)

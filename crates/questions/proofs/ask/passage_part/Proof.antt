@@ -20,7 +20,10 @@ part-of-requires c κs = rw (c .passage .ensures) (passage-lies _ _ _ _ _)
 
 -- src/ask.rt:375:1
 returns : tie.Need-returns
-returns c = c .part-of .ensures ∙ ap (bytesIn (c .before .before .before .args .entry .now)) (c .before .passage .ensures)
+returns c = (
+  rw (← c .before .passage .ensures) (c .part-of .ensures .0),
+  c .part-of .ensures .1 ∙ ap (bytesIn (c .before .before .before .args .entry .now)) (c .before .passage .ensures),
+)
 
 pub passage-part-spec : {M : Type 1} → statement M
 passage-part-spec = tie.close (tie.spec passage-requires part-of-requires returns)

@@ -1,3 +1,5 @@
+use mathlib.Core.Path.{_≡_}
+use native.Mathlib.Omega.{arith}
 use borrow.Author.Tests.{eq-eqb, ne-eqb}
 use Rattle.questions.proofs.ask.section_in.Statement.{statement}
 use Rattle.questions.proofs.ask.section_in.Tie as tie
@@ -10,7 +12,10 @@ returns c = rw (eq-eqb _ _ (c .before .if1 .taken))
 
 -- src/ask.rt:138:9
 returns-2 : tie.Need-returns-2
-returns-2 c = rw (ne-eqb _ _ (c .before .before .if1 .left), eq-eqb _ _ (c .before .if2 .taken))
+returns-2 c =
+    let t = c .before .if2 .taken in
+    let two : c .before .before .before .args .section ≡ 2 = omega arith in
+    rw (ne-eqb _ _ (c .before .before .if1 .left), eq-eqb _ 2 two)
 
 -- src/ask.rt:131:1
 returns-3 : tie.Need-returns-3

@@ -20,7 +20,10 @@ part-of-requires c κs = rw (c .unit .ensures) (unit-lies _ _ _ _ _)
 
 -- src/ask.rt:368:1
 returns : tie.Need-returns
-returns c = c .part-of .ensures ∙ ap (bytesIn (c .before .before .before .args .entry .now)) (c .before .unit .ensures)
+returns c = (
+  rw (← c .before .unit .ensures) (c .part-of .ensures .0),
+  c .part-of .ensures .1 ∙ ap (bytesIn (c .before .before .before .args .entry .now)) (c .before .unit .ensures),
+)
 
 pub unit-part-spec : {M : Type 1} → statement M
 unit-part-spec = tie.close (tie.spec unit-requires part-of-requires returns)

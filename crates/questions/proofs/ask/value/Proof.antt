@@ -1,5 +1,5 @@
-use mathlib.Core.Path.{_∙_}
-use Rattle.questions.specs.Ask.{valueAsked}
+use mathlib.Core.Path.{_∙_, ap}
+use Rattle.questions.specs.Ask.{valueAsked, valueSaid}
 use borrow.Author.Needs.{needs}
 use Rattle.questions.proofs.ask.value.Statement.{statement}
 use Rattle.questions.proofs.ask.value.Tie as tie
@@ -19,7 +19,10 @@ value-by-requires c κs = search needs
 -- src/ask.rt:321:1
 returns : tie.Need-returns
 unfolding valueAsked
-returns c = c .value-by .ensures ∙ rw (c .before .before .before .locate .ensures .0)
+returns c = (
+  c .value-by .ensures ∙ rw (c .before .before .before .locate .ensures .0),
+  ap valueSaid (c .value-by .ensures) ∙ rw (c .before .before .before .locate .ensures .0),
+)
 
 pub value-spec : {M : Type 1} → statement M
 value-spec = tie.close (tie.spec locate-requires value-by-requires returns)

@@ -1,5 +1,5 @@
-use Rattle.laws.specs.Search.{first}
-use Rattle.record_words.specs.Word.{equalTo}
+use mathlib.Core.Path.{_∙_}
+use Rattle.record_words.proofs.EqualColumns.{equal-ten}
 use borrow.Author.Needs.{needs}
 use Rattle.questions_places.proofs.passage.is_keyword.Statement.{statement}
 use Rattle.questions_places.proofs.passage.is_keyword.Tie as tie
@@ -62,8 +62,9 @@ same-keyword-requires c κs = search needs
 
 -- src/passage.rt:29:1
 returns-2 : tie.Need-returns-2
-unfolding equalTo first
-returns-2 c = rw (← c .before .before .is-keyword-blank .ensures, c .before .if1 .left) (c .same-keyword .ensures)
+returns-2 c =
+    rw (← c .before .before .is-keyword-blank .ensures, c .before .if1 .left)
+    (c .same-keyword .ensures ∙ equal-ten _ _ _)
 
 pub is-keyword-spec : {M : Type 1} → statement M
 is-keyword-spec =

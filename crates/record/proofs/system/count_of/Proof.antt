@@ -1,3 +1,6 @@
+use Prim.Native.Nat.{ℕ}
+use mathlib.Core.Path.{ap}
+use Rattle.record.specs.declared.system.Count.the-variants.{Number}
 use Rattle.record.specs.System.{integerOf}
 use borrow.Author.Needs.{needs}
 use borrow.Author.Tests.{eq-eqb, ne-eqb, not-false, not-true}
@@ -53,8 +56,7 @@ returns-3 c =
           (c .before .before .before .if1 .left),
       ← c .before .before .digits-in .ensures,
       not-false (c .before .before .digits-in .result) (c .before .if2 .left),
-      ← c .number-in .ensures .0,
-    )
+    ) (ap (λ (n : ℕ). Number n) (c .number-in .ensures .0))
 
 pub count-of-spec : {M : Type 1} → statement M
 count-of-spec =

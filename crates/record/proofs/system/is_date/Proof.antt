@@ -1,6 +1,9 @@
+use Rattle.columns.specs.Text.{within}
 use Rattle.record.specs.System.{isDate}
 use borrow.Author.Needs.{needs}
 use borrow.Author.Tests.{not-false, not-true}
+use mathlib.Core.Bool.{false}
+use mathlib.Core.Path.{_≡_, _∙_, sym}
 use Rattle.record.proofs.system.is_date.Statement.{statement}
 use Rattle.record.proofs.system.is_date.Tie as tie
 use Rattle.record.proofs.system.is_date.Reads as reads
@@ -48,6 +51,8 @@ is-within-requires c κs = search needs
 returns-3 : tie.Need-returns-3
 unfolding isDate
 returns-3 c =
+    let e : within 1 12 (c .before .before .number-in .result) ≡ false
+    = sym (c .before .is-within .ensures) ∙ not-true (c .before .is-within .result) (c .if3 .taken) in
     rw (
       ← c .before .before .before .before .before .before .blank-to .ensures,
       not-false (c .before .before .before .before .before .before .blank-to .result)
@@ -56,8 +61,7 @@ returns-3 c =
       not-false (c .before .before .before .before .digits-in .result)
           (c .before .before .before .if2 .left),
       ← c .before .before .number-in .ensures .0,
-      ← c .before .is-within .ensures,
-      not-true (c .before .is-within .result) (c .if3 .taken),
+      e,
     )
 
 -- src/system.rt:135:9

@@ -1,4 +1,7 @@
+use Rattle.columns.specs.Text.{isFrom}
 use borrow.Author.Needs.{needs}
+use mathlib.Core.Bool.{true}
+use mathlib.Core.Path.{_≡_, _∙_, sym}
 use Rattle.record_words.proofs.word.is_pointer.Statement.{statement}
 use Rattle.record_words.proofs.word.is_pointer.Tie as tie
 use Rattle.record_words.proofs.word.is_pointer.Reads as reads
@@ -11,7 +14,9 @@ is-from-requires c κs = search needs
 
 -- src/word.rt:124:9
 returns : tie.Need-returns
-returns c = rw (← c .before .is-from .ensures, c .if1 .taken)
+returns c =
+    let e : isFrom "1" "9" (c .before .before .args .b) ≡ true = sym (c .before .is-from .ensures) ∙ c .if1 .taken in
+    rw e
 
 -- src/word.rt:126:5
 is-from-requires-2 : tie.Need-is-from-requires-2

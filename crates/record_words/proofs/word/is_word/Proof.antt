@@ -1,6 +1,9 @@
 use Rattle.record_words.specs.Word.{isWord}
 use borrow.Author.Needs.{needs}
 use borrow.Author.Tests.{eq-eqb, ne-eqb}
+use lib.Dec.{eqb}
+use mathlib.Core.Path.{ap}
+use Prim.Native.Nat.{ℕ}
 use Rattle.record_words.proofs.word.is_word.Statement.{statement}
 use Rattle.record_words.proofs.word.is_word.Tie as tie
 use Rattle.record_words.proofs.word.is_word.Reads as reads
@@ -25,7 +28,8 @@ filled-from-requires c κs = search needs
 returns-2 : tie.Need-returns-2
 unfolding isWord
 returns-2 c =
-    rw (← c .before .before .word-end .ensures .0, ne-eqb _ _ (c .before .if1 .left), ← c .filled-from .ensures .0)
+    rw (← c .before .before .word-end .ensures .0, ne-eqb _ _ (c .before .if1 .left))
+    (ap (λ (t : ℕ). eqb t 10) (c .filled-from .ensures .0))
 
 pub is-word-spec : {M : Type 1} → statement M
 is-word-spec = tie.close (tie.spec word-end-requires returns filled-from-requires returns-2)

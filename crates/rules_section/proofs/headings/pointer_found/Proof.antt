@@ -1,4 +1,9 @@
+use mathlib.Core.Path.{_≡_, _∙_, sym}
+use mathlib.Core.Bool.{true}
+use lib.Dec.{eqb}
+use Rattle.laws.specs.Members.{anyOf}
 use Rattle.laws.proofs.Members.{any-append}
+use Rattle.rules_text.specs.Text.{pointersOf}
 use Rattle.rules_section.specs.Headings.{pointersFor}
 use borrow.Author.Needs.{needs}
 use Rattle.rules_section.proofs.headings.pointer_found.Statement.{statement}
@@ -25,13 +30,15 @@ pointer-in-requires-2 c κs = search needs
 returns-2 : tie.Need-returns-2
 unfolding pointersFor
 returns-2 c =
+    let e : anyOf (eqb (c .before .before .before .before .before .before .before .before .args .pointer))
+    (pointersOf (c .before .before .before .before .before .before .before .before .args .bib001 .now)) ≡ true
+    = sym (c .before .pointer-in2 .ensures) ∙ c .if2 .taken in
     rw (
       any-append,
       ← c .before .before .before .pointer-in .ensures,
       c .before .before .if1 .left,
       any-append,
-      ← c .before .pointer-in2 .ensures,
-      c .if2 .taken,
+      e,
     )
 
 -- src/headings.rt:212:8

@@ -1,3 +1,5 @@
+use mathlib.Core.Path.{_≡_}
+use Rattle.rules_state.specs.Ranging.{bytesOf}
 use Rattle.rules_text.specs.Text.{rule10}
 use borrow.Author.Tests.{eq-eqb, ne-eqb}
 use borrow.Author.Needs.{needs}
@@ -28,9 +30,13 @@ keyword-fault-requires c κs = search needs
 returns-2 : tie.Need-returns-2
 unfolding rule10
 returns-2 c =
+    let e : c .before .before .part .result .now
+    ≡ bytesOf (c .before .before .before .before .before .before .before .args .before .now)
+    (c .before .before .before .before .before .before .before .args .ranges .bib)
+    = c .before .before .part .ensures in
     rw (
       eq-eqb _ _ (c .before .before .before .before .before .if1 .left),
-      ← c .before .before .part .ensures,
+      ← e,
       ← c .before .keyword-fault .ensures,
       c .if2 .taken,
     )

@@ -1,3 +1,5 @@
+use mathlib.Core.Path.{_≡_}
+use Rattle.rules_state.specs.Ranging.{bytesOf}
 use Rattle.rules_text.specs.Text.{rule11Text}
 use borrow.Author.Needs.{needs}
 use Rattle.rules_text.proofs.text.rule11_text.Statement.{statement}
@@ -33,10 +35,14 @@ pointer-repeated-requires c κs = search needs
 returns-2 : tie.Need-returns-2
 unfolding rule11Text
 returns-2 c =
+    let e : c .before .before .part .result .now
+    ≡ bytesOf (c .before .before .before .before .before .before .before .before .args .before .now)
+    (c .before .before .before .before .before .before .before .before .args .ranges .under)
+    = c .before .before .part .ensures in
     rw (
       ← c .before .before .before .before .before .bad-pointer .ensures,
       c .before .before .before .before .if1 .left,
-      ← c .before .before .part .ensures,
+      ← e,
       ← c .before .pointer-repeated .ensures,
       c .if2 .taken,
     )

@@ -1,0 +1,20 @@
+-- A keyword that is not ten bytes (document 01, "Refusal numbers and their order"):
+--
+--   "36 no passage with that keyword place (ten bytes) and pointer byte"
+use Prim.Native.Nat.{ℕ}
+use mathlib.Core.Path.{_≡_}
+use mathlib.Core.Bool.{true}
+use mathlib.Core.List.{List, [], _∷_, _++_}
+use lib.ListN.{length}
+use Rattle.entry.specs.Verdict.{judgeOf}
+use Rattle.entry.specs.Answer.{refusal, firstOf}
+use Rattle.questions_rows.specs.Row.{rowOf}
+use Rattle.questions.specs.Ask.{passageAsked, sectionRefusals}
+use Rattle.exports_questions.specs.Questions.{keywordPlace}
+
+-- it is no place, so no passage stands there: 36 where neither 31 nor 32 nor 33 is given, and no other number
+abbrev pub NoPlace : Type 0
+NoPlace =
+    (s : List ℕ) (n : ℕ) (keyword : List ℕ) (pointer : ℕ) → (length keyword ≡ 10 → ⊥)
+    → passageAsked s n (keywordPlace keyword) pointer .answer .number
+    ≡ firstOf (sectionRefusals s (judgeOf s) (rowOf s n) (rowOf s n .bib) ++ (refusal 36 true ∷ []))

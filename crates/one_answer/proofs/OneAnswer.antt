@@ -1,0 +1,32 @@
+-- Every promise is an equation between the answer and a definition, and so is that of a lent buffer's final bytes; a part
+-- has its place besides.
+-- Assumes nothing.
+use Rattle.laws.proofs.Promise.{one-answer}
+use Rattle.entry.proofs.PartPlace.{one-place}
+use Rattle.one_answer.specs.OneAnswer.{OneAnswer}
+
+pub one-answers : OneAnswer
+one-answers =
+    record {
+      read-field = λ κs a x y s t p q. one-answer p q;
+      read-number = λ κs a x y s t p q. one-answer (p .0) (q .0);
+      write-number = λ κs a x y s t p q. (one-answer (p .0) (q .0), one-answer (p .1 .0) (q .1 .0));
+      judge = λ κs a x y s t p q. one-answer p q;
+      value = λ κs a x y s t p q. one-answer (p .0) (q .0);
+      heading = λ κs a x y s t p q. one-answer p q;
+      unit = λ κs a x y s t p q. one-answer p q;
+      passage = λ κs a x y s t p q. one-answer p q;
+      heading-part = λ κs a x y s t p q. (one-place (p .0) (q .0), one-answer (p .1) (q .1));
+      unit-part = λ κs a x y s t p q. (one-place (p .0) (q .0), one-answer (p .1) (q .1));
+      passage-part = λ κs a x y s t p q. (one-place (p .0) (q .0), one-answer (p .1) (q .1));
+      copy = λ κs a x y s t p q. (one-answer (p .0) (q .0), one-answer (p .1) (q .1));
+      x4-version = λ κs a x y s t p q. one-answer p q;
+      x4-judge = λ κs a x y s t p q. (one-answer (p .0) (q .0), one-answer (p .1) (q .1));
+      x4-read-number = λ κs a x y s t p q. (one-answer (p .0) (q .0), one-answer (p .1) (q .1));
+      x4-write-number = λ κs a x y s t p q. (one-answer (p .0) (q .0), one-answer (p .1) (q .1));
+      x4-value = λ κs a x y s t p q. (one-answer (p .0) (q .0), one-answer (p .1) (q .1));
+      x4-heading = λ κs a x y s t p q. (one-answer (p .0) (q .0), one-answer (p .1) (q .1));
+      x4-unit = λ κs a x y s t p q. (one-answer (p .0) (q .0), one-answer (p .1) (q .1));
+      x4-passage = λ κs a x y s t p q. (one-answer (p .0) (q .0), one-answer (p .1) (q .1));
+      x4-copy = λ κs a x y s t p q. (one-answer (p .0) (q .0), one-answer (p .1) (q .1));
+    }

@@ -1,0 +1,56 @@
+-- Two answers that a promise allows are equal, for each call that users make (document 01, "How much each promise
+-- says"):
+--
+--   "The promise of every public call determines its entire answer and every byte lent to it, refused calls included;
+--   that two answers allowed by it are equal is proved"
+--
+-- `Post` is the promise itself: the kit's reading of the call's own `ensures`. Behind it stands what is lent to be
+-- written, by its place among the arguments.
+use denote.Ref.{now}
+use Rattle.number_reading.proofs.read.read_field.Reads as read-field
+use Rattle.number_reading.proofs.read.read_number.Reads as read-number
+use Rattle.canonical.proofs.write.write_number.Reads as write-number
+use Rattle.entry.proofs.verdict.judge.Reads as judge
+use Rattle.questions.proofs.ask.value.Reads as value
+use Rattle.questions.proofs.ask.heading.Reads as heading
+use Rattle.questions.proofs.ask.unit.Reads as unit
+use Rattle.questions.proofs.ask.passage.Reads as passage
+use Rattle.questions.proofs.ask.heading_part.Reads as heading-part
+use Rattle.questions.proofs.ask.unit_part.Reads as unit-part
+use Rattle.questions.proofs.ask.passage_part.Reads as passage-part
+use Rattle.copy.proofs.copy.copy.Reads as copy
+use Rattle.exports.proofs.version.x4_version.Reads as x4-version
+use Rattle.exports.proofs.judging.x4_judge.Reads as x4-judge
+use Rattle.exports.proofs.numbers.x4_read_number.Reads as x4-read-number
+use Rattle.exports.proofs.numbers.x4_write_number.Reads as x4-write-number
+use Rattle.exports_questions.proofs.asking.x4_value.Reads as x4-value
+use Rattle.exports_questions.proofs.asking.x4_heading.Reads as x4-heading
+use Rattle.exports_questions.proofs.asking.x4_unit.Reads as x4-unit
+use Rattle.exports_questions.proofs.asking.x4_passage.Reads as x4-passage
+use Rattle.exports_questions.proofs.copying.x4_copy.Reads as x4-copy
+use Rattle.one_answer.specs.Determined.{Determined, DeterminedWith, DeterminedPart}
+
+pub record OneAnswer : Type 0 where
+  -- the library
+  pub read-field : Determined read-field.Post
+  pub read-number : Determined read-number.Post
+  pub write-number : DeterminedWith write-number.Post (λ κs s. now (s .1 .1 .1 .0))
+  pub judge : Determined judge.Post
+  pub value : Determined value.Post
+  pub heading : Determined heading.Post
+  pub unit : Determined unit.Post
+  pub passage : Determined passage.Post
+  pub heading-part : DeterminedPart heading-part.Post
+  pub unit-part : DeterminedPart unit-part.Post
+  pub passage-part : DeterminedPart passage-part.Post
+  pub copy : DeterminedWith copy.Post (λ κs s. now (s .1 .0))
+  -- for host programs
+  pub x4-version : Determined x4-version.Post
+  pub x4-judge : DeterminedWith x4-judge.Post (λ κs s. now (s .1 .0))
+  pub x4-read-number : DeterminedWith x4-read-number.Post (λ κs s. now (s .1 .0))
+  pub x4-write-number : DeterminedWith x4-write-number.Post (λ κs s. now (s .1 .1 .1 .0))
+  pub x4-value : DeterminedWith x4-value.Post (λ κs s. now (s .1 .1 .1 .1 .1 .0))
+  pub x4-heading : DeterminedWith x4-heading.Post (λ κs s. now (s .1 .1 .1 .1 .0))
+  pub x4-unit : DeterminedWith x4-unit.Post (λ κs s. now (s .1 .1 .1 .1 .0))
+  pub x4-passage : DeterminedWith x4-passage.Post (λ κs s. now (s .1 .1 .1 .1 .0))
+  pub x4-copy : DeterminedWith x4-copy.Post (λ κs s. now (s .1 .0))

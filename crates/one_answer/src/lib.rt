@@ -1,0 +1,1 @@
+// Two answers that the promise of a public call allows are equal, call by call.
