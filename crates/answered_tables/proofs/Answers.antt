@@ -21,35 +21,37 @@ use Rattle.record_words.specs.Word.{pointerOf}
 use Rattle.record.specs.System.{countOf}
 use Rattle.record.specs.declared.system.Count.the-variants.{Number}
 use Rattle.record.proofs.PlainDigits.{count-exactly}
-use Rattle.rules_system.specs.System.{countN1}
-use Rattle.entry.specs.Verdict.{judgeOf}
-use Rattle.entry.specs.Answer.{answerOf}
-use Rattle.entry.specs.Contexts.{contextAt}
-use Rattle.questions.specs.declared.ask.PartAnswer.{PartAnswer}
+use Rattle.rules_counts.specs.Counts.{countN1}
+use Rattle.entry_judging.specs.Judging.{judgeOf}
+use Rattle.entry_verdict.specs.Answer.{answerOf}
+use Rattle.entry_judging.specs.Contexts.{contextAt}
+use Rattle.questions_answers.specs.declared.answers.PartAnswer.{PartAnswer}
 use Rattle.questions_rows.specs.Row.{rowOf}
 use Rattle.questions_places.specs.declared.place.Shape.{Shape}
 use Rattle.questions_places.specs.Place.{shapeOf, headingPlace, unitPlace, fieldOf, byteOf}
-use Rattle.questions.specs.Ask.{sectionIn, valueRefusal, valueBy, valueAsked, columnRefusal, headingBy, headingAsked}
-use Rattle.questions.specs.Ask.{unitBy}
-use Rattle.questions.specs.Ask.{unitAsked}
+use Rattle.questions_refusals.specs.Refused.{sectionIn, valueRefusal, columnRefusal}
+use Rattle.questions_answers.specs.Answers.{valueBy, headingBy, unitBy}
+use Rattle.questions.specs.Ask.{valueAsked, headingAsked, unitAsked}
 use Rattle.questions_rows.proofs.RowChanges.{opener}
 use Rattle.inside.specs.Inside.{OpensSection, InsideValue, InsideColumn, linesAnnounced}
 use Rattle.inside.proofs.TableLaid.{sectionRole, linesOf}
 use Rattle.inside.proofs.RowFound.{Opening}
 use Rattle.inside.proofs.Answered.{sectionNo, sectionOf, shape-columns, value-answered, heading-answered, unit-answered}
 use Rattle.inside.proofs.NotRefused.{part-zeros}
-use Rattle.inside.proofs.Asked.{value-not-refused}
+use Rattle.inside.proofs.Asked.{opens-of, value-not-refused}
 use Rattle.inside.proofs.Placed as Placed
+use Rattle.rules_plain.specs.Places.{cell}
 use Rattle.good.specs.Parts.{Record, Table, rowsOf, recordsOf}
-use Rattle.good.specs.Tables.{columnsOf, cell, GoodValues, GoodTable, GoodCommon, GoodData}
+use Rattle.good.specs.Tables.{columnsOf, GoodValues, GoodTable, GoodCommon, GoodData}
 use Rattle.good.specs.Subentries.{ownNumber}
 use Rattle.good.specs.Good.{GoodBytes}
-use Rattle.answered_tables.specs.Tables.{first-common, later-common, later-data, LineIn, ColumnIn}
-use Rattle.answered_tables.specs.Tables.{PartOf, ValueOfTable, HeadingOfTable, UnitOfTable}
+use Rattle.answered_tables.specs.Tables.{first-common, later-common, later-data, LineIn, ColumnIn, PartOf}
+use Rattle.answered_tables.specs.Tables.{ValueOfTable, HeadingOfTable, UnitOfTable}
 use Rattle.answered_tables.proofs.Indexed.{size, records, block-is, accepted, block-behind, context-behind}
 use Rattle.answered_tables.proofs.Indexed.{there-behind}
-use Rattle.answered_tables.proofs.Reached.{Reached, data-reached, data-good, common-reached, common-good}
-use Rattle.answered_tables.proofs.Reached.{first-reached, first-common-good}
+use Rattle.answered_tables.proofs.Reached.{Reached}
+use Rattle.answered_tables.proofs.LaterReached.{data-reached, data-good, common-reached, common-good}
+use Rattle.answered_tables.proofs.FirstReached.{first-reached, first-common-good}
 use Rattle.answered_tables.proofs.Rows.{line-at, head-at, unit-at, ten-of}
 
 -- ---- beside 0 stand zeros
@@ -123,11 +125,7 @@ module _ (s : List ℕ) (g : GoodBytes s) (b : Bool) (n : ℕ) (t : Table) (r : 
   k = recordsFor (columnsOf t)
 
   opens-it : OpensSection s n (sectionNo b) a
-  opens-it = by-section b opening
-    where
-      by-section : (b : Bool) → Opening s n (sectionOf b) a → OpensSection s n (sectionNo b) a
-      by-section true o = record { there = o .there; role = o .role; subentry = o .subentry }
-      by-section false o = record { there = o .there; role = o .role; subentry = o .subentry }
+  opens-it = opens-of s n b a opening
 
   -- a record of the row q is in the entry
   in-entry : (q column : ℕ) → q ≤ length (t .lines) + 1 → ColumnIn t column

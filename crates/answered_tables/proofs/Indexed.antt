@@ -10,14 +10,14 @@ use Rattle.laws.specs.Walk.{All}
 use Rattle.laws.specs.Blocks.{blocks, blockAt}
 use Rattle.laws.proofs.Blocks.{blocks-joined, length-joined, block-at}
 use Rattle.rules_state.specs.State.{Context, startContext}
-use Rattle.entry.specs.declared.verdict.Verdict.{Verdict}
-use Rattle.entry.specs.Verdict.{roleOf, Accepted}
-use Rattle.entry.specs.Contexts.{contextAt}
-use Rattle.inside.proofs.Contexts.{context-start}
+use Rattle.entry_verdict.specs.declared.verdict.Verdict.{Verdict}
+use Rattle.entry_judging.specs.Judging.{roleOf, Accepted}
+use Rattle.entry_judging.specs.Contexts.{contextAt}
+use Rattle.entry.proofs.Contexts.{context-start}
+use Rattle.rules_plain.specs.Places.{Long}
 use Rattle.good.specs.Parts.{Record, recordsOf}
 use Rattle.good.specs.Good.{GoodBytes}
 use Rattle.good.proofs.Steps.{next, Passes}
-use Rattle.good.proofs.Lists.{Long}
 use Rattle.good.proofs.Entries.{entry-pass}
 use Rattle.good.proofs.Theorems.{passes-long, good-accepted}
 

@@ -1,5 +1,11 @@
 pub mod Indexed
+pub mod BeforeLater
 pub mod Reached
+pub mod LaterReached
+pub mod FirstReached
 pub mod Rows
 pub mod Answers
+pub mod TextRecords
+pub mod PassageParts
+pub mod PassageRuns
 pub mod Passages

@@ -11,7 +11,8 @@ use lib.Seq.{getD-append-add, getD-take, getD-drop, length-take-le, ext-getD}
 use Rattle.laws.specs.Walk.{All}
 use Rattle.laws.specs.Blocks.{blockAt}
 use Rattle.columns.specs.Fields.{fieldAt}
-use Rattle.good.specs.Parts.{Record, Table, concat, rowsOf}
+use Rattle.rules_plain.specs.Places.{concat}
+use Rattle.good.specs.Parts.{Record, Table, rowsOf}
 
 -- ---- rows of k records
 

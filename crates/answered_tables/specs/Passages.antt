@@ -14,10 +14,11 @@ use Rattle.laws.specs.Blocks.{joined}
 use Rattle.laws.specs.Walk.{All}
 use Rattle.columns.specs.Text.{isBlank}
 use Rattle.record_words.specs.Word.{pointerOf}
-use Rattle.entry.specs.Answer.{answerOf}
-use Rattle.questions.specs.Ask.{passageAsked, bytesIn}
+use Rattle.entry_verdict.specs.Answer.{answerOf}
+use Rattle.questions.specs.Ask.{passageAsked}
+use Rattle.questions_answers.specs.Answers.{bytesIn}
+use Rattle.rules_plain.specs.Places.{bibPlace}
 use Rattle.good.specs.Parts.{Record, Keyword, Bib, present, Subentry, subent, Later, Entry}
-use Rattle.good.specs.Bib.{bibPlace}
 use Rattle.good.specs.Subentries.{ownNumber}
 use Rattle.good.specs.Good.{GoodBytes}
 

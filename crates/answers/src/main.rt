@@ -5,14 +5,13 @@
 // the first byte, the length, the pointer and the part.
 use bytes::scan::find;
 use columns::columns::LineNo;
-use entry::answer::Answer;
+use entry_verdict::answer::Answer;
 use number::value::Decimal;
 use number::value::Reading;
 use program_text::number_in;
 use program_text::say;
 use program_text::say_numbers;
 use program_text::say_power;
-use questions::ask::PartAnswer;
 use questions::ask::heading;
 use questions::ask::heading_part;
 use questions::ask::passage;
@@ -20,6 +19,7 @@ use questions::ask::passage_part;
 use questions::ask::unit;
 use questions::ask::unit_part;
 use questions::ask::value;
+use questions_answers::answers::PartAnswer;
 
 fn say_answer(a: Answer) {
     let record = a.record;

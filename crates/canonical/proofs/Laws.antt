@@ -14,7 +14,7 @@ use Rattle.number.specs.declared.value.Reading.the-variants as R
 use Rattle.number.specs.Grammar.{blanks, Letter}
 use Rattle.number.specs.Value.{Normal, valueOf}
 use Rattle.number.specs.Reading.{readField}
-use Rattle.number.proofs.Laws.{value-found, reads-exactly, blank-exactly, number-letters}
+use Rattle.number.proofs.Laws.{value-found, reads-exactly, blank-read, number-letters}
 use Rattle.canonical_layout.specs.Closed.{canonicalText, canonicalField}
 use Rattle.canonical.specs.Replacing.{replacedBy, canonical, Formed}
 use Rattle.canonical.specs.Claims.{CanonicalOne, ClosedForm, CanonicalNone, CanonicalBest, BestOne, ColumnsSpan}
@@ -145,7 +145,7 @@ module _ (l : List ℕ) where
   -- that of a number is not blank
   pub canonical-filled : (v : Decimal) → readField l ≡ Number v → canonical l ≡ blanks (length (canonical l)) → ⊥
   canonical-filled v e b =
-      let q = sym (blank-exactly (canonical l) .1 b) ∙ canonical-same ∙ e in
+      let q = sym (blank-read (canonical l) .1 b) ∙ canonical-same ∙ e in
       let z : _≡_ {A = ℕ} 0 1 = cc in
       omega arith
 
@@ -174,7 +174,7 @@ canonical-alike l m w f e = by (readField l) f refl
   where
     by : (r : Reading) → Formed r → readField l ≡ r → canonical l ≡ canonical m
     by Blank f h =
-        stays l Blank h refl ∙ blank-exactly l .0 h ∙ ap blanks w ∙ sym (blank-exactly m .0 (sym e ∙ h))
+        stays l Blank h refl ∙ blank-read l .0 h ∙ ap blanks w ∙ sym (blank-read m .0 (sym e ∙ h))
         ∙ sym (stays m Blank (sym e ∙ h) refl)
     by (Number v) f h =
         number-is l v h ∙ ap (λ (n : ℕ). canonicalField n v) w ∙ sym (number-is m v (sym e ∙ h))

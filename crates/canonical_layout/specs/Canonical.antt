@@ -80,7 +80,8 @@ NoField w v = (g : Field) → GoodField g → length (write g) ≡ w → Means g
 
 -- ---- the same of bytes
 
--- of all lists of w bytes that read to v, l comes before every other one
+-- of all lists of w bytes that read to v, l comes before every other one. What is claimed of writing and of the copy is
+-- said by this one: the canonical field is such (`canonical-best`), and nothing else is (`best-one`)
 pub record Best (w : ℕ) (v : Decimal) (l : List ℕ) : Type 0 where
   pub wide : length l ≡ w
   pub reads : Reads l v

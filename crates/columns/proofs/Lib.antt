@@ -1,3 +1,2 @@
-pub mod ClassTable
 pub mod ReadColumns
 pub mod TablePlaces

@@ -1,5 +1,3 @@
 pub mod Text
-pub mod Class
 pub mod Columns
 pub mod Fields
-pub mod Claims

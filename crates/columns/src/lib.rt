@@ -1,4 +1,3 @@
 // One record as columns: the classes of characters, columns and places, and the six fields.
-pub mod class;
 pub mod columns;
 pub mod fields;

@@ -4,8 +4,8 @@
 ghost use Prim.Native.Nat.{_≤_};
 use check::same;
 use copy::copy::copy;
-use entry::answer::Answer;
-use entry::verdict::judge;
+use entry::judge::judge;
+use entry_verdict::answer::Answer;
 use program_text::say_line;
 use program_text::say_numbers;
 use program_verdict::say_verdict;

@@ -8,18 +8,18 @@ use mathlib.Core.List.{List, [], _∷_, _++_}
 use native.Mathlib.Omega.{arith}
 use lib.ListN.{length, take, drop, getD, length-drop, List·getD-append, List·getD-eq-default, take-append-drop}
 use lib.Seq.{length-take-le, getD-take, getD-drop, getD-append-add, ext-getD}
-use Rattle.laws.specs.Replacing.{replaced, Each, FieldsAlike}
+use Rattle.copy_records.specs.Replaced.{replaced, Each, FieldsAlike}
 use Rattle.laws.proofs.Search.{either}
-use Rattle.laws.proofs.Replacing.{length-copy, field-of-copy, past-copy, each-at, copy-twice, alike-copy, copy-alike}
-use Rattle.laws.proofs.Replacing.{alike-behind, alike-at, fields-alike}
+use Rattle.copy_records.proofs.Replaced.{length-copy, field-of-copy, past-copy, each-at, copy-twice, alike-copy}
+use Rattle.copy_records.proofs.Replaced.{copy-alike, alike-behind, alike-at, fields-alike}
 use Rattle.number.specs.declared.value.Reading.{Reading}
 use Rattle.number.specs.declared.value.Reading.the-variants.{Blank, Number, Refused}
 use Rattle.number.specs.Reading.{readField}
 use Rattle.canonical.specs.Replacing.{canonical, Formed}
 use Rattle.canonical.proofs.Laws.{canonical-length, canonical-same, canonical-alike, canonical-again}
 use Rattle.number.specs.Form.{formOf}
-use Rattle.record.specs.Numbers.{formAt, noValue}
-use Rattle.columns.specs.Class.{isPermitted}
+use Rattle.record_values.specs.Numbers.{formAt, noValue}
+use Rattle.classes.specs.Class.{isPermitted}
 use Rattle.columns.specs.Fields.{fieldAt}
 use Rattle.record.specs.Identifier.{identifierOf}
 use Rattle.copy_records.specs.Copy.{copyField}

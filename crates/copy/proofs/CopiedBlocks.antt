@@ -12,9 +12,10 @@ use Rattle.laws.specs.Blocks.{blocks, blockAt}
 use Rattle.laws.specs.Copies.{copies}
 use Rattle.laws.proofs.Blocks.{block-at, next-block}
 use Rattle.rules_state.specs.State.{startContext}
-use Rattle.entry.specs.Verdict.{turnOf, Accepted}
-use Rattle.entry.specs.Contexts.{contextAt}
-use Rattle.entry.proofs.AcceptedWalk.{Walked, walked, context-start}
+use Rattle.entry_judging.specs.Judging.{turnOf, Accepted}
+use Rattle.entry_judging.specs.Contexts.{contextAt}
+use Rattle.entry.proofs.AcceptedWalk.{Walked, walked}
+use Rattle.entry.proofs.Contexts.{context-start}
 use Rattle.copy_records.specs.Copy.{copyRecord, recordsIn, copyOf}
 use Rattle.copy.proofs.Demand.{passed, copy-long, copy-records}
 

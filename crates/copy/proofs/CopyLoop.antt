@@ -7,17 +7,17 @@ use native.Mathlib.Omega.{arith}
 use lib.ListN.{length, take, drop, length-drop}
 use lib.Seq.{paste, paste-zero, length-take-le, take-all, take-take}
 use Rattle.laws.specs.Blocks.{blockAt}
-use Rattle.laws.specs.Replacing.{replaced, mask}
+use Rattle.copy_records.specs.Replaced.{replaced, mask}
 use Rattle.columns.specs.Columns.{Whole}
-use Rattle.rules_state.specs.State.{MOST-RECORDS}
-use Rattle.entry.specs.declared.step.Judge.{Judge}
-use Rattle.entry.specs.declared.pass.Passed.{Passed}
-use Rattle.entry.specs.Verdict.{Accepted}
-use Rattle.entry.specs.ByRanges.{startJudge}
-use Rattle.entry.specs.Contexts.{contextAt}
-use Rattle.entry.specs.Pass.{Walking, PassedAt}
-use Rattle.entry.proofs.Numbered.{whole-records}
-use Rattle.entry.proofs.Walking.{walking-start, track-stands}
+use Rattle.rules_state.specs.Limits.{MOST-RECORDS}
+use Rattle.entry_step.specs.declared.step.Judge.{Judge}
+use Rattle.entry_step.specs.declared.pass.Passed.{Passed}
+use Rattle.entry_judging.specs.Judging.{Accepted}
+use Rattle.entry_step.specs.ByRanges.{startJudge}
+use Rattle.entry_judging.specs.Contexts.{contextAt}
+use Rattle.entry_step.specs.Pass.{Walking, PassedAt}
+use Rattle.entry_step.proofs.Numbered.{whole-records}
+use Rattle.entry_step.proofs.Walking.{walking-start, track-stands}
 use Rattle.copy_records.specs.Copy.{valueField, copyField, copyRecord, copyOf}
 use Rattle.copy.specs.Call.{copiedInto}
 use Rattle.copy_records.specs.Storing.{Room}

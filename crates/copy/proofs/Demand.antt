@@ -11,11 +11,11 @@ use lib.Seq.{length-take-le, getD-take, getD-drop, ext-getD}
 use Rattle.laws.specs.Walk.{walk, Goes}
 use Rattle.laws.specs.Blocks.{blocks, joined, blockAt}
 use Rattle.laws.specs.Copies.{copies, marks, Alikes}
-use Rattle.laws.specs.Replacing.{Each, FieldsAlike}
+use Rattle.copy_records.specs.Replaced.{Each, FieldsAlike}
 use Rattle.laws.proofs.Walk.{all-at}
 use Rattle.laws.proofs.Search.{either}
 use Rattle.laws.proofs.Blocks.{length-blocks, block-at}
-use Rattle.laws.proofs.Replacing.{each-at}
+use Rattle.copy_records.proofs.Replaced.{each-at}
 use Rattle.laws.proofs.Copies.{length-marks, marks-each, marks-hold, copies-walk, copies-twice, alike-copies}
 use Rattle.laws.proofs.Copies.{copies-alike, rows-copied, length-copied, alikes-at, at-alikes}
 use Rattle.number.specs.declared.value.Decimal.{Decimal}
@@ -24,13 +24,14 @@ use Rattle.number.specs.declared.value.Reading.the-variants.{Blank, Number, Ref
 use Rattle.number.specs.Form.{formOf}
 use Rattle.number.specs.Reading.{readField}
 use Rattle.columns.specs.Fields.{fieldAt}
-use Rattle.record.specs.Numbers.{noValue}
+use Rattle.record_values.specs.Numbers.{noValue}
 use Rattle.rules_state.specs.State.{Context, startContext}
-use Rattle.entry.specs.Verdict.{turnOf, endOf, lengthGood, judgeOf, Accepted}
+use Rattle.entry_judging.specs.Judging.{turnOf, endOf, judgeOf, Accepted}
+use Rattle.entry_verdict.specs.Verdict.{lengthGood}
 use Rattle.copy_records.specs.Copy.{maskOf, copyRecord, recordsIn, numberField, fieldIn, copyOf}
 use Rattle.copy.specs.Demand.{AlikeField, inNumber, SameNumbers, CopyAccepted, CopyAgain, OneCopy}
-use Rattle.entry.proofs.Numbered.{whole-records}
-use Rattle.entry.proofs.Walking.{accepted-good}
+use Rattle.entry_step.proofs.Numbered.{whole-records}
+use Rattle.entry_step.proofs.Walking.{accepted-good}
 use Rattle.entry.proofs.AcceptedWalk.{accepted-goes}
 use Rattle.copy.proofs.CanonicalFields.{Fit, alike-byte, alike-reads, bytes-alike}
 use Rattle.copy.proofs.FaithfulRecords.{length-mask-of, fits, faithful}

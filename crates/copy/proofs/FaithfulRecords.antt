@@ -11,21 +11,22 @@ use lib.ListN.{length, drop, getD, length-drop}
 use lib.Seq.{length-take-le}
 use Rattle.laws.specs.Turns.{go}
 use Rattle.laws.specs.Copies.{Passing, Passing2, Faithful}
-use Rattle.laws.specs.Replacing.{replaced, Each, FieldsAlike}
-use Rattle.laws.proofs.Replacing.{each-of, length-mask, mask-at}
+use Rattle.copy_records.specs.Replaced.{replaced, Each, FieldsAlike}
+use Rattle.copy_records.proofs.Replaced.{each-of, length-mask, mask-at}
 use Rattle.laws.proofs.Booleans.{and-left}
 use Rattle.number.specs.Reading.{readField}
-use Rattle.columns.specs.Class.{isPermitted}
+use Rattle.classes.specs.Class.{isPermitted}
 use Rattle.columns.specs.Fields.{fieldAt, fieldsOf}
 use Rattle.record.specs.Identifier.{identifierOf}
 use Rattle.columns.proofs.ReadColumns.{field-of}
-use Rattle.rules_state.specs.declared.fault.Fault.the-variants.{Fine}
+use Rattle.rules_roles.specs.declared.fault.Fault.the-variants.{Fine}
 use Rattle.rules_state.specs.State.{Context, used}
-use Rattle.rules_state.specs.Role.{isValue, roleIn}
+use Rattle.rules_roles.specs.Roles.{isValue}
+use Rattle.rules_state.specs.Role.{roleIn}
 use Rattle.rules_every.specs.Every.{rule3}
 use Rattle.rules.specs.Order.{faultOf}
 use Rattle.entry_next.specs.Next.{contextAfter}
-use Rattle.entry.specs.Verdict.{roleOf, turnOf}
+use Rattle.entry_judging.specs.Judging.{roleOf, turnOf}
 use Rattle.copy_records.specs.Copy.{isNumberField, maskOf, copyField, copyRecord}
 use Rattle.copy.specs.Demand.{AlikeField}
 use Rattle.rules.proofs.WithoutFault.{fine-long, fine-permitted, fine-reads, permitted-alike, judged-alike}

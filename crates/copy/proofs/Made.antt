@@ -9,9 +9,9 @@ use borrow.Author.Tests.{eq-eqb, ne-eqb, lt-ltb, le-ltb}
 use lib.Dec.{eqb, ltb}
 use lib.ListN.{length, drop}
 use lib.Seq.{take-at, drop-at}
-use Rattle.entry.specs.declared.verdict.Verdict.{Verdict}
-use Rattle.entry.specs.Verdict.{judgeOf, Accepted}
-use Rattle.entry.specs.Answer.{answerOf, answerFor}
+use Rattle.entry_verdict.specs.declared.verdict.Verdict.{Verdict}
+use Rattle.entry_judging.specs.Judging.{judgeOf, Accepted}
+use Rattle.entry_verdict.specs.Answer.{answerOf, answerFor}
 use Rattle.copy_records.specs.Copy.{copyOf}
 use Rattle.copy.specs.Call.{copied, copiedInto, storedCopy}
 use Rattle.copy.specs.Demand.{CopyMade}

@@ -15,7 +15,7 @@ use Rattle.laws.proofs.Copies.{copies-marks, copies-at}
 use Rattle.number.specs.Reading.{readField}
 use Rattle.columns.specs.Fields.{fieldAt}
 use Rattle.rules_state.specs.State.{startContext}
-use Rattle.entry.specs.Verdict.{roleOf, turnOf, Accepted}
+use Rattle.entry_judging.specs.Judging.{roleOf, turnOf, Accepted}
 use Rattle.copy_records.specs.Copy.{copyRecord, recordsIn, fieldIn, copyOf}
 use Rattle.copy.specs.Demand.{CopyFields, CopyReads, CopyPart, CopyContexts, CopyRoles}
 use Rattle.copy.proofs.FaithfulRecords.{role-kept, reads-kept, faithful}

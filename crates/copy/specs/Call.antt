@@ -8,10 +8,10 @@ use mathlib.Core.Bool.{cond}
 use mathlib.Core.List.{List, [], _∷_, _++_}
 use lib.Dec.{eqb, ltb}
 use lib.ListN.{length, drop}
-use Rattle.entry.specs.declared.verdict.Verdict.{Verdict}
-use Rattle.entry.specs.declared.answer.Answer.{Answer}
-use Rattle.entry.specs.Verdict.{judgeOf}
-use Rattle.entry.specs.Answer.{refusal, firstOf, isRefused, answerFor}
+use Rattle.entry_verdict.specs.declared.verdict.Verdict.{Verdict}
+use Rattle.entry_verdict.specs.declared.answer.Answer.{Answer}
+use Rattle.entry_judging.specs.Judging.{judgeOf}
+use Rattle.entry_verdict.specs.Answer.{refusal, firstOf, isRefused, answerFor}
 use Rattle.copy_records.specs.Copy.{copyOf}
 
 -- for an entry with this verdict and length, and a buffer of `room` bytes

@@ -16,8 +16,8 @@ use Rattle.number.specs.declared.value.Reading.{Reading}
 use Rattle.number.specs.declared.value.Reading.the-variants.{Blank, Number}
 use Rattle.number.specs.Reading.{readField}
 use Rattle.rules_state.specs.State.{Context, startContext}
-use Rattle.entry.specs.Verdict.{roleOf, turnOf, judgeOf, Accepted}
-use Rattle.entry.specs.Answer.{answerOf}
+use Rattle.entry_judging.specs.Judging.{roleOf, turnOf, judgeOf, Accepted}
+use Rattle.entry_verdict.specs.Answer.{answerOf}
 use Rattle.copy.specs.Call.{copied, storedCopy}
 use Rattle.copy_records.specs.Copy.{recordsIn, numberField, fieldIn, copyOf}
 
@@ -87,9 +87,9 @@ CopyAgain = (s : List ℕ) → Accepted s → copyOf (copyOf s) ≡ copyOf s
 
 pub record SameNumbers (s t : List ℕ) : Type 0 where
   -- "the same number fields"
-  pub long : length s ≡ length t
   pub fields : (i k : ℕ) → numberField s i k ≡ numberField t i k
-  -- "equal bytes outside them"
+  -- "equal bytes outside them", and so as many
+  pub long : length s ≡ length t
   pub outside : (p : ℕ) → p < length s → inNumber s p ≡ false → getD s p 0 ≡ getD t p 0
   -- "blanks in the same ones"
   pub blanks : (i k : ℕ) → numberField s i k ≡ true

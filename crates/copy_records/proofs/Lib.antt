@@ -1,3 +1,4 @@
 pub mod Pasted
 pub mod WholeRecords
 pub mod StoredNumbers
+pub mod Replaced

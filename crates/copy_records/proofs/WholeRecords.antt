@@ -7,13 +7,13 @@ use mathlib.Core.List.{List}
 use native.Mathlib.Omega.{arith}
 use lib.ListN.{length, take, drop, getD, length-drop}
 use lib.Seq.{paste, length-take-le, take-take}
-use Rattle.laws.specs.Replacing.{replaced, Each, mask}
-use Rattle.laws.proofs.Replacing.{each-of, length-mask, mask-at, length-copy, field-of-copy, behind-copy}
+use Rattle.copy_records.specs.Replaced.{replaced, Each, mask}
+use Rattle.copy_records.proofs.Replaced.{each-of, length-mask, mask-at, length-copy, field-of-copy, behind-copy}
 use Rattle.canonical.proofs.Laws.{canonical-length}
 use Rattle.columns.specs.Fields.{fieldAt}
 use Rattle.rules_state.specs.declared.state.Track.{Track}
 use Rattle.rules_state.specs.State.{Context}
-use Rattle.entry.specs.Verdict.{roleOf}
+use Rattle.entry_judging.specs.Judging.{roleOf}
 use Rattle.copy_records.specs.Copy.{valueField, isNumberField, maskOf, copyField, copyRecord}
 use Rattle.copy_records.proofs.Pasted.{paste-more}
 

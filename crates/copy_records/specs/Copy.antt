@@ -9,13 +9,13 @@ use lib.Dec.{ltb}
 use lib.ListN.{length, getD}
 use Rattle.laws.specs.Blocks.{blocks, joined, blockAt}
 use Rattle.laws.specs.Copies.{copies, marks}
-use Rattle.laws.specs.Replacing.{replaced, mask}
+use Rattle.copy_records.specs.Replaced.{replaced, mask}
 use Rattle.canonical.specs.Replacing.{canonical}
 use Rattle.columns.specs.Fields.{fieldAt}
 use Rattle.rules_state.specs.declared.state.Track.{Track}
 use Rattle.rules_state.specs.State.{Context, startContext, used}
-use Rattle.rules_state.specs.Role.{isValue}
-use Rattle.entry.specs.Verdict.{roleOf, turnOf}
+use Rattle.rules_roles.specs.Roles.{isValue}
+use Rattle.entry_judging.specs.Judging.{roleOf, turnOf}
 
 -- ---- number fields
 

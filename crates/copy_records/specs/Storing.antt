@@ -5,7 +5,7 @@ use lib.ListN.{length}
 use Rattle.number.specs.declared.value.Decimal.{Decimal}
 use Rattle.number.specs.Value.{Normal}
 use Rattle.canonical_layout.specs.Closed.{canonicalText}
-use Rattle.entry.specs.Verdict.{Accepted}
+use Rattle.entry_judging.specs.Judging.{Accepted}
 
 -- a value that a field of eleven columns has
 pub record Written (v : Decimal) : Type 0 where

@@ -3,13 +3,13 @@ ghost use mathlib.Core.Path.{_≡_};
 ghost use Prim.Native.Nat.{_+_, _≤_};
 ghost use lib.ListN.{length, drop};
 ghost use lib.Seq.{paste};
-ghost use Rattle.laws.specs.Replacing.{replaced, mask};
+ghost use Rattle.copy_records.specs.Replaced.{replaced, mask};
 ghost use Rattle.columns.specs.Columns.{Whole};
 ghost use Rattle.copy_records.specs.Copy.{valueField, copyField};
 use crate::fields::put_field;
 use columns::fields::field;
-use rules_state::role::COMMON_VALUE;
-use rules_state::role::DATA_VALUE;
+use rules_roles::roles::COMMON_VALUE;
+use rules_roles::roles::DATA_VALUE;
 use rules_state::state::Track;
 
 // Whether the field k of a record with this role is a value field.

@@ -7,6 +7,9 @@ use Rattle.record.proofs.PlainValues.{number-exactly}
 use Rattle.entry.proofs.FirstRefused.{refused-first}
 use Rattle.entry.proofs.FirstAlone.{first-alone}
 use Rattle.refusal_table.proofs.Listed.{refusals-listed, length-first}
+use Rattle.refusal_table.proofs.TextFaults.{ten-said, eleven-said}
+use Rattle.refusal_table.proofs.TextsExactly.{ten-exactly, eleven-exactly}
+use Rattle.refusal_table.proofs.HeadingFaults.{thirteen-said, fourteen-said, repeated-refused, lost-refused}
 use Rattle.good.proofs.Theorems.{accepted-exactly, good-accepted}
 use Rattle.inside.proofs.Placed.{value-placed, heading-placed, unit-placed}
 use Rattle.inside.proofs.PassageAnswered.{passage-answered, one-passage}
@@ -23,6 +26,14 @@ demand2 =
       first-alone = first-alone;
       refusals-listed = refusals-listed;
       length-first = length-first;
+      ten-said = ten-said;
+      eleven-said = eleven-said;
+      ten-exactly = ten-exactly;
+      eleven-exactly = eleven-exactly;
+      thirteen-said = thirteen-said;
+      fourteen-said = fourteen-said;
+      repeated-refused = repeated-refused;
+      lost-refused = lost-refused;
       totals = good-accepted;
       numbers = number-exactly;
       value-of-table = value-of-table;

@@ -1,14 +1,17 @@
 -- Demand 2 of the mission, whole, sentence by sentence. Each statement has its place below: in `number` and `canonical`
 -- (specs/Claims, Marked), `record` (specs/Plain), `good` (specs/Claims), `entry` (specs/First), `refusal_table`
--- (specs/Listed), `inside` (specs/Inside, Placed), `answered_tables` (specs/Tables, Passages) or this crate
--- (specs/Writing). `judgeOf`, `valueAsked`, `headingAsked`, `unitAsked`, `passageAsked`, `readField`, `readNumber` and
--- `written` are what the calls promise to answer, and `bytes` is what the writer leaves in the buffer.
+-- (specs/Listed, TextFaults, HeadingFaults), `inside` (specs/Inside, Placed), `answered_tables` (specs/Tables,
+-- Passages) or this crate (specs/Writing). `judgeOf`, `valueAsked`, `headingAsked`, `unitAsked`, `passageAsked`,
+-- `readField`, `readNumber` and `written` are what the calls promise to answer, and `bytes` is what the writer leaves in
+-- the buffer.
 use Rattle.number.specs.Claims.{SaysExactly, SpeltOnce, ValueFound, ValueOne, ElevenRead, OthersRefused}
 use Rattle.canonical.specs.Claims.{BestOne, ClosedForm, ColumnsSpan}
 use Rattle.canonical.specs.Marked.{MarkedRight}
 use Rattle.record.specs.Plain.{NumberExactly}
 use Rattle.entry.specs.First.{RefusedFirst, FirstAlone}
 use Rattle.refusal_table.specs.Listed.{RefusalsListed, LengthFirst}
+use Rattle.refusal_table.specs.TextFaults.{TenSaid, ElevenSaid, TenExactly, ElevenExactly}
+use Rattle.refusal_table.specs.HeadingFaults.{ThirteenSaid, FourteenSaid, RepeatedRefused, LostRefused}
 use Rattle.good.specs.Claims.{AcceptedExactly, GoodAccepted}
 use Rattle.inside.specs.Inside.{PassageAnswered, OnePassage}
 use Rattle.inside.specs.Placed.{ValuePlaced, HeadingPlaced, UnitPlaced}
@@ -27,6 +30,16 @@ pub record Demand2 : Type 0 where
   -- and every refusal stands in the paper's table: its number, the kind of its record, its column
   pub refusals-listed : RefusalsListed
   pub length-first : LengthFirst
+  -- what is wrong at a record refused with 10, 11, 13 or 14, over the records before it; and nothing that is wrong so
+  -- passes
+  pub ten-said : TenSaid
+  pub eleven-said : ElevenSaid
+  pub ten-exactly : TenExactly
+  pub eleven-exactly : ElevenExactly
+  pub thirteen-said : ThirteenSaid
+  pub fourteen-said : FourteenSaid
+  pub repeated-refused : RepeatedRefused
+  pub lost-refused : LostRefused
   -- "An accepted entry comes with its totals as counted there,": the sums over the parts of the good entry, whichever
   -- way the bytes are taken for one
   pub totals : GoodAccepted

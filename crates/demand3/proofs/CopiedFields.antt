@@ -10,20 +10,21 @@ use native.Mathlib.Numerals.{add-one}
 use lib.ListN.{length, drop, getD, List·getD-eq-default}
 use Rattle.laws.specs.Blocks.{blocks, blockAt}
 use Rattle.laws.specs.Copies.{marks}
-use Rattle.laws.specs.Replacing.{Each}
+use Rattle.copy_records.specs.Replaced.{Each}
 use Rattle.laws.proofs.Search.{either}
 use Rattle.laws.proofs.Blocks.{next-block, length-blocks}
 use Rattle.laws.proofs.Copies.{length-marks}
-use Rattle.laws.proofs.Replacing.{each-at}
+use Rattle.copy_records.proofs.Replaced.{each-at}
 use Rattle.number.specs.declared.value.Reading.the-variants.{Blank, Number}
 use Rattle.canonical.specs.Replacing.{canonical}
 use Rattle.canonical.proofs.Laws.{canonical-best, number-normal, number-fits}
 use Rattle.canonical.proofs.WriteBack.{canonical-read}
 use Rattle.columns.specs.Fields.{fieldAt}
-use Rattle.entry.specs.Verdict.{turnOf, Accepted}
+use Rattle.entry_judging.specs.Judging.{turnOf, Accepted}
 use Rattle.rules_state.specs.State.{startContext}
-use Rattle.entry.specs.Contexts.{contextAt}
-use Rattle.entry.proofs.AcceptedWalk.{Walked, walked, context-start}
+use Rattle.entry_judging.specs.Contexts.{contextAt}
+use Rattle.entry.proofs.AcceptedWalk.{Walked, walked}
+use Rattle.entry.proofs.Contexts.{context-start}
 use Rattle.copy_records.specs.Copy.{maskOf, copyField, copyRecord, recordsIn, numberField, fieldIn, copyOf}
 use Rattle.copy.proofs.CanonicalFields.{Fit, copied-field}
 use Rattle.copy.proofs.FaithfulRecords.{length-mask-of, fits}

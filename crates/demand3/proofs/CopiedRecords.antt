@@ -16,11 +16,12 @@ use Rattle.columns.specs.declared.columns.RecordNo.{RecordNo}
 use Rattle.columns.specs.declared.columns.Place.{Place}
 use Rattle.columns.proofs.ReadColumns.{field-of, past-fields}
 use Rattle.rules_state.specs.State.{Context}
-use Rattle.rules_state.specs.Role.{isValue}
-use Rattle.entry.specs.Verdict.{turnOf, Accepted}
+use Rattle.rules_roles.specs.Roles.{isValue}
+use Rattle.entry_judging.specs.Judging.{turnOf, Accepted}
 use Rattle.entry.proofs.GoingOn.{go-fine}
-use Rattle.entry.proofs.AcceptedWalk.{walked, context-start, context-next}
-use Rattle.entry.specs.Contexts.{contextAt, roleAt, behind}
+use Rattle.entry.proofs.AcceptedWalk.{walked}
+use Rattle.entry.proofs.Contexts.{context-start, context-after}
+use Rattle.entry_judging.specs.Contexts.{contextAt, roleAt, behind}
 use Rattle.questions_places.specs.Place.{hasRecord, fieldsAt, identifierAt, fieldOf}
 use Rattle.questions_places.proofs.Records.{record-there}
 use Rattle.inside.proofs.RowWalked.{fields-at}
@@ -38,11 +39,11 @@ module _ (s : List ℕ) (accepted : Accepted s) where
   copied-context zero l = context-start (copyOf s) ∙ sym (context-start s)
   copied-context (suc i) l =
       let c = contextAt s i in
-      context-next (copyOf s) i
+      context-after (copyOf s) i
       ∙ ap (λ (x : Context). behind x (blockAt 81 (copyOf s) i)) (copied-context i (omega arith))
       ∙ ap (behind c) (copied-block s accepted i (omega arith))
       ∙ behind-kept c i (blockAt 81 s i) (contextAt s (suc i)) (walked s accepted .turns i (omega arith))
-      ∙ sym (context-next s i)
+      ∙ sym (context-after s i)
 
   -- a record that is no value record
   pub block-kept : (i : ℕ) → i < length s / 81 → isValue (roleAt s i) ≡ false → blockAt 81 (copyOf s) i ≡ blockAt 81 s i

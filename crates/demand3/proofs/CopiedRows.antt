@@ -15,16 +15,16 @@ use Rattle.columns.specs.Fields.{fieldsOf}
 use Rattle.record.specs.Identifier.{BIB, COMMON, DATA}
 use Rattle.columns.specs.declared.columns.RecordNo.{RecordNo}
 use Rattle.rules_state.specs.declared.state.Track.{Track}
-use Rattle.rules_state.specs.Role.{opensSubentry, isValue}
+use Rattle.rules_roles.specs.Roles.{opensSubentry, isValue}
 use Rattle.rules.proofs.ByKind.{of-values}
-use Rattle.entry.specs.Verdict.{roleOf, turnOf, Accepted}
-use Rattle.entry.specs.Contexts.{contextAt, roleAt}
+use Rattle.entry_judging.specs.Judging.{roleOf, turnOf, Accepted}
+use Rattle.entry_judging.specs.Contexts.{contextAt, roleAt}
 use Rattle.entry.proofs.Contexts.{records-at}
-use Rattle.questions_rows.specs.declared.row.Row.{Row}
-use Rattle.questions_rows.specs.Row.{NONE, withFirstAt, withBibAt, withCommonAt, withDataAt, noted, subentryIn, notedAs}
-use Rattle.questions_rows.specs.Row.{noteOf, rowAt, rowOf}
+use Rattle.questions_noted.specs.declared.row.Row.{Row}
+use Rattle.questions_noted.specs.Row.{NONE, withFirstAt, withBibAt, withCommonAt, withDataAt, noted}
+use Rattle.questions_rows.specs.Row.{subentryIn, notedAs, noteOf, rowAt, rowOf}
 use Rattle.questions_places.specs.Place.{COMMON-SECTION, DATA-SECTION, fieldsAt, shapeOf}
-use Rattle.questions.specs.Ask.{sectionIn}
+use Rattle.questions_refusals.specs.Refused.{sectionIn}
 use Rattle.entry.proofs.AcceptedWalk.{walked}
 use Rattle.questions_rows.proofs.RowNoted.{found-row}
 use Rattle.copy_records.specs.Copy.{copyRecord, copyOf}

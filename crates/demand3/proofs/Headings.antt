@@ -14,18 +14,19 @@ use Rattle.columns.specs.Fields.{fieldsOf}
 use Rattle.record_words.specs.Word.{pointerOf}
 use Rattle.columns.specs.declared.columns.RecordNo.{RecordNo}
 use Rattle.columns.specs.declared.columns.Place.{Place}
-use Rattle.rules_state.specs.Role.{isValue}
-use Rattle.rules_system.specs.System.{countN1}
-use Rattle.entry.specs.declared.verdict.Verdict.{Verdict}
-use Rattle.entry.specs.Verdict.{Accepted}
-use Rattle.entry.specs.Answer.{Refusal, refusal, firstOf, isRefused}
-use Rattle.questions_rows.specs.declared.row.Row.{Row}
+use Rattle.rules_roles.specs.Roles.{isValue}
+use Rattle.rules_counts.specs.Counts.{countN1}
+use Rattle.entry_verdict.specs.declared.verdict.Verdict.{Verdict}
+use Rattle.entry_judging.specs.Judging.{Accepted}
+use Rattle.entry_verdict.specs.Answer.{Refusal, refusal, firstOf, isRefused}
+use Rattle.questions_noted.specs.declared.row.Row.{Row}
 use Rattle.questions_places.specs.declared.place.Shape.{Shape}
 use Rattle.questions_rows.specs.Row.{rowOf}
 use Rattle.questions_places.specs.Place.{shapeOf, headingPlace, unitPlace, fieldOf, byteOf}
-use Rattle.questions.specs.Ask.{isSubent, sectionIn, noSection, sectionRefusals}
-use Rattle.questions.specs.Ask.{noColumn, columnRefusal, headingBy, headingAsked, unitBy, unitAsked}
-use Rattle.questions.proofs.Refusals.{column-inside}
+use Rattle.questions_refusals.specs.Refused.{isSubent, sectionIn, noSection, sectionRefusals, noColumn, columnRefusal}
+use Rattle.questions_answers.specs.Answers.{headingBy, unitBy}
+use Rattle.questions.specs.Ask.{headingAsked, unitAsked}
+use Rattle.questions_refusals.proofs.InOrder.{column-inside}
 use Rattle.inside.proofs.Laid.{rowRole}
 use Rattle.inside.proofs.RowFound.{Opening}
 use Rattle.inside.proofs.Answered.{sectionNo, sectionOf, at-record, shape-columns, laid-at}

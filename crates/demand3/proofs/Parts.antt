@@ -8,15 +8,15 @@ use native.Mathlib.Omega.{arith}
 use lib.Dec.{eqb, leb}
 use lib.ListN.{length, take, drop, getD}
 use borrow.Author.Tests.{eqb-true, leb-true}
-use Rattle.rules_state.specs.Role.{isValue}
+use Rattle.rules_roles.specs.Roles.{isValue}
 use Rattle.columns.specs.declared.columns.RecordNo.{RecordNo}
-use Rattle.entry.specs.declared.verdict.Verdict.{Verdict}
-use Rattle.entry.specs.Verdict.{Accepted}
-use Rattle.entry.specs.Contexts.{roleAt}
-use Rattle.entry.specs.Answer.{answerOf, answerFor}
-use Rattle.questions.specs.declared.ask.PartAnswer.{PartAnswer}
+use Rattle.entry_verdict.specs.declared.verdict.Verdict.{Verdict}
+use Rattle.entry_judging.specs.Judging.{Accepted}
+use Rattle.entry_judging.specs.Contexts.{roleAt}
+use Rattle.entry_verdict.specs.Answer.{answerOf, answerFor}
+use Rattle.questions_answers.specs.declared.answers.PartAnswer.{PartAnswer}
 use Rattle.questions_places.specs.Place.{fieldsAt}
-use Rattle.questions.specs.Ask.{noPart, partWith}
+use Rattle.questions_answers.specs.Answers.{noPart, partWith}
 use Rattle.copy_records.specs.Copy.{copyOf}
 use Rattle.copy.proofs.Demand.{passed, copy-long, byte-of}
 use Rattle.copy.proofs.Unchanged.{part-of-bytes}

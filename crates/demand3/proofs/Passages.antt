@@ -12,15 +12,17 @@ use Rattle.laws.specs.Search.{first}
 use Rattle.laws.proofs.Search.{first-to, first-same}
 use Rattle.record.proofs.BlankCount.{blank-count}
 use Rattle.columns.specs.declared.columns.RecordNo.{RecordNo}
-use Rattle.rules_system.specs.System.{countN2}
-use Rattle.entry.specs.declared.verdict.Verdict.{Verdict}
-use Rattle.entry.specs.Verdict.{Accepted}
+use Rattle.rules_counts.specs.Counts.{countN2}
+use Rattle.entry_verdict.specs.declared.verdict.Verdict.{Verdict}
+use Rattle.entry_judging.specs.Judging.{Accepted}
 use Rattle.questions_places.specs.declared.passage.Passage.{Passage}
 use Rattle.questions_rows.specs.Row.{rowOf}
 use Rattle.questions_places.specs.Place.{fieldsAt, firstByte}
 use Rattle.questions_places.specs.Passage.{textRecords, textRecord, textAt, hasKeyword, isKeyword, begins, beginsWith}
 use Rattle.questions_places.specs.Passage.{firstText, NO-PASSAGE, passageUnder, passageOf}
-use Rattle.questions.specs.Ask.{passageRefusal, passageBy, passageAsked}
+use Rattle.questions_refusals.specs.Refused.{passageRefusal}
+use Rattle.questions_answers.specs.Answers.{passageBy}
+use Rattle.questions.specs.Ask.{passageAsked}
 use Rattle.inside.proofs.TextLaid.{row-texts}
 use Rattle.copy_records.specs.Copy.{copyOf}
 use Rattle.copy.proofs.Demand.{copy-accepted}

@@ -4,10 +4,11 @@ use Prim.Native.Nat.{ℕ}
 use mathlib.Core.Path.{_≡_}
 use mathlib.Core.List.{List}
 use Rattle.columns.specs.declared.columns.LineNo.{LineNo}
-use Rattle.entry.specs.Verdict.{Accepted}
-use Rattle.questions.specs.declared.ask.ValueAnswer.{ValueAnswer}
-use Rattle.questions.specs.declared.ask.PartAnswer.{PartAnswer}
-use Rattle.questions.specs.Ask.{valueAsked, bytesIn, headingAsked, unitAsked, passageAsked}
+use Rattle.entry_judging.specs.Judging.{Accepted}
+use Rattle.questions_answers.specs.declared.answers.ValueAnswer.{ValueAnswer}
+use Rattle.questions_answers.specs.declared.answers.PartAnswer.{PartAnswer}
+use Rattle.questions.specs.Ask.{valueAsked, headingAsked, unitAsked, passageAsked}
+use Rattle.questions_answers.specs.Answers.{bytesIn}
 use Rattle.copy_records.specs.Copy.{copyOf}
 use Rattle.copy.specs.Demand.{Alike}
 

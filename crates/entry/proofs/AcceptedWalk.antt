@@ -2,7 +2,7 @@
 -- last phase is Done.
 -- Assumes nothing.
 use Prim.Native.Nat.{ℕ, zero, suc, _+_, _*_, _-_, _/_, _<_, _≤_}
-use mathlib.Core.Path.{_≡_, refl, sym, _∙_, ap, subst}
+use mathlib.Core.Path.{_≡_, sym, _∙_, ap, subst}
 use mathlib.Core.Bool.{true}
 use mathlib.Core.List.{List}
 use native.Mathlib.Omega.{arith}
@@ -15,11 +15,13 @@ use Rattle.laws.specs.Blocks.{blocks, blockAt}
 use Rattle.laws.proofs.Walk.{walk-goes, goes-walk}
 use Rattle.laws.proofs.Blocks.{next-block}
 use Rattle.rules_state.specs.State.{Context, startContext}
-use Rattle.entry.specs.declared.verdict.Verdict.{Verdict}
-use Rattle.entry.specs.Verdict.{turnOf, endOf, isDone, lengthGood, judgeOf, Accepted}
-use Rattle.entry.specs.Contexts.{behind, contextAt}
+use Rattle.entry_verdict.specs.declared.verdict.Verdict.{Verdict}
+use Rattle.entry_judging.specs.Judging.{turnOf, endOf, judgeOf, Accepted}
+use Rattle.entry_verdict.specs.Verdict.{isDone, lengthGood}
+use Rattle.entry_judging.specs.Contexts.{behind, contextAt}
+use Rattle.entry.proofs.Contexts.{context-start}
 use Rattle.entry.proofs.GoingOn.{go-fine, out-refused, done-of}
-use Rattle.entry.proofs.Walking.{accepted-good}
+use Rattle.entry_step.proofs.Walking.{accepted-good}
 
 -- one block more
 one-turn : (m : ℕ) (c : Context) (i : ℕ) (t : List ℕ) (last : Context) → Goes turnOf c i (blocks 81 (suc m) t) last
@@ -35,14 +37,6 @@ one-turn m c i t last g =
 none-left : (c : Context) (i : ℕ) (t : List ℕ) (last : Context) → Goes turnOf c i (blocks 81 0 t) last → c ≡ last
 unfolding blocks
 none-left c i t last g = g
-
-pub context-start : (s : List ℕ) → contextAt s 0 ≡ startContext
-unfolding contextAt
-context-start s = refl
-
-pub context-next : (s : List ℕ) (i : ℕ) → contextAt s (suc i) ≡ behind (contextAt s i) (blockAt 81 s i)
-unfolding contextAt
-context-next s i = refl
 
 module _ (s : List ℕ) (n : ℕ) (last : Context) (goes : Goes turnOf startContext 0 (blocks 81 n s) last) where
   abbrev rest : ℕ → List (List ℕ)

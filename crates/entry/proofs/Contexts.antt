@@ -11,12 +11,14 @@ use Rattle.columns.specs.Fields.{fieldsOf}
 use Rattle.record.specs.Identifier.{ENTRY, BIB, COMMON, DATA}
 use Rattle.record_words.specs.Word.{blankTo}
 use Rattle.rules_state.specs.declared.state.Track.{Track}
-use Rattle.rules_state.specs.Role.{TEXT, isSystem, opensSubentry, isHeading, isUnit, isValue}
+use Rattle.rules_state.specs.State.{startContext}
+use Rattle.rules_roles.specs.Roles.{TEXT, isSystem, opensSubentry, isHeading, isUnit, isValue}
 use Rattle.rules_state.proofs.EitherWay.{either-way}
-use Rattle.entry_counted.specs.Counted.{trackAfter, afterSystem, afterInside, textRead}
+use Rattle.entry_counted.specs.Counted.{trackAfter, afterSystem, afterInside}
+use Rattle.entry_tally.specs.Tally.{textRead}
 use Rattle.entry_next.specs.Next.{contextAfter}
-use Rattle.entry.specs.Verdict.{roleOf}
-use Rattle.entry.specs.Contexts.{behind, contextAt}
+use Rattle.entry_judging.specs.Judging.{roleOf}
+use Rattle.entry_judging.specs.Contexts.{behind, contextAt}
 
 count-next : (t : Track) (role : ℕ) (fs : List (List ℕ)) (r : List ℕ)
     → trackAfter t role fs r .records .0 ≡ t .records .0 + 1
@@ -43,6 +45,13 @@ records-at s (suc i) =
     let r = blockAt 81 s i in
     count-next (c .track) (roleOf c r) (fieldsOf r) r ∙ ap (λ (k : ℕ). k + 1) (records-at s i) ∙ add-one i
 
-pub context-next : (s : List ℕ) (i : ℕ) → contextAt s (i + 1) ≡ behind (contextAt s i) (blockAt 81 s i)
+pub context-start : (s : List ℕ) → contextAt s 0 ≡ startContext
 unfolding contextAt
-context-next s i = rw (add-one i) refl
+context-start s = refl
+
+pub context-after : (s : List ℕ) (i : ℕ) → contextAt s (suc i) ≡ behind (contextAt s i) (blockAt 81 s i)
+unfolding contextAt
+context-after s i = refl
+
+pub context-next : (s : List ℕ) (i : ℕ) → contextAt s (i + 1) ≡ behind (contextAt s i) (blockAt 81 s i)
+context-next s i = rw (add-one i) (context-after s i)

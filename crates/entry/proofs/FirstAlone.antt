@@ -1,46 +1,21 @@
 -- No verdict but the judge's is the first in the order.
 -- Assumes nothing.
-use Prim.Native.Nat.{ℕ, _+_, _/_, _<_, _≤_}
-use mathlib.Core.Path.{_≡_, refl, sym, _∙_, ap, subst}
+use Prim.Native.Nat.{ℕ, _+_, _/_, _<_}
+use mathlib.Core.Path.{_≡_, refl, sym, _∙_, subst}
 use mathlib.Core.Bool.{Bool, true, false}
-use mathlib.Core.List.{List, [], _∷_}
-use mathlib.Core.Logic.{inl, inr}
+use mathlib.Core.List.{List}
 use native.Mathlib.Omega.{arith}
 use borrow.Author.Tests.{leb-true, leb-false}
 use lib.Dec.{leb}
-use lib.ListN.{length, getD}
-use Rattle.rules_state.specs.Fault.{leftmost, Finding}
-use Rattle.rules.specs.Order.{Before, noFinding, Least}
+use lib.ListN.{length}
 use Rattle.rules_state.proofs.EitherWay.{no}
-use Rattle.entry.specs.declared.verdict.Verdict.{Verdict}
-use Rattle.entry.specs.Verdict.{refused, judgeOf}
-use Rattle.entry.specs.First.{foundAt, Nothing, NothingBefore, FirstAt, First, by-length, by-record, by-end}
-use Rattle.entry.specs.First.{by-none, FirstAlone}
+use Rattle.rules.proofs.FaultSaid.{some-found, one-least}
+use Rattle.entry_verdict.specs.declared.verdict.Verdict.{Verdict}
+use Rattle.entry_verdict.specs.Verdict.{refused}
+use Rattle.entry_judging.specs.Judging.{judgeOf}
+use Rattle.entry.specs.First.{foundAt, NothingBefore, FirstAt, First, by-length, by-record, by-end, by-none}
+use Rattle.entry.specs.First.{FirstAlone}
 use Rattle.entry.proofs.FirstRefused.{refused-first}
-
--- ---- the least of what is found
-
--- where something is the least, something is found
-some-found : (fs : List Finding) (n k : ℕ) → Least fs n k → Nothing fs → ⊥
-some-found fs n k l none =
-    let h = l .some in
-    let z : 0 ≡ k = sym (ap leftmost (none (l .at) (l .there))) ∙ l .column in
-    omega arith
-
-leftmost-first : (ks : List ℕ) (k : ℕ) → 1 ≤ k → leftmost ks ≡ k → (0 < length ks) × (getD ks 0 0 ≡ k)
-leftmost-first [] k h e = absurd (omega arith)
-leftmost-first (c ∷ ks) k h e = (omega arith, e)
-
-least-before : (fs : List Finding) (n k m j : ℕ) → Least fs n k → Least fs m j → Before n k m j
-least-before fs n k m j a b =
-    let (some, column) = leftmost-first (getD fs (b .at) noFinding .columns) j (b .some) (b .column) in
-    rw (b .number, column) at (a .least (b .at) 0 (b .there) some)
-
-both-before : (n k m j : ℕ) → Before n k m j → Before m j n k → (n ≡ m) × (k ≡ j)
-both-before n k m j (inl a) (inl b) = absurd (omega arith)
-both-before n k m j (inl a) (inr b) = let z = b .0 in absurd (omega arith)
-both-before n k m j (inr a) (inl b) = let z = a .0 in absurd (omega arith)
-both-before n k m j (inr a) (inr b) = let z = a .1 in let w = b .1 in (a .0, omega arith)
 
 -- ---- one record is the first
 
@@ -57,9 +32,7 @@ module _ (s : List ℕ) where
       by-test false e q f = absurd (none-here j m l b i (leb-false i j e) (a .earlier))
 
   one-fault : (i n k m l : ℕ) → FirstAt s i n k → FirstAt s i m l → (n ≡ m) × (k ≡ l)
-  one-fault i n k m l a b =
-      both-before n k m l (least-before (foundAt s i) n k m l (a .least) (b .least))
-      (least-before (foundAt s i) m l n k (b .least) (a .least))
+  one-fault i n k m l a b = one-least (foundAt s i) n k m l (a .least) (b .least)
 
   one-refusal : (i n k j m l : ℕ) → FirstAt s i n k → FirstAt s j m l
       → refused n (record { 0 = i + 1 }) k ≡ refused m (record { 0 = j + 1 }) l

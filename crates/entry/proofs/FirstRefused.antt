@@ -15,17 +15,17 @@ use Rattle.laws.specs.Blocks.{blocks, blockAt}
 use Rattle.laws.proofs.Blocks.{run-walk}
 use Rattle.columns.specs.Columns.{recordOf}
 use Rattle.columns.specs.Fields.{fieldsOf}
-use Rattle.rules_state.specs.declared.fault.Fault.{Fault}
-use Rattle.rules_state.specs.declared.fault.Fault.the-variants.{Fine, At}
+use Rattle.rules_roles.specs.declared.fault.Fault.{Fault}
+use Rattle.rules_roles.specs.declared.fault.Fault.the-variants.{Fine, At}
 use Rattle.rules_state.specs.State.{Context, startContext}
-use Rattle.rules.specs.Order.{faultOf, Least}
+use Rattle.rules.specs.Order.{faultOf, Least, Nothing}
 use Rattle.rules.proofs.Least.{fault-least, fault-none}
-use Rattle.entry.specs.declared.verdict.Verdict.{Verdict}
-use Rattle.entry.specs.Verdict.{refused, accepted, roleOf, onFault, turnAs, turnOf, endOf, isDone, lengthGood}
-use Rattle.entry.specs.Verdict.{judgeOf}
-use Rattle.entry.specs.Contexts.{behind, contextAt}
-use Rattle.entry.specs.First.{foundIn, foundAt, Nothing, NothingBefore, First, by-length, by-record, by-end}
-use Rattle.entry.specs.First.{by-none, RefusedFirst}
+use Rattle.entry_verdict.specs.declared.verdict.Verdict.{Verdict}
+use Rattle.entry_verdict.specs.Verdict.{refused, accepted, isDone, lengthGood}
+use Rattle.entry_judging.specs.Judging.{roleOf, onFault, turnAs, turnOf, endOf, judgeOf}
+use Rattle.entry_judging.specs.Contexts.{behind, contextAt}
+use Rattle.entry.specs.First.{foundIn, foundAt, NothingBefore, First, by-length, by-record, by-end, by-none}
+use Rattle.entry.specs.First.{RefusedFirst}
 use Rattle.entry.proofs.Contexts.{records-at, context-next}
 
 -- ---- one record

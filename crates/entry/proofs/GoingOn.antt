@@ -12,19 +12,19 @@ use Rattle.laws.specs.Copies.{Passing}
 use Rattle.number.specs.Reading.{readField}
 use Rattle.columns.specs.Columns.{recordOf}
 use Rattle.columns.specs.Fields.{fieldsOf}
-use Rattle.rules_state.specs.declared.fault.Fault.{Fault}
-use Rattle.rules_state.specs.declared.fault.Fault.the-variants.{Fine, At}
+use Rattle.rules_roles.specs.declared.fault.Fault.{Fault}
+use Rattle.rules_roles.specs.declared.fault.Fault.the-variants.{Fine, At}
 use Rattle.rules_state.specs.State.{Context, used}
-use Rattle.rules_state.specs.Role.{COMMON-VALUE, DATA-VALUE, isValue}
-use Rattle.rules_section.specs.Values.{optional, valuesFor}
+use Rattle.rules_roles.specs.Roles.{COMMON-VALUE, DATA-VALUE, isValue}
+use Rattle.rules_values.specs.Values.{optional, valuesFor}
 use Rattle.rules.specs.Order.{faultOf}
-use Rattle.entry.specs.declared.verdict.Verdict.{Verdict}
+use Rattle.entry_verdict.specs.declared.verdict.Verdict.{Verdict}
 use Rattle.entry_counted.specs.Counted.{trackAfter, afterInside}
-use Rattle.entry_next.specs.Parts.{partAfter, bibChange, underChange, tableChange}
-use Rattle.entry_next.specs.Parts.{seenAfter}
+use Rattle.entry_next.specs.Parts.{partAfter, bibChange, underChange, tableChange, seenAfter}
 use Rattle.entry_next.specs.Next.{contextAfter}
-use Rattle.entry.specs.Verdict.{roleOf, accepted, refused, onFault, turnAs, turnOf, isDone, endOf}
-use Rattle.record.proofs.Readings.{values-same}
+use Rattle.entry_judging.specs.Judging.{roleOf, onFault, turnAs, turnOf, endOf}
+use Rattle.entry_verdict.specs.Verdict.{accepted, refused, isDone}
+use Rattle.record_values.proofs.Readings.{values-same}
 use Rattle.rules.proofs.ByKind.{of-values}
 use Rattle.rules.proofs.Least.{fault-bounds}
 

@@ -3,20 +3,23 @@
 --   "Judging: 1 comes first. Then records in order; within one record the lowest number; within that the leftmost
 --   column."
 --
--- Said of all that the rules find, record by record; how a judge comes to it plays no part here.
+-- Which of all that the rules find is first is said here with no search. What they find on a record (`findings`)
+-- depends on what is due, counted and seen before it, and this is the judge's own walk (`contextAt`): what is said here
+-- rests on that walk. Where a refusal can stand is said with no walk in `refusal_table`.
 use Prim.Native.Nat.{ℕ, _+_, _/_, _<_}
 use mathlib.Core.Path.{_≡_}
 use mathlib.Core.Bool.{true, false}
-use mathlib.Core.List.{List, []}
-use lib.ListN.{length, getD}
+use mathlib.Core.List.{List}
+use lib.ListN.{length}
 use Rattle.laws.specs.Blocks.{blockAt}
 use Rattle.columns.specs.Fields.{fieldsOf}
 use Rattle.rules_state.specs.State.{Context}
-use Rattle.rules_state.specs.Fault.{Finding}
-use Rattle.rules.specs.Order.{findings, noFinding, Least}
-use Rattle.entry.specs.declared.verdict.Verdict.{Verdict}
-use Rattle.entry.specs.Verdict.{refused, accepted, roleOf, isDone, lengthGood, judgeOf}
-use Rattle.entry.specs.Contexts.{contextAt}
+use Rattle.rules_roles.specs.Fault.{Finding}
+use Rattle.rules.specs.Order.{findings, Least, Nothing}
+use Rattle.entry_verdict.specs.declared.verdict.Verdict.{Verdict}
+use Rattle.entry_verdict.specs.Verdict.{refused, accepted, isDone, lengthGood}
+use Rattle.entry_judging.specs.Judging.{roleOf, judgeOf}
+use Rattle.entry_judging.specs.Contexts.{contextAt}
 
 -- what the rules find on a record, from what stands before it
 abbrev pub foundIn : Context → List ℕ → List Finding
@@ -24,10 +27,6 @@ foundIn c r = findings (c .track) (c .seen) (roleOf c r) (fieldsOf r) r
 
 abbrev pub foundAt : List ℕ → ℕ → List Finding
 foundAt s i = foundIn (contextAt s i) (blockAt 81 s i)
-
--- no rule finds anything
-abbrev pub Nothing : List Finding → Type 0
-Nothing fs = (k : ℕ) → k < length fs → getD fs k noFinding .columns ≡ []
 
 -- "records in order": nothing is found on the first n
 abbrev pub NothingBefore : List ℕ → ℕ → Type 0

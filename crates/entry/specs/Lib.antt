@@ -1,7 +1,1 @@
-pub mod Verdict
-pub mod ByRanges
-pub mod Contexts
-pub mod Pass
 pub mod First
-pub mod Answer
-pub mod Part

@@ -1,5 +1,2 @@
 // The judge: one record after the other, and the verdict on an entry; what a call about an entry answers.
-pub mod answer;
-pub mod pass;
-pub mod step;
-pub mod verdict;
+pub mod judge;

@@ -11,15 +11,15 @@ use Rattle.record.specs.Identifier.{ENTRY, BIB, COMMON, DATA}
 use Rattle.record_words.specs.Word.{blankTo}
 use Rattle.rules_state.specs.declared.state.Table.{Table}
 use Rattle.rules_state.specs.declared.state.Track.{Track}
-use Rattle.rules_state.specs.State.{MOST-RECORDS, counted, rowEnds}
+use Rattle.rules_state.specs.Limits.{MOST-RECORDS}
+use Rattle.rules_state.specs.State.{counted, rowEnds}
 use Rattle.rules_state.specs.Ranging.{Bounded}
-use Rattle.rules_state.specs.Role.{TEXT, DATA-VALUE, isSystem, opensSubentry, isHeading, isUnit, isValue}
-use Rattle.rules_section.specs.Values.{valuesFor}
+use Rattle.rules_roles.specs.Roles.{TEXT, DATA-VALUE, isSystem, opensSubentry, isHeading, isUnit, isValue}
+use Rattle.rules_values.specs.Values.{valuesFor}
 use Rattle.rules_state.proofs.EitherWay.{either-way}
-use Rattle.rules_section.proofs.ReadValues.{numbers-few}
-use Rattle.entry_counted.specs.Counted.{headingsRead, unitsRead, valuesRead, linesRead, textRead, afterSystem}
-use Rattle.entry_counted.specs.Counted.{afterInside}
-use Rattle.entry_counted.specs.Counted.{trackAfter}
+use Rattle.rules_values.proofs.ReadValues.{numbers-few}
+use Rattle.entry_tally.specs.Tally.{headingsRead, unitsRead, valuesRead, linesRead, textRead}
+use Rattle.entry_counted.specs.Counted.{afterSystem, afterInside, trackAfter}
 
 -- the track u is one that may follow t
 pub record Follows (t u : Track) : Type 0 where

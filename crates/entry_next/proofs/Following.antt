@@ -16,20 +16,22 @@ use Rattle.columns.specs.declared.columns.Index.{Index}
 use Rattle.rules_state.specs.declared.state.Phase.{Phase}
 use Rattle.rules_state.specs.declared.state.Phase.the-variants.{Opened, InSubentry, InBib, AfterBib, InCommon}
 use Rattle.rules_state.specs.declared.state.Phase.the-variants.{AfterCommon, InData, AfterData, Between, Done}
-use Rattle.rules_state.specs.declared.ranging.Range.{Range}
-use Rattle.rules_state.specs.declared.ranging.Ranges.{Ranges}
+use Rattle.rules_roles.specs.declared.ranging.Range.{Range}
+use Rattle.rules_roles.specs.declared.ranging.Ranges.{Ranges}
 use Rattle.rules_state.specs.declared.state.Table.{Table}
 use Rattle.rules_state.specs.declared.state.Track.{Track}
 use Rattle.rules_state.specs.State.{HEADINGS}
-use Rattle.rules_state.specs.Ranging.{bytesOf, seenOf, Placed, AllPlaced}
-use Rattle.rules_state.specs.Role.{TEXT, COMMON-HEADING, COMMON-UNIT, COMMON-VALUE, DATA-HEADING, DATA-UNIT, DATA-VALUE}
-use Rattle.rules_state.specs.Role.{isHeading, opensSubentry, roleIn}
+use Rattle.rules_roles.specs.Parts.{bytesOf}
+use Rattle.rules_state.specs.Ranging.{seenOf, Placed, AllPlaced}
+use Rattle.rules_roles.specs.Roles.{TEXT, COMMON-HEADING, COMMON-UNIT, COMMON-VALUE, DATA-HEADING, DATA-UNIT}
+use Rattle.rules_roles.specs.Roles.{DATA-VALUE, isHeading, opensSubentry}
+use Rattle.rules_state.specs.Role.{roleIn}
 use Rattle.entry_next.specs.declared.parts.Change.{Change}
 use Rattle.entry_next.specs.declared.parts.Change.the-variants.{Kept, Emptied, Begun, Joined}
 use Rattle.entry_next.specs.Parts.{partAfter, emptiesBib, bibChange, underChange, tableChange, ends001, seenAfter}
 use Rattle.entry_next.specs.Due.{leadsToBib, leadsToCommon, leadsToData, phaseAfter}
 use Rattle.entry_counted.specs.Counted.{trackAfter, afterInside}
-use Rattle.entry_counted.specs.Counted.{unitsRead, valuesRead}
+use Rattle.entry_tally.specs.Tally.{unitsRead, valuesRead}
 use Rattle.entry_next.specs.Ranging.{rangeAfter, commonAfter, rangesAfter}
 use Rattle.rules_state.proofs.EitherWay.{either-way, no}
 use Rattle.rules_state.proofs.RolePlaces.{inBib, inTable, isText, text-in-bib, heading-in-table}

@@ -8,7 +8,8 @@ use Rattle.rules_state.specs.declared.state.Phase.{Phase}
 use Rattle.rules_state.specs.declared.state.Phase.the-variants.{Opened, InSubentry, InBib, AfterBib, InCommon}
 use Rattle.rules_state.specs.declared.state.Phase.the-variants.{AfterCommon}
 use Rattle.rules_state.specs.declared.state.Phase.the-variants.{InData, AfterData, Between, Done}
-use Rattle.rules_state.specs.Role.{TEXT, COMMON-HEADING, COMMON-UNIT, COMMON-VALUE, DATA-HEADING, DATA-UNIT, DATA-VALUE}
+use Rattle.rules_roles.specs.Roles.{TEXT, COMMON-HEADING, COMMON-UNIT, COMMON-VALUE, DATA-HEADING, DATA-UNIT}
+use Rattle.rules_roles.specs.Roles.{DATA-VALUE}
 
 -- the records that are or lead into BIB, COMMON, DATA
 abbrev pub leadsToBib : ℕ → Bool

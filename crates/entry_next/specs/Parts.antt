@@ -4,13 +4,11 @@ use mathlib.Core.Bool.{Bool, cond, _&&_, _||_}
 use mathlib.Core.List.{List, [], _++_}
 use lib.Dec.{eqb}
 use lib.ListN.{getD}
-use Rattle.record.specs.Identifier.{BIB, COMMON, ENDCOMMON, DATA}
-use Rattle.record.specs.Identifier.{ENDSUBENT}
+use Rattle.record.specs.Identifier.{BIB, COMMON, ENDCOMMON, DATA, ENDSUBENT}
 use Rattle.record_words.specs.Word.{blankTo}
 use Rattle.rules_state.specs.declared.state.Track.{Track}
 use Rattle.rules_state.specs.State.{Seen}
-use Rattle.rules_state.specs.Role.{TEXT}
-use Rattle.rules_state.specs.Role.{opensSubentry, isHeading}
+use Rattle.rules_roles.specs.Roles.{TEXT, opensSubentry, isHeading}
 use Rattle.entry_next.specs.declared.parts.Change.{Change}
 use Rattle.entry_next.specs.declared.parts.Change.the-variants.{Kept, Emptied, Begun, Joined}
 

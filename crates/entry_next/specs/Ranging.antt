@@ -7,9 +7,9 @@ use lib.ListN.{getD}
 use Rattle.record.specs.Identifier.{ENDCOMMON}
 use Rattle.columns.specs.declared.columns.Index.{Index}
 use Rattle.rules_state.specs.declared.state.Track.{Track}
-use Rattle.rules_state.specs.declared.ranging.Range.{Range}
-use Rattle.rules_state.specs.declared.ranging.Ranges.{Ranges}
-use Rattle.rules_state.specs.Role.{opensSubentry}
+use Rattle.rules_roles.specs.declared.ranging.Range.{Range}
+use Rattle.rules_roles.specs.declared.ranging.Ranges.{Ranges}
+use Rattle.rules_roles.specs.Roles.{opensSubentry}
 use Rattle.entry_next.specs.declared.parts.Change.{Change}
 use Rattle.entry_next.specs.declared.parts.Change.the-variants.{Kept, Emptied, Begun, Joined}
 use Rattle.entry_next.specs.Parts.{bibChange, underChange, tableChange, ends001}

@@ -17,13 +17,13 @@ use record::identifier::NOCOMMON;
 use record::identifier::NODATA;
 use record::identifier::NOSUBENT;
 use record::identifier::SUBENT;
-use rules_state::role::COMMON_HEADING;
-use rules_state::role::COMMON_UNIT;
-use rules_state::role::COMMON_VALUE;
-use rules_state::role::DATA_HEADING;
-use rules_state::role::DATA_UNIT;
-use rules_state::role::DATA_VALUE;
-use rules_state::role::TEXT;
+use rules_roles::roles::COMMON_HEADING;
+use rules_roles::roles::COMMON_UNIT;
+use rules_roles::roles::COMMON_VALUE;
+use rules_roles::roles::DATA_HEADING;
+use rules_roles::roles::DATA_UNIT;
+use rules_roles::roles::DATA_VALUE;
+use rules_roles::roles::TEXT;
 use rules_state::state::Phase;
 
 pub(crate) fn is_either(role: usize, a: usize, b: usize) -> bool

@@ -2,7 +2,7 @@
 ghost use mathlib.Core.Path.{_≡_};
 ghost use mathlib.Core.Bool.{cond};
 ghost use Prim.Native.Nat.{_+_, _-_, _<_};
-ghost use Rattle.rules_state.specs.State.{MOST-RECORDS};
+ghost use Rattle.rules_state.specs.Limits.{MOST-RECORDS};
 ghost use Rattle.entry_next.specs.Parts.{emptiesBib, bibChange, underChange, tableChange, ends001};
 ghost use Rattle.entry_next.specs.Ranging.{rangeAfter, commonAfter, rangesAfter};
 use crate::due::is_either;
@@ -13,11 +13,11 @@ use record::identifier::DATA;
 use record::identifier::ENDCOMMON;
 use record::identifier::ENDSUBENT;
 use record_words::word::is_keyword_blank;
-use rules_state::ranging::Range;
-use rules_state::ranging::Ranges;
-use rules_state::role::TEXT;
-use rules_state::role::is_heading;
-use rules_state::role::opens_subentry;
+use rules_roles::ranging::Range;
+use rules_roles::ranging::Ranges;
+use rules_roles::roles::TEXT;
+use rules_roles::roles::is_heading;
+use rules_roles::roles::opens_subentry;
 use rules_state::state::Track;
 
 // What a record does to a part that a later rule may look back at.

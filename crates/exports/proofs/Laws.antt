@@ -18,10 +18,11 @@ use Rattle.number.proofs.Laws.{read-bounds-eleven, reads-exactly, says-exactly,
 use Rattle.columns.specs.declared.columns.RecordNo.{RecordNo}
 use Rattle.rules_state.specs.declared.state.Totals.{Totals}
 use Rattle.rules_state.proofs.EitherWay.{either-way}
-use Rattle.entry.specs.declared.answer.Answer.{Answer}
-use Rattle.entry.specs.declared.verdict.Verdict.{Verdict}
-use Rattle.entry.specs.Answer.{answerOf, answerFor}
-use Rattle.entry.specs.Verdict.{refused, accepted, judgeOf}
+use Rattle.entry_verdict.specs.declared.answer.Answer.{Answer}
+use Rattle.entry_verdict.specs.declared.verdict.Verdict.{Verdict}
+use Rattle.entry_verdict.specs.Answer.{answerOf, answerFor}
+use Rattle.entry_verdict.specs.Verdict.{refused, accepted}
+use Rattle.entry_judging.specs.Judging.{judgeOf}
 use Rattle.exports_words.specs.Words.{answerWord, answerIn, lentAfter}
 use Rattle.exports_words.specs.Values.{bit, twos, valueNumbers, readingAnswer, readingStored, readingIn}
 use Rattle.exports.specs.Verdicts.{verdictAnswer, totalsNumbers, verdictIn}

@@ -4,7 +4,7 @@ use Prim.Native.Nat.{ℕ, _<_, _≤_}
 use mathlib.Core.Path.{_≡_}
 use mathlib.Core.List.{List}
 use native.Mathlib.Omega.{arith}
-use Rattle.rules_state.specs.declared.fault.Fault.the-variants.{At}
+use Rattle.rules_roles.specs.declared.fault.Fault.the-variants.{At}
 use Rattle.rules_state.specs.declared.state.Track.{Track}
 use Rattle.rules_state.specs.State.{Seen}
 use Rattle.rules.specs.Order.{faultOf}

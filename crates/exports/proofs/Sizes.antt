@@ -13,19 +13,21 @@ use Rattle.laws.proofs.Blocks.{length-blocks}
 use Rattle.columns.specs.declared.columns.RecordNo.{RecordNo}
 use Rattle.columns.specs.Columns.{recordOf}
 use Rattle.columns.specs.Fields.{fieldsOf}
-use Rattle.rules_state.specs.declared.fault.Fault.{Fault}
-use Rattle.rules_state.specs.declared.fault.Fault.the-variants.{Fine, At}
+use Rattle.rules_roles.specs.declared.fault.Fault.{Fault}
+use Rattle.rules_roles.specs.declared.fault.Fault.the-variants.{Fine, At}
 use Rattle.rules_state.specs.declared.state.Totals.{Totals}
 use Rattle.rules_state.specs.declared.state.Track.{Track}
-use Rattle.rules_state.specs.State.{Context, startContext, MOST-RECORDS}
+use Rattle.rules_state.specs.State.{Context, startContext}
+use Rattle.rules_state.specs.Limits.{MOST-RECORDS}
 use Rattle.rules_state.specs.Ranging.{Bounded}
 use Rattle.rules.specs.Order.{faultOf}
 use Rattle.rules_state.proofs.EitherWay.{either-way}
 use Rattle.entry_next.specs.Next.{contextAfter}
-use Rattle.entry.specs.declared.verdict.Verdict.{Verdict}
-use Rattle.entry.specs.Verdict.{refused, accepted, roleOf, onFault, turnAs, turnOf, isDone, endOf, lengthGood, judgeOf}
+use Rattle.entry_verdict.specs.declared.verdict.Verdict.{Verdict}
+use Rattle.entry_verdict.specs.Verdict.{refused, accepted, isDone, lengthGood}
+use Rattle.entry_judging.specs.Judging.{roleOf, onFault, turnAs, turnOf, endOf, judgeOf}
 use Rattle.entry_counted.proofs.Counting.{Follows, track-follows}
-use Rattle.entry.proofs.Numbered.{whole-records}
+use Rattle.entry_step.proofs.Numbered.{whole-records}
 use Rattle.exports.proofs.NearFaults.{Near, near-fault}
 
 -- what a word can hold

@@ -4,7 +4,7 @@ use Prim.Native.Nat.{ℕ}
 use mathlib.Core.Path.{_≡_}
 use mathlib.Core.List.{List}
 use Rattle.number.specs.Reading.{readNumber}
-use Rattle.entry.specs.Verdict.{judgeOf}
+use Rattle.entry_judging.specs.Judging.{judgeOf}
 use Rattle.exports_words.specs.Words.{answerWord, lentAfter}
 use Rattle.exports_words.specs.Values.{readingAnswer, readingStored, readingIn}
 use Rattle.exports.specs.Verdicts.{verdictAnswer, totalsNumbers, verdictIn}

@@ -6,10 +6,10 @@ use Prim.Native.Nat.{ℕ}
 use lib.Dec.{eqb}
 use lib.ListN.{getD}
 use Rattle.rules_state.specs.declared.state.Totals.{Totals}
-use Rattle.entry.specs.declared.answer.Answer.{Answer}
-use Rattle.entry.specs.declared.verdict.Verdict.{Verdict}
-use Rattle.entry.specs.Answer.{answerOf}
-use Rattle.entry.specs.Verdict.{refused, accepted}
+use Rattle.entry_verdict.specs.declared.answer.Answer.{Answer}
+use Rattle.entry_verdict.specs.declared.verdict.Verdict.{Verdict}
+use Rattle.entry_verdict.specs.Answer.{answerOf}
+use Rattle.entry_verdict.specs.Verdict.{refused, accepted}
 use Rattle.exports_words.specs.Words.{answerIn}
 
 -- of a refused entry its refusal stands twice: as the call's number, and beside it as the entry's

@@ -1,11 +1,11 @@
 // Judging, for host programs.
 ghost use mathlib.Core.Path.{_≡_};
-ghost use Rattle.entry.specs.Verdict.{judgeOf};
+ghost use Rattle.entry_judging.specs.Judging.{judgeOf};
 ghost use Rattle.exports_words.specs.Words.{answerWord, lentAfter};
 ghost use Rattle.exports.specs.Verdicts.{verdictAnswer, totalsNumbers};
-use entry::answer::Answer;
-use entry::verdict::Verdict;
-use entry::verdict::judge;
+use entry::judge::judge;
+use entry_verdict::answer::Answer;
+use entry_verdict::verdict::Verdict;
 use exports_words::words::answer_word;
 
 // Stores the totals of an accepted entry, and returns the word.

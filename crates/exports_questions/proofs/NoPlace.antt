@@ -13,15 +13,17 @@ use Rattle.laws.proofs.Search.{first-same, pass-first}
 use Rattle.number.specs.Grammar.{blanks}
 use Rattle.columns.specs.declared.columns.RecordNo.{RecordNo}
 use Rattle.record_words.specs.Word.{filledAt, differAt, blankTo, equalTo}
-use Rattle.entry.specs.Verdict.{judgeOf}
-use Rattle.entry.specs.Answer.{refusal, firstOf}
+use Rattle.entry_judging.specs.Judging.{judgeOf}
+use Rattle.entry_verdict.specs.Answer.{refusal, firstOf}
 use Rattle.questions_places.specs.declared.passage.Passage.{Passage}
 use Rattle.questions_places.specs.Place.{firstByte}
 use Rattle.questions_places.specs.Passage.{passageOf, textAt, isKeyword, textRecords, NO-PASSAGE}
 use Rattle.questions_rows.specs.Row.{rowOf}
-use Rattle.questions.specs.Ask.{passageRefusal, passageBy, passageAsked, sectionRefusals, noPassage}
-use Rattle.questions.proofs.Parts.{part-number}
-use Rattle.exports_questions.specs.Questions.{keywordPlace}
+use Rattle.questions_refusals.specs.Refused.{passageRefusal, sectionRefusals, noPassage}
+use Rattle.questions_answers.specs.Answers.{passageBy}
+use Rattle.questions.specs.Ask.{passageAsked}
+use Rattle.questions_answers.proofs.Parts.{part-number}
+use Rattle.exports_parts.specs.Questions.{keywordPlace}
 use Rattle.exports_questions.specs.NoPlace.{NoPlace}
 
 -- blanks are no keyword

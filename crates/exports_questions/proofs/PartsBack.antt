@@ -8,21 +8,22 @@ use native.Mathlib.Omega.{arith}
 use lib.Dec.{eqb, leb}
 use lib.ListN.{length}
 use Rattle.record_words.specs.Word.{pointerOf}
-use Rattle.entry.specs.Verdict.{judgeOf}
-use Rattle.entry.specs.Answer.{refusal, firstOf, answerOf, answerFor}
-use Rattle.entry.specs.declared.answer.Answer.{Answer}
-use Rattle.questions.specs.declared.ask.PartAnswer.{PartAnswer}
+use Rattle.entry_judging.specs.Judging.{judgeOf}
+use Rattle.entry_verdict.specs.Answer.{refusal, firstOf, answerOf, answerFor}
+use Rattle.entry_verdict.specs.declared.answer.Answer.{Answer}
+use Rattle.questions_answers.specs.declared.answers.PartAnswer.{PartAnswer}
 use Rattle.questions_rows.specs.Row.{rowOf}
 use Rattle.questions_places.specs.Place.{shapeOf, headingPlace, unitPlace, fieldOf, firstByte, byteOf}
 use Rattle.questions_places.specs.Passage.{passageOf}
-use Rattle.questions.specs.Ask.{sectionIn, columnRefusal, headingBy, headingAsked, unitBy, unitAsked, passageRefusal}
-use Rattle.questions.specs.Ask.{passageBy, passageAsked, sectionRefusals, noColumn, noPassage}
-use Rattle.questions.specs.Ask.{noPart, partFrom, partWith}
+use Rattle.questions_refusals.specs.Refused.{sectionIn, columnRefusal, passageRefusal, sectionRefusals, noColumn}
+use Rattle.questions_refusals.specs.Refused.{noPassage}
+use Rattle.questions_answers.specs.Answers.{headingBy, unitBy, passageBy, noPart, partFrom, partWith}
+use Rattle.questions.specs.Ask.{headingAsked, unitAsked, passageAsked}
 use Rattle.exports_words.specs.Words.{answerWord, answerIn, lentAfter}
 use Rattle.exports_questions.specs.Claims.{HeadingBack, UnitBack, PassageBack}
-use Rattle.exports_questions.specs.Questions.{partStored, partIn}
+use Rattle.exports_parts.specs.Questions.{partStored, partIn}
 use Rattle.exports.proofs.Laws.{Fits, word-back, answer-fits}
-use Rattle.entry.proofs.Answers.{answer-number}
+use Rattle.entry_verdict.proofs.Answers.{answer-number}
 use Rattle.exports_questions.proofs.Refusals.{Numbered, one, section-numbered}
 
 -- ---- parts

@@ -7,10 +7,10 @@ use native.Mathlib.Omega.{arith}
 use Rattle.laws.specs.Walk.{All}
 use Rattle.columns.specs.declared.columns.RecordNo.{RecordNo}
 use Rattle.rules_state.proofs.EitherWay.{either-way}
-use Rattle.entry.specs.Verdict.{judgeOf}
-use Rattle.entry.specs.Answer.{Refusal, firstOf}
-use Rattle.questions_rows.specs.declared.row.Row.{Row}
-use Rattle.questions.specs.Ask.{sectionRefusals}
+use Rattle.entry_judging.specs.Judging.{judgeOf}
+use Rattle.entry_verdict.specs.Answer.{Refusal, firstOf}
+use Rattle.questions_noted.specs.declared.row.Row.{Row}
+use Rattle.questions_refusals.specs.Refused.{sectionRefusals}
 
 -- 0, or one from 31 on that has room
 pub record Numbered (n : ℕ) : Type 0 where

@@ -19,23 +19,24 @@ use Rattle.columns.specs.declared.columns.Place.{Place}
 use Rattle.columns.specs.Columns.{placeOf}
 use Rattle.columns.specs.Fields.{fieldAt, fieldsOf}
 use Rattle.columns.proofs.ReadColumns.{field-of}
-use Rattle.entry.specs.Verdict.{judgeOf}
-use Rattle.entry.specs.Answer.{refusal, firstOf, isRefused, answerOf, answerFor}
-use Rattle.entry.specs.declared.answer.Answer.{Answer}
-use Rattle.questions.specs.declared.ask.ValueAnswer.{ValueAnswer}
+use Rattle.entry_judging.specs.Judging.{judgeOf}
+use Rattle.entry_verdict.specs.Answer.{refusal, firstOf, isRefused, answerOf, answerFor}
+use Rattle.entry_verdict.specs.declared.answer.Answer.{Answer}
+use Rattle.questions_answers.specs.declared.answers.ValueAnswer.{ValueAnswer}
 use Rattle.questions_rows.specs.Row.{rowOf}
 use Rattle.questions_places.specs.Place.{hasRecord, fieldsAt, shapeOf, fieldOf}
-use Rattle.questions.specs.Ask.{sectionIn, valueRefusal, sectionRefusals, noColumn, noLine, valueWith, valueBy}
+use Rattle.questions_refusals.specs.Refused.{sectionIn, valueRefusal, sectionRefusals, noColumn, noLine}
+use Rattle.questions_answers.specs.Answers.{valueWith, valueBy}
 use Rattle.questions.specs.Ask.{valueAsked}
 use Rattle.questions_places.proofs.Records.{record-there}
-use Rattle.questions.proofs.Parts.{value-field}
+use Rattle.questions_answers.proofs.Parts.{value-field}
 use Rattle.copy.specs.Call.{copied}
 use Rattle.exports_words.specs.Words.{answerWord, answerIn, lentAfter}
 use Rattle.exports_words.specs.Values.{readingAnswer, readingStored}
 use Rattle.exports_questions.specs.Claims.{ValueBack, CopiedBack}
-use Rattle.exports_questions.specs.Questions.{valueAnswer, valueStored, valueAnswerIn}
+use Rattle.exports_parts.specs.Questions.{valueAnswer, valueStored, valueAnswerIn}
 use Rattle.exports.proofs.Laws.{Fits, word-back, answer-fits, held, held-back}
-use Rattle.entry.proofs.Answers.{answer-number}
+use Rattle.entry_verdict.proofs.Answers.{answer-number}
 use Rattle.exports_questions.proofs.Refusals.{Numbered, one, first-numbered, section-numbered}
 
 -- a field of an entry is that of a record, or blank

@@ -7,7 +7,7 @@ use Rattle.columns.specs.declared.columns.LineNo.{LineNo}
 use Rattle.questions.specs.Ask.{valueAsked, headingAsked, unitAsked, passageAsked}
 use Rattle.copy.specs.Call.{copied}
 use Rattle.exports_words.specs.Words.{answerWord, answerIn}
-use Rattle.exports_questions.specs.Questions.{valueAnswer, valueStored, valueAnswerIn, partStored, partIn}
+use Rattle.exports_parts.specs.Questions.{valueAnswer, valueStored, valueAnswerIn, partStored, partIn}
 
 abbrev pub ValueBack : Type 0
 ValueBack =

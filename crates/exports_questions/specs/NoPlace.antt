@@ -6,11 +6,12 @@ use mathlib.Core.Path.{_≡_}
 use mathlib.Core.Bool.{true}
 use mathlib.Core.List.{List, [], _∷_, _++_}
 use lib.ListN.{length}
-use Rattle.entry.specs.Verdict.{judgeOf}
-use Rattle.entry.specs.Answer.{refusal, firstOf}
+use Rattle.entry_judging.specs.Judging.{judgeOf}
+use Rattle.entry_verdict.specs.Answer.{refusal, firstOf}
 use Rattle.questions_rows.specs.Row.{rowOf}
-use Rattle.questions.specs.Ask.{passageAsked, sectionRefusals}
-use Rattle.exports_questions.specs.Questions.{keywordPlace}
+use Rattle.questions.specs.Ask.{passageAsked}
+use Rattle.questions_refusals.specs.Refused.{sectionRefusals}
+use Rattle.exports_parts.specs.Questions.{keywordPlace}
 
 -- it is no place, so no passage stands there: 36 where neither 31 nor 32 nor 33 is given, and no other number
 abbrev pub NoPlace : Type 0

@@ -2,29 +2,15 @@
 ghost use mathlib.Core.Path.{_≡_};
 ghost use Rattle.questions.specs.Ask.{valueAsked, headingAsked, unitAsked, passageAsked};
 ghost use Rattle.exports_words.specs.Words.{answerWord};
-ghost use Rattle.exports_questions.specs.Questions.{valueAnswer, valueStored, partStored, keywordPlace};
-use crate::parts::put_part;
+ghost use Rattle.exports_parts.specs.Questions.{valueAnswer, valueStored, partStored, keywordPlace};
 use columns::columns::LineNo;
-use exports_words::values::put_reading;
-use exports_words::words::answer_word;
-use questions::ask::ValueAnswer;
+use exports_parts::parts::keyword_place;
+use exports_parts::parts::put_part;
+use exports_parts::parts::put_value;
 use questions::ask::heading;
 use questions::ask::passage;
 use questions::ask::unit;
 use questions::ask::value;
-
-// Stores a value that is answered, and returns the word.
-fn put_value(v: ValueAnswer, out: &mut [u64; 8]) -> u64
-    ensures { λ r. ⌜ r ≡ answerWord (valueAnswer v) ⌝ }
-    ensures { λ r. ⌜ now (out .exit) ≡ valueStored (now (out .entry)) v ⌝ }
-{
-    let answer = v.answer;
-    let said = v.value;
-    if answer.number == 0 {
-        return put_reading(said, out);
-    }
-    answer_word(answer)
-}
 
 // The value in a line and a column of COMMON (section 1) or DATA (section 2) of a subentry.
 #[no_mangle]
@@ -79,27 +65,6 @@ pub extern "C" fn x4_unit(
 {
     let p = unit(entry, subentry, section, column);
     put_part(p, out)
-}
-
-// A keyword's ten bytes; blanks for any other slice.
-fn keyword_place(keyword: &[u8]) -> [u8; 10]
-    ensures { λ r. ⌜ r ≡ keywordPlace (now (keyword .entry)) ⌝ }
-{
-    if keyword.len() != 10 {
-        return [b' '; 10];
-    }
-    [
-        keyword[0],
-        keyword[1],
-        keyword[2],
-        keyword[3],
-        keyword[4],
-        keyword[5],
-        keyword[6],
-        keyword[7],
-        keyword[8],
-        keyword[9],
-    ]
 }
 
 // Where the passage with a keyword and a pointer stands.

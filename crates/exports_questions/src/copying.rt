@@ -4,7 +4,7 @@ ghost use lib.ListN.{length};
 ghost use Rattle.copy.specs.Call.{copied, storedCopy};
 ghost use Rattle.exports_words.specs.Words.{answerWord};
 use copy::copy::copy;
-use entry::answer::Answer;
+use entry_verdict::answer::Answer;
 use exports_words::words::answer_word;
 
 // Stores the copy of an entry in a buffer that may be longer: 0 done, else the word of refusal 31 or 37.

@@ -10,8 +10,8 @@ use Rattle.number.specs.declared.value.Decimal.{Decimal}
 use Rattle.number.specs.declared.value.Reading.{Reading}
 use Rattle.number.specs.declared.value.Reading.the-variants.{Blank, Number, Refused}
 use Rattle.number.specs.Value.{decimal}
-use Rattle.entry.specs.declared.answer.Answer.{Answer}
-use Rattle.entry.specs.Answer.{answerOf}
+use Rattle.entry_verdict.specs.declared.answer.Answer.{Answer}
+use Rattle.entry_verdict.specs.Answer.{answerOf}
 use Rattle.exports_words.specs.Words.{answerIn}
 
 abbrev pub bit : Bool → ℕ

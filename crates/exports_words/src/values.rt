@@ -3,7 +3,7 @@ ghost use mathlib.Core.Path.{_≡_};
 ghost use Rattle.exports_words.specs.Words.{answerWord};
 ghost use Rattle.exports_words.specs.Values.{bit, twos, valueNumbers, readingAnswer, readingStored};
 use crate::words::answer_word;
-use entry::answer::answer_of;
+use entry_verdict::answer::answer_of;
 use number::value::Decimal;
 use number::value::Reading;
 

@@ -13,22 +13,22 @@ use Rattle.laws.specs.Walk.{All}
 use Rattle.record.specs.Identifier.{SUBENT, NOSUBENT, ENDENTRY}
 use Rattle.rules_state.specs.declared.state.Phase.the-variants.{Between, Done}
 use Rattle.rules_state.specs.declared.state.Totals.{Totals}
-use Rattle.rules_state.specs.State.{Context, LAST-SUBENTRY}
-use Rattle.rules_state.specs.Role.{NOT-DUE, nextRole, roleIn, either as oneOf}
-use Rattle.entry.specs.Verdict.{roleOf, isDone}
+use Rattle.rules_state.specs.State.{Context}
+use Rattle.rules_state.specs.Limits.{LAST-SUBENTRY}
+use Rattle.rules_roles.specs.Roles.{NOT-DUE}
+use Rattle.rules_state.specs.Role.{nextRole, roleIn, either as oneOf}
+use Rattle.entry_judging.specs.Judging.{roleOf}
+use Rattle.entry_verdict.specs.Verdict.{isDone}
 use Rattle.good.specs.Parts.{Record, Subentry001, Subentry, nosubent, subent, bodyOf, laterRecords}
 use Rattle.good.specs.Parts.{subentriesRecords}
 use Rattle.good.specs.Marks.{nameOf}
 use Rattle.good.specs.Subentries.{ownNumber, GoodSubentry, subentryNumber, NumbersRise}
 use Rattle.good.specs.Good.{GoodEnding}
-use Rattle.good.specs.Totals.{sumOf, keywordsOfSubentry, linesOfSubentry}
-use Rattle.good.specs.Totals.{numbersOfSubentry}
+use Rattle.good.specs.Totals.{sumOf, keywordsOfSubentry, linesOfSubentry, numbersOfSubentry}
 use Rattle.good.proofs.Steps.{next, Passes, next-pass, pass-nothing, passes-as}
-use Rattle.good.proofs.Runs.{role-at, either-left, either-right, pass-either}
-use Rattle.good.proofs.Runs.{stepped, due, rest-of, Step}
+use Rattle.good.proofs.Runs.{role-at, either-left, either-right, pass-either, stepped, due, rest-of, Step}
 use Rattle.good.proofs.Openings.{takes-opens, opens-takes, later-number, number-later, after-opening}
-use Rattle.good.proofs.Openings.{takes-endentry, endentry-takes}
-use Rattle.good.proofs.Openings.{after-endentry}
+use Rattle.good.proofs.Openings.{takes-endentry, endentry-takes, after-endentry}
 use Rattle.good.proofs.LaterContexts.{FirstKnown, StandsBehind, afterLater}
 use Rattle.good.proofs.Later.{pass-later, later-stands, later-pass}
 

@@ -11,28 +11,26 @@ use Rattle.columns.specs.Fields.{fieldsOf, n1}
 use Rattle.record.specs.Identifier.{BIB, NOBIB, ENDBIB}
 use Rattle.rules_state.specs.declared.state.Phase.the-variants.{InSubentry, InBib, AfterBib}
 use Rattle.rules_state.specs.State.{Context}
-use Rattle.rules_state.specs.Role.{TEXT, only, roleIn, bibRole, either as oneOf}
+use Rattle.rules_roles.specs.Roles.{TEXT}
+use Rattle.rules_state.specs.Role.{only, roleIn, bibRole, either as oneOf}
 use Rattle.rules_every.specs.Every.{expectedIdentification, expectedSequence}
-use Rattle.rules_system.specs.System.{limitN1, limitN2, meets, trueCount, countN1, countN2}
+use Rattle.rules_counts.specs.Counts.{limitN1, limitN2, meets, trueCount, countN1, countN2}
 use Rattle.entry_next.specs.Next.{contextAfter}
 use Rattle.entry_next.specs.Due.{phaseAfter}
 use Rattle.entry_counted.specs.Counted.{trackAfter, afterSystem}
-use Rattle.entry_next.specs.Parts.{seenAfter, partAfter, bibChange}
-use Rattle.entry_next.specs.Parts.{underChange}
-use Rattle.entry.specs.Verdict.{roleOf}
+use Rattle.entry_next.specs.Parts.{seenAfter, partAfter, bibChange, underChange}
+use Rattle.entry_judging.specs.Judging.{roleOf}
 use Rattle.good.specs.Parts.{Record, Bib, Section, present, absent, textsOf, bibRecords}
 use Rattle.good.specs.Marks.{nameOf, CountIs}
 use Rattle.good.specs.Bib.{GoodBibPart, textsOfPart}
 use Rattle.good.specs.Totals.{keywordsIn}
 use Rattle.good.proofs.Steps.{Takes, next, takes-marked}
-use Rattle.good.proofs.Runs.{role-at}
-use Rattle.good.proofs.Runs.{afterRun}
+use Rattle.good.proofs.Runs.{role-at, afterRun}
 use Rattle.good.proofs.Moves.{Moved, moved-on, recount, quiet}
 use Rattle.good.proofs.TextContexts.{InText, after-texts}
 use Rattle.good.proofs.Texts.{Holding}
 use Rattle.good.proofs.Keywords.{bearing-keywords}
-use Rattle.good.proofs.Systems.{identificationIn, Here}
-use Rattle.good.proofs.Systems.{end-takes}
+use Rattle.good.proofs.Systems.{identificationIn, Here, end-takes}
 use Rattle.good.proofs.SystemRoles.{end-BIB}
 
 -- ---- the context behind it

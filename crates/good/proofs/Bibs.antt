@@ -15,16 +15,16 @@ use Rattle.record.specs.Plain.{SameColumns}
 use Rattle.record.proofs.PlainColumns.{equal-exactly}
 use Rattle.rules_state.specs.declared.state.Phase.the-variants.{InSubentry}
 use Rattle.rules_state.specs.State.{Context}
-use Rattle.rules_state.specs.Role.{TEXT}
-use Rattle.rules_system.specs.System.{trueCount, countN1, countN2}
-use Rattle.entry.specs.Verdict.{isDone}
+use Rattle.rules_roles.specs.Roles.{TEXT}
+use Rattle.rules_counts.specs.Counts.{trueCount, countN1, countN2}
+use Rattle.entry_verdict.specs.Verdict.{isDone}
 use Rattle.good.specs.Parts.{Record, Bib, Section, present, absent, textsOf, bibRecords}
 use Rattle.good.specs.Marks.{Marked, Following, nameOf}
 use Rattle.good.specs.Bib.{GoodBibPart, keywordPlaces}
 use Rattle.good.proofs.Repeats.{once-said, said-once}
 use Rattle.good.proofs.Steps.{Takes, next, Passes, next-pass}
-use Rattle.good.proofs.Runs.{only-role, either-left, either-right, pass-only, pass-either, rest-of}
-use Rattle.good.proofs.Runs.{Step, Run, afterRun}
+use Rattle.good.proofs.Runs.{only-role, either-left, either-right, pass-only, pass-either, rest-of, Step, Run}
+use Rattle.good.proofs.Runs.{afterRun}
 use Rattle.good.proofs.TextContexts.{Other, InText, AfterText, after-texts, pass-texts, texts-pass, texts-left}
 use Rattle.good.proofs.TextContexts.{bearing}
 use Rattle.good.proofs.Texts.{run-texts}

@@ -1,5 +1,5 @@
 -- The cells of a row: by record and field, and by column. Assumes nothing.
-use Prim.Native.Nat.{ℕ, suc, _+_, _-_, _*_, _/_, _%_, _<_, _≤_}
+use Prim.Native.Nat.{ℕ, _+_, _-_, _*_, _<_, _≤_}
 use mathlib.Core.Path.{_≡_, refl, ap}
 use mathlib.Core.Bool.{Bool, true, false, cond}
 use mathlib.Core.List.{List, [], _∷_, _++_}
@@ -12,8 +12,9 @@ use Rattle.columns.specs.Fields.{fieldAt, fieldsOf}
 use Rattle.columns.proofs.ReadColumns.{field-of}
 use Rattle.rules_state.specs.declared.state.Track.{Track}
 use Rattle.rules_state.specs.State.{used}
+use Rattle.rules_plain.specs.Places.{cell}
+use Rattle.rules_plain.proofs.Rows.{cell-here, cell-there}
 use Rattle.good.specs.Parts.{Record}
-use Rattle.good.specs.Tables.{cell}
 use Rattle.good.proofs.Rowwise.{RowFine}
 
 -- ---- a record's fields
@@ -58,20 +59,6 @@ few-past rest j = by-test (leb rest 6) refl
     by-test false e l m = let x = leb-false rest 6 e in omega arith
 
 -- ---- by column
-
-pub cell-here : (r : Record) (rs : List Record) (c : ℕ) → c < 6 → cell (r ∷ rs) c ≡ fieldAt r c
-unfolding cell
-cell-here r rs c l =
-    let a : c / 6 ≡ 0 = omega arith in
-    let b : c % 6 ≡ c = omega arith in
-    rw (a, b)
-
-pub cell-there : (r : Record) (rs : List Record) (c : ℕ) → 6 ≤ c → cell (r ∷ rs) c ≡ cell rs (c - 6)
-unfolding cell
-cell-there r rs c l =
-    let a : c / 6 ≡ suc ((c - 6) / 6) = omega arith in
-    let b : c % 6 ≡ (c - 6) % 6 = omega arith in
-    rw (a, b)
 
 -- the used fields of a record have one property, the unused ones another
 pub record Cells (Used Unused : List ℕ → Type 0) (rest : ℕ) (r : Record) : Type 0 where

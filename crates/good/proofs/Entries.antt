@@ -7,21 +7,18 @@ use native.Mathlib.Omega.{arith}
 use native.Mathlib.Nat.{zero-add}
 use lib.ListN.{length}
 use Rattle.record.specs.Identifier.{ENTRY}
-use Rattle.record.specs.Expected.{accessionOf}
+use Rattle.record_expected.specs.Expected.{accessionOf}
 use Rattle.rules_state.specs.declared.state.Phase.the-variants.{Start}
 use Rattle.rules_state.specs.State.{Context, startContext}
 use Rattle.rules_state.specs.Role.{only, roleIn}
-use Rattle.entry.specs.Verdict.{roleOf, isDone}
-use Rattle.good.specs.Parts.{Record, Entry, firstRecords}
-use Rattle.good.specs.Parts.{subentriesRecords, recordsOf}
+use Rattle.entry_judging.specs.Judging.{roleOf}
+use Rattle.entry_verdict.specs.Verdict.{isDone}
+use Rattle.good.specs.Parts.{Record, Entry, firstRecords, subentriesRecords, recordsOf}
 use Rattle.good.specs.Marks.{nameOf}
-use Rattle.good.specs.Good.{GoodEntry}
-use Rattle.good.specs.Totals.{keywordsIn, numbersOf}
-use Rattle.good.specs.Good.{subentriesOf}
-use Rattle.good.specs.Totals.{keywordsOf, linesOf, numbersOfEntry}
+use Rattle.good.specs.Good.{GoodEntry, subentriesOf}
+use Rattle.good.specs.Totals.{keywordsIn, numbersOf, keywordsOf, linesOf, numbersOfEntry}
 use Rattle.good.proofs.Steps.{next, Passes, next-pass}
-use Rattle.good.proofs.Runs.{role-at, only-role, pass-only}
-use Rattle.good.proofs.Runs.{rest-of}
+use Rattle.good.proofs.Runs.{role-at, only-role, pass-only, rest-of}
 use Rattle.good.proofs.Openings.{takes-entry, entry-takes, after-entry}
 use Rattle.good.proofs.FirstSubentry.{Ready, afterFirst, pass-first, first-stands, first-pass-on}
 use Rattle.good.proofs.LaterContexts.{first-known}

@@ -12,7 +12,8 @@ use Rattle.record.specs.Identifier.{SUBENT, ENDSUBENT}
 use Rattle.rules_state.specs.declared.state.Phase.the-variants.{Opened}
 use Rattle.rules_state.specs.State.{Context}
 use Rattle.rules_state.specs.Role.{only, roleIn}
-use Rattle.entry.specs.Verdict.{roleOf, isDone}
+use Rattle.entry_judging.specs.Judging.{roleOf}
+use Rattle.entry_verdict.specs.Verdict.{isDone}
 use Rattle.good.specs.Parts.{Record, bibRecords, tableRecords, Subentry001, bodyOfFirst, firstRecords}
 use Rattle.good.specs.Marks.{nameOf}
 use Rattle.good.specs.Bib.{textsOfPart}
@@ -27,8 +28,8 @@ use Rattle.good.proofs.TableWalked.{headingRows}
 use Rattle.good.proofs.Openings.{takes-opens, opens-takes, first-number, number-first, after-opening}
 use Rattle.good.proofs.Openings.{after-endsubent}
 use Rattle.good.proofs.Subentries.{none-shown, end-due-first, Standing, encloses-of, of-encloses}
-use Rattle.good.proofs.SubentryHeads.{Begun, afterHead, Head, PassedHead, pass-head, HeadGood, good-head}
-use Rattle.good.proofs.SubentryHeads.{head-pass}
+use Rattle.good.proofs.SubentryHeads.{Begun, begun-by, afterHead, Head, PassedHead, pass-head, HeadGood}
+use Rattle.good.proofs.SubentryHeads.{good-head, head-pass}
 
 unfoldable pub afterFirst : Context → Subentry001 → Context
 afterFirst c s = next (afterHead (next c SUBENT (s .opening)) (s .bib) (s .common)) ENDSUBENT (s .ending)
@@ -51,18 +52,7 @@ StandsFirst c accession s =
 begun-first : (c : Context) (accession : List ℕ) (r : Record) → Ready c accession
     → Begun (next c SUBENT r) accession (ownNumber r) []
 unfolding joined
-begun-first c accession r g =
-    let o = after-opening false c r in
-    record {
-      phase = o .phase;
-      accession-is = o .accession ∙ g .accession-is;
-      number-is = o .number;
-      records = o .records;
-      bib = o .bib;
-      common = o .common;
-      common001 = o .common001 ∙ g .common001;
-      long = tt;
-    }
+begun-first c accession r g = begun-by c accession [] r (g .accession-is) (g .common001) tt
 
 stands-first : (c : Context) (accession : List ℕ) (s : Subentry001) → Ready c accession → ownNumber (s .opening) ≡ 1
     → Head (next c SUBENT (s .opening)) (s .bib) (s .common) → StandsFirst (afterFirst c s) accession s
@@ -155,7 +145,7 @@ pass-first c rs z accession g done p =
           passes = w .passes;
         }
 
-first-head : (c : Context) (accession : List ℕ) (s : Subentry001) → Ready c accession → GoodFirst accession s
+pub first-head : (c : Context) (accession : List ℕ) (s : Subentry001) → Ready c accession → GoodFirst accession s
     → HeadGood (next c SUBENT (s .opening)) accession (ownNumber (s .opening)) [] 0 (s .bib) (s .common) []
 unfolding listOf
 first-head c accession s g f =

@@ -19,19 +19,19 @@ use Rattle.columns.specs.Text.{isBlank}
 use Rattle.record_words.specs.Word.{isWord, blankTo, pointerOf, pointerFault, headingFault}
 use Rattle.record.proofs.PlainColumns.{blank-exactly, word-exactly, pointer-exactly}
 use Rattle.rules_state.specs.State.{Context, used}
-use Rattle.rules_state.specs.Role.{DATA-HEADING, NOT-DUE, isHeading}
-use Rattle.rules_state.specs.Fault.{fieldColumn, pointerColumn}
-use Rattle.rules_section.specs.Headings.{rule11Heading, rule12Heading, headingRepeated, rule13, pointersFor}
-use Rattle.rules_section.specs.Headings.{pointerLost, lostAt, rule14}
+use Rattle.rules_roles.specs.Roles.{DATA-HEADING, NOT-DUE, isHeading}
+use Rattle.rules_roles.specs.Fault.{fieldColumn, pointerColumn}
+use Rattle.rules_section.specs.Headings.{rule11Heading, rule12Heading, headingRepeated, rule13}
+use Rattle.rules_pointers.specs.Pointers.{pointersFor, pointerLost, lostAt, rule14}
 use Rattle.rules.proofs.NoColumns.{where-none, none-where}
 use Rattle.rules.proofs.ByKind.{clean-heading}
+use Rattle.rules_plain.specs.Places.{Long}
 use Rattle.good.specs.Parts.{Record}
 use Rattle.good.specs.Marks.{Following}
 use Rattle.good.specs.Tables.{Heading, BlankCell}
-use Rattle.good.specs.Subentries.{Occurs}
+use Rattle.good.proofs.Pointers.{FoundIn}
 use Rattle.good.proofs.Steps.{Takes, next, MarkedFor, marked-every}
 use Rattle.good.proofs.Runs.{Run, afterRun}
-use Rattle.good.proofs.Lists.{Long}
 use Rattle.good.proofs.Systems.{identificationIn}
 use Rattle.good.proofs.RowPlaces.{RowAt, NoEnd}
 use Rattle.good.proofs.Rows.{headings, roleFor, row-step}
@@ -62,7 +62,7 @@ pub record HeadingsFine (d : Bool) (first common : List Record) (pointers : List
     (r : Record) : Type 0 where
   pub cells : Cells Heading BlankCell rest r
   pub new : (j : ℕ) → j < 6 → j < rest → New first common before r j (fieldAt r j)
-  pub found : d ≡ true → (j : ℕ) → j < 6 → j < rest → Occurs pointers (fieldAt r j)
+  pub found : d ≡ true → (j : ℕ) → j < 6 → j < rest → FoundIn pointers (fieldAt r j)
 
 pub record HeadingsKnown (first common : List Record) (pointers : List ℕ) (c : Context)
     (before : List Record) : Type 0 where
@@ -74,10 +74,10 @@ pub record HeadingsKnown (first common : List Record) (pointers : List ℕ) (c :
   pub long-before : All Long before
   pub named : pointersFor (c .seen .bib) (c .seen .bib001) (c .seen .common) (c .seen .common001) ≡ pointers
 
-not-lost : (pointers : List ℕ) (f : List ℕ) → pointerLost pointers f ≡ false → Occurs pointers f
+not-lost : (pointers : List ℕ) (f : List ℕ) → pointerLost pointers f ≡ false → FoundIn pointers f
 not-lost pointers f h e = not-false (anyOf (eqb (pointerOf f)) pointers) (rw e at h)
 
-lost-not : (pointers : List ℕ) (f : List ℕ) → Occurs pointers f → pointerLost pointers f ≡ false
+lost-not : (pointers : List ℕ) (f : List ℕ) → FoundIn pointers f → pointerLost pointers f ≡ false
 lost-not pointers f h = by-test (isBlank (pointerOf f)) refl
   where
     by-test : (b : Bool) → isBlank (pointerOf f) ≡ b → (not b && not (anyOf (eqb (pointerOf f)) pointers)) ≡ false

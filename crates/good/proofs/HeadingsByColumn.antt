@@ -12,16 +12,18 @@ use Rattle.columns.specs.Columns.{recordsFor}
 use Rattle.columns.specs.Fields.{fieldAt}
 use Rattle.record_words.specs.Word.{equalTo}
 use Rattle.rules_state.specs.State.{Context}
+use Rattle.rules_plain.specs.Places.{cell}
+use Rattle.rules_plain.proofs.Rows.{cell-here, cell-there}
 use Rattle.good.specs.Parts.{Record}
 use Rattle.good.specs.Marks.{Following}
-use Rattle.good.specs.Tables.{cell, Heading, BlankCell, GoodHeadings}
-use Rattle.good.specs.Subentries.{Occurs}
+use Rattle.good.specs.Tables.{Heading, BlankCell, GoodHeadings}
+use Rattle.good.proofs.Pointers.{FoundIn}
 use Rattle.good.proofs.Runs.{Run}
 use Rattle.good.proofs.Systems.{identificationIn}
 use Rattle.good.proofs.RowPlaces.{RowAt, NoEnd}
 use Rattle.good.proofs.Rows.{headings, roleFor}
 use Rattle.good.proofs.Rowwise.{RowFine}
-use Rattle.good.proofs.Cells.{cell-here, cell-there, fine-used, fine-unused, cells-here, used-there}
+use Rattle.good.proofs.Cells.{fine-used, fine-unused, cells-here, used-there}
 use Rattle.good.proofs.Cells.{unused-there}
 use Rattle.good.proofs.Units.{noCount}
 use Rattle.good.proofs.Earlier.{New}
@@ -144,7 +146,7 @@ module _ (d : Bool) (first common : List Record) (pointers : List ℕ) where
 
   row-pointers-occur : (rest : ℕ) (before : List Record) (m : ℕ) (rs : List Record)
       → RowFine (RowOf d first common pointers) noCount rest before m rs → d ≡ true
-      → (c : ℕ) → c < length rs * 6 → c < rest → Occurs pointers (cell rs c)
+      → (c : ℕ) → c < length rs * 6 → c < rest → FoundIn pointers (cell rs c)
   unfolding RowFine
   row-pointers-occur rest before m [] h t c l u = absurd (omega arith)
   row-pointers-occur rest before m (r ∷ rs) h t c l u =
@@ -157,7 +159,7 @@ module _ (d : Bool) (first common : List Record) (pointers : List ℕ) where
       → ((c : ℕ) → c < length rs * 6 → c < rest → Heading (cell rs c))
       → ((c : ℕ) → rest ≤ c → c < length rs * 6 → BlankCell (cell rs c))
       → ((c : ℕ) → c < length rs * 6 → c < rest → NewIn first common before rs c)
-      → (d ≡ true → (c : ℕ) → c < length rs * 6 → c < rest → Occurs pointers (cell rs c))
+      → (d ≡ true → (c : ℕ) → c < length rs * 6 → c < rest → FoundIn pointers (cell rs c))
       → RowFine (RowOf d first common pointers) noCount rest before m rs
   unfolding RowFine
   headings-row-fine rest before m [] u v w o = tt
@@ -170,14 +172,14 @@ module _ (d : Bool) (first common : List Record) (pointers : List ℕ) where
     headings-row-fine (rest - 6) (before ++ (r ∷ [])) (m + 0) rs (used-there Heading rest r rs u)
         (unused-there BlankCell rest r rs v)
         (λ c l a. there-new first common before r rs c (w (c + 6) (omega arith) (omega arith)))
-        (λ t. used-there (Occurs pointers) rest r rs (o t)),
+        (λ t. used-there (FoundIn pointers) rest r rs (o t)),
   )
 
   pub headings-good : (n last line : ℕ) (c : Context) (rs : List Record) → RowAt c d headings n last line n → 1 ≤ n
       → HeadingsKnown first common pointers c [] → length rs ≡ recordsFor n
       → Run NoEnd (roleFor headings d) c rs
       ↔ (Following (identificationIn c) (c .track .subentry .records + 2) rs × GoodHeadings n rs
-      × ((x : ℕ) → x < n → NewIn first common [] rs x) × (d ≡ true → (x : ℕ) → x < n → Occurs pointers (cell rs x)))
+      × ((x : ℕ) → x < n → NewIn first common [] rs x) × (d ≡ true → (x : ℕ) → x < n → FoundIn pointers (cell rs x)))
   headings-good n last line c rs a p k l =
       let w =
       run-headings d first common pointers n last line n c (identificationIn c)

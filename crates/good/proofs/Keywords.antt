@@ -15,20 +15,18 @@ use Rattle.laws.specs.Members.{anyOf}
 use Rattle.laws.proofs.Members.{any-append}
 use Rattle.columns.specs.Text.{isBlank}
 use Rattle.record_words.specs.Word.{blankTo, equalTo, isWord, pointerOf}
-use Rattle.record.specs.Plain.{BlankColumns}
+use Rattle.rules_plain.specs.Places.{bibPlace, pointersIn}
 use Rattle.good.specs.Parts.{Record, Keyword, textsOf}
 use Rattle.good.specs.Marks.{Following}
-use Rattle.good.specs.Bib.{bibPlace, Text, SamePointer, pointersIn, GoodKeyword, keywordPlaces}
+use Rattle.rules_plain.specs.Texts.{NoKeyword, SamePointer}
+use Rattle.good.specs.Bib.{Text, GoodKeyword, keywordPlaces}
 use Rattle.record_words.proofs.WordsAndBlanks.{word-blank, word-differs}
 use Rattle.record.proofs.PlainColumns.{and-both, blank-exactly, word-exactly, pointer-exactly}
 use Rattle.good.proofs.Repeats.{OnceBy, once-said, said-once}
 use Rattle.good.proofs.TextContexts.{bearing}
 use Rattle.good.proofs.Texts.{TextFine, TextsFine, underAfter}
 
-abbrev BlankPlace : Record → Type 0
-BlankPlace r = BlankColumns 10 (bibPlace r)
-
-place-computed : (r : Record) → BlankPlace r → blankTo 10 (bibPlace r) ≡ true
+place-computed : (r : Record) → NoKeyword r → blankTo 10 (bibPlace r) ≡ true
 place-computed r b = blank-exactly 10 (bibPlace r) .1 b
 
 abbrev samePointer : ℕ → ℕ → Bool
@@ -53,7 +51,7 @@ any-one : (f : List ℕ) (xs : List (List ℕ)) (g : List ℕ)
 unfolding anyOf
 any-one f xs g = any-append (equalTo 10 f) xs (g ∷ [])
 
-place-blank : (before : List Record) (places : List (List ℕ)) (r : Record) → BlankPlace r → Places before places
+place-blank : (before : List Record) (places : List (List ℕ)) (r : Record) → NoKeyword r → Places before places
     → Places (before ++ (r ∷ [])) places
 place-blank before places r e p =
     record {
@@ -77,9 +75,9 @@ place-word before places r p =
 -- ---- from records to keywords
 
 -- The walk goes forward, and what stands under a keyword is known only when the next one comes. So the records behind
--- any
--- record are grouped first: those still under the keyword in hand, then keywords with theirs. A record with a keyword
--- opens a group with what was grouped behind it; any other joins the front of the records still under the one before.
+-- any record are grouped first: those still under the keyword in hand, then keywords with theirs. A record with a
+-- keyword opens a group with what was grouped behind it; any other joins the front of the records still under the one
+-- before.
 
 pub record Keywords (places : List (List ℕ)) (texts : List Record) : Type 0 where
   pub keywords : List Keyword
@@ -92,7 +90,7 @@ record Grouped (under : List Record) (places : List (List ℕ)) (texts : List Re
   more : List Record
   rest : List Record
   split : texts ≡ more ++ rest
-  blank : All BlankPlace more
+  blank : All NoKeyword more
   fine : All Text more
   pointers : OnceBy samePointer (pointersIn under) (pointersIn more)
   behind : Keywords places rest
@@ -202,7 +200,7 @@ fine-following identification n before under (r ∷ rs) h =
 -- ---- from keywords to records
 
 more-fine : (identification : List ℕ) (n : ℕ) (before under : List Record) (places : List (List ℕ))
-    (more rest : List Record) → 1 ≤ length before → Places before places → All BlankPlace more → All Text more
+    (more rest : List Record) → 1 ≤ length before → Places before places → All NoKeyword more → All Text more
     → OnceBy samePointer (pointersIn under) (pointersIn more) → Following identification n (more ++ rest)
     → ((n : ℕ) (before under : List Record) → 1 ≤ length before → Places before places → Following identification n rest
     → TextsFine identification n before under rest)
@@ -258,7 +256,7 @@ keywords-fine identification n before under places (k ∷ ks) p each once m =
 
 -- ---- how many keywords
 
-bearing-append : (xs ys : List Record) → All BlankPlace xs → bearing (xs ++ ys) ≡ bearing ys
+bearing-append : (xs ys : List Record) → All NoKeyword xs → bearing (xs ++ ys) ≡ bearing ys
 unfolding bearing
 bearing-append [] ys b = refl
 bearing-append (x ∷ xs) ys b = rw (place-computed x (b .0)) (let e = bearing-append xs ys (b .1) in omega arith)

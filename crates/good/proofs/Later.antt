@@ -10,21 +10,23 @@ use Rattle.laws.proofs.Listing.{all-left, all-places, all-right, places-all}
 use Rattle.laws.specs.Walk.{All}
 use Rattle.record_words.specs.Word.{pointerOf}
 use Rattle.record.specs.Identifier.{SUBENT, ENDSUBENT}
-use Rattle.record.specs.Expected.{identificationFor}
-use Rattle.rules_state.specs.State.{Context, LAST-SUBENTRY}
-use Rattle.entry.specs.Verdict.{roleOf, isDone}
+use Rattle.record_expected.specs.Expected.{identificationFor}
+use Rattle.rules_state.specs.State.{Context}
+use Rattle.rules_state.specs.Limits.{LAST-SUBENTRY}
+use Rattle.entry_judging.specs.Judging.{roleOf}
+use Rattle.entry_verdict.specs.Verdict.{isDone}
+use Rattle.rules_plain.specs.Places.{cell, Long}
 use Rattle.good.specs.Parts.{Record, bibRecords, tableRecords, Subentry001, Later, subent, bodyOf, laterRecords}
 use Rattle.good.specs.Marks.{Following, nameOf}
 use Rattle.good.specs.Bib.{textsOfPart}
-use Rattle.good.specs.Tables.{cell}
 use Rattle.good.specs.Subentries.{ownNumber, pointersKnown, Occurs, GoodLater}
 use Rattle.good.specs.Totals.{keywordsIn, linesIn, numbersOf}
 use Rattle.good.proofs.Steps.{next, Passes, next-pass}
 use Rattle.good.proofs.Runs.{only-role, pass-only, rest-of, Step}
 use Rattle.good.proofs.Moves.{Moved, moved-on, recount}
-use Rattle.good.proofs.Lists.{Long}
 use Rattle.good.proofs.Marks.{following-append, following-right, following-as, following-long}
 use Rattle.good.proofs.Systems.{identificationIn}
+use Rattle.good.proofs.Pointers.{occurs-found, found-occurs}
 use Rattle.good.proofs.TableWalked.{headingRows, columnsIn, afterTable, BehindTable}
 use Rattle.good.proofs.TablesPassed.{pass-table}
 use Rattle.good.proofs.TablesGood.{GoodHere, table-behind, table-pass, grouped-rows}
@@ -156,11 +158,13 @@ pass-later c accession first number m k l n r ts z g f one some done s =
             (h .once) (t .new);
         pointers = rw (part-headings (t .part))
             (all-places (Occurs (pointersKnown first sub)) (cell (headingRows (t .part))) 0 (columnsIn (t .part))
-            (λ x d u p.
+            (λ x d u.
+            found-occurs (pointersKnown first sub) (cell (headingRows (t .part)) x)
+            (λ p.
             sym (occurs-same first (h .bib) (h .common) long-texts (f .long-texts) long-rows (f .long-rows)
             (part-shown false (h .common) (h .good-common)) (part-shown false (first .common) (f .good .common))
             (pointerOf (cell (headingRows (t .part)) x)) p)
-            ∙ t .found refl x (omega arith) p));
+            ∙ t .found refl x (omega arith) p)));
         encloses = encloses-of c1 c4 accession r e (bodyOf sub) (keywordsIn (h .bib)) (linesIn (t .part))
             (numbersOf (h .common) + numbersOf (t .part)) (b .accession-is) (b .number-is) (b .records)
             (body-moved c sub (h .head) (t .behind))
@@ -174,7 +178,7 @@ pass-later c accession first number m k l n r ts z g f one some done s =
 
 -- ---- from the subentry to the walk
 
-later-head : (c : Context) (accession : List ℕ) (first : Subentry001) (number m k l n : ℕ) (s : Later)
+pub later-head : (c : Context) (accession : List ℕ) (first : Subentry001) (number m k l n : ℕ) (s : Later)
     → StandsBehind c accession first number m k l n → FirstKnown accession first → GoodLater accession first s
     → HeadGood (next c SUBENT (s .opening)) accession (ownNumber (s .opening)) (headingRows (first .common))
     (columnsIn (first .common)) (s .bib) (s .common) (tableRecords (s .values))
@@ -223,8 +227,9 @@ values-here c accession first number m k l n s g f p =
           occurs-same first (s .bib) (s .common) (long .texts) (f .long-texts) (long .rows) (f .long-rows)
           (part-shown false (s .common) (p .common)) (part-shown false (first .common) (f .good .common))
           (pointerOf (cell (headingRows (s .values)) x)) q
-          ∙ places-all (Occurs (pointersKnown first s)) (cell (headingRows (s .values))) 0 (columnsIn (s .values))
-          (rw (part-headings (s .values)) at (p .pointers)) x (omega arith) (omega arith) q;
+          ∙ occurs-found (pointersKnown first s) (cell (headingRows (s .values)) x)
+          (places-all (Occurs (pointersKnown first s)) (cell (headingRows (s .values))) 0 (columnsIn (s .values))
+          (rw (part-headings (s .values)) at (p .pointers)) x (omega arith) (omega arith)) q;
       follows = following-values c accession s (headingRows (first .common))
           (begun-later c accession first number m k l n (s .opening) g (f .long-rows))
           (headed c accession first number m k l n s g f p) (p .encloses .between);

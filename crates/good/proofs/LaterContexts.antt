@@ -14,17 +14,17 @@ use Rattle.laws.specs.Members.{anyOf}
 use Rattle.columns.specs.Text.{isBlank}
 use Rattle.record_words.specs.Word.{equalTo}
 use Rattle.record.specs.Identifier.{SUBENT, ENDSUBENT}
-use Rattle.record.specs.Expected.{identificationFor}
+use Rattle.record_expected.specs.Expected.{identificationFor}
 use Rattle.rules_state.specs.State.{Context}
-use Rattle.rules_section.specs.Headings.{pointersFor as pointersSeen}
+use Rattle.rules_pointers.specs.Pointers.{pointersFor as pointersSeen}
+use Rattle.rules_plain.specs.Places.{pointersIn, pointersOn, Long}
 use Rattle.good.specs.Parts.{Record, Bib, Table, Section, bibRecords, tableRecords, Subentry001, Later}
 use Rattle.good.specs.Parts.{bodyOfFirst}
-use Rattle.good.specs.Bib.{textsOfPart, pointersIn}
+use Rattle.good.specs.Bib.{textsOfPart}
 use Rattle.good.specs.Tables.{headingsOfPart}
-use Rattle.good.specs.Subentries.{ownNumber, NoneTwice, pointersOn, GoodFirst}
+use Rattle.good.specs.Subentries.{ownNumber, NoneTwice, GoodFirst}
 use Rattle.good.specs.Totals.{keywordsIn, linesIn, numbersOf}
 use Rattle.good.proofs.Steps.{next}
-use Rattle.good.proofs.Lists.{Long}
 use Rattle.good.proofs.Repeats.{twice-said, said-twice, once-append, once-left, once-right}
 use Rattle.good.proofs.Marks.{following-long}
 use Rattle.good.proofs.HeadingsByColumn.{NewIn}
@@ -34,7 +34,7 @@ use Rattle.good.proofs.TableWalked.{headingRows, columnsIn, afterTable,
 use Rattle.good.proofs.Together.{Shown, shown, new-once, once-new, pointers-same}
 use Rattle.good.proofs.Openings.{after-opening, after-endsubent}
 use Rattle.good.proofs.Subentries.{texts-long, rows-long, part-shown, part-words, part-headings, Standing}
-use Rattle.good.proofs.SubentryHeads.{Begun, afterHead, Head, Behind}
+use Rattle.good.proofs.SubentryHeads.{Begun, begun-by, afterHead, Head, Behind}
 
 pub record FirstKnown (accession : List ℕ) (first : Subentry001) : Type 0 where
   pub good : GoodFirst accession first
@@ -66,17 +66,7 @@ pub begun-later : (c : Context) (accession : List ℕ) (first : Subentry001) (nu
     → StandsBehind c accession first number m k l n → All Long (headingRows (first .common))
     → Begun (next c SUBENT r) accession (ownNumber r) (headingRows (first .common))
 begun-later c accession first number m k l n r g long =
-    let o = after-opening false c r in
-    record {
-      phase = o .phase;
-      accession-is = o .accession ∙ g .accession-is;
-      number-is = o .number;
-      records = o .records;
-      bib = o .bib;
-      common = o .common;
-      common001 = o .common001 ∙ g .common001;
-      long = long;
-    }
+    begun-by c accession (headingRows (first .common)) r (g .accession-is) (g .common001) long
 
 -- Behind a later subentry the judge stands as it stood before it: of 001 it still has the BIB and the heading records,
 -- since ENDSUBENT keeps these only where the number is 1, and each total has grown by what the subentry counts.

@@ -1,7 +1,6 @@
 pub mod Steps
 pub mod Runs
 pub mod Moves
-pub mod Lists
 pub mod Repeats
 pub mod Marks
 pub mod TextContexts
@@ -15,6 +14,7 @@ pub mod Rows
 pub mod RowPlaces
 pub mod Rowwise
 pub mod Cells
+pub mod Pointers
 pub mod Units
 pub mod Values
 pub mod ValuesByColumn

@@ -10,8 +10,9 @@ use Rattle.laws.proofs.Booleans.{differ}
 use Rattle.laws.proofs.Counting.{none-many}
 use Rattle.laws.proofs.Search.{either}
 use Rattle.record.proofs.PlainValues.{number-exactly}
+use Rattle.rules_plain.specs.Places.{cell}
 use Rattle.good.specs.Parts.{Record}
-use Rattle.good.specs.Tables.{cell, isNumber, numbersInLine, HasNumber}
+use Rattle.good.specs.Tables.{isNumber, numbersInLine, HasNumber}
 
 -- a place that meets a test
 record Some (t : ℕ → Bool) (n : ℕ) : Type 0 where

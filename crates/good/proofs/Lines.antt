@@ -9,8 +9,9 @@ use lib.ListN.{length, length-append}
 use Rattle.laws.specs.Walk.{All}
 use Rattle.columns.specs.Columns.{recordsFor}
 use Rattle.rules_state.specs.State.{Context}
-use Rattle.entry.specs.Verdict.{isDone}
-use Rattle.good.specs.Parts.{Record, concat}
+use Rattle.entry_verdict.specs.Verdict.{isDone}
+use Rattle.rules_plain.specs.Places.{concat}
+use Rattle.good.specs.Parts.{Record}
 use Rattle.good.specs.Marks.{Following}
 use Rattle.good.specs.Tables.{GoodValues, numbersInLine}
 use Rattle.good.specs.Totals.{numbersOfLines}

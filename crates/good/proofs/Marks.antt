@@ -12,10 +12,10 @@ use Rattle.record.specs.System.{countOf, isCount, numberOf}
 use Rattle.record.specs.declared.system.Count.{Count}
 use Rattle.record.specs.declared.system.Count.the-variants.{Number, Bad}
 use Rattle.record.proofs.PlainDigits.{count-exactly}
-use Rattle.rules_system.specs.System.{countN1, countN2}
+use Rattle.rules_counts.specs.Counts.{countN1, countN2}
+use Rattle.rules_plain.specs.Places.{Long}
 use Rattle.good.specs.Parts.{Record}
 use Rattle.good.specs.Marks.{Following, CountIs}
-use Rattle.good.proofs.Lists.{Long}
 
 -- ---- counts
 

@@ -12,14 +12,16 @@ use Rattle.record_words.specs.Word.{equalTo}
 use Rattle.record.specs.Identifier.{ENTRY, SUBENT, NOSUBENT, ENDSUBENT, ENDENTRY}
 use Rattle.record.proofs.NameTable.{end-letters}
 use Rattle.record.specs.System.{isSubentN1, isDate}
-use Rattle.record.specs.Expected.{accessionOf, identificationFor, subentAccession, subentIdentification}
-use Rattle.record.proofs.PlainColumns.{equal-exactly}
+use Rattle.record_expected.specs.Expected.{accessionOf, identificationFor, subentAccession, subentIdentification}
+use Rattle.record.proofs.PlainColumns.{and-both, equal-exactly}
 use Rattle.record.proofs.PlainDigits.{date-exactly, entry-exactly, subent-exactly}
 use Rattle.rules_state.specs.declared.state.Phase.{Phase}
 use Rattle.rules_state.specs.declared.state.Phase.the-variants.{Opened, InSubentry, Between, Done}
-use Rattle.rules_state.specs.State.{Context, LAST-SUBENTRY, startContext}
+use Rattle.rules_state.specs.State.{Context, startContext}
+use Rattle.rules_state.specs.Limits.{LAST-SUBENTRY}
 use Rattle.rules_every.specs.Every.{expectedIdentification, expectedSequence}
-use Rattle.rules_system.specs.System.{formN1, formN2, inForm, rule8, numberDue, rule9, trueCount}
+use Rattle.rules_system.specs.System.{formN1, formN2, inForm, numberDue, rule9}
+use Rattle.rules_counts.specs.Counts.{rule8, trueCount}
 use Rattle.entry_next.specs.Next.{contextAfter}
 use Rattle.entry_next.specs.Due.{phaseAfter}
 use Rattle.entry_counted.specs.Counted.{trackAfter, afterSystem}
@@ -97,9 +99,6 @@ opens-takes b c r accession e o n =
     (date-exactly (n2 (fieldsOf r)) .1 (o .dated))
     (and-both (ap (equalTo 5 (subentAccession (n1 (fieldsOf r)))) e
     ∙ equal-exactly 5 (subentAccession (n1 (fieldsOf r))) accession .1 (o .same)) n)
-  where
-    and-both : {a b : Bool} → a ≡ true → b ≡ true → (a && b) ≡ true
-    and-both p q = rw (p, q)
 
 -- the first number is 1; a later one is above the one before, and at most 998
 pub first-number : (c : Context) (n : ℕ) → c .track .totals .subentries ≡ 0 → numberDue (c .track) n ≡ true → n ≡ 1

@@ -14,9 +14,10 @@ use Rattle.columns.specs.declared.columns.LineNo.{LineNo}
 use Rattle.rules_state.specs.declared.state.Phase.the-variants.{InCommon, InData}
 use Rattle.rules_state.specs.declared.state.Table.{Table}
 use Rattle.rules_state.specs.State.{Context}
-use Rattle.rules_state.specs.Role.{NOT-DUE}
+use Rattle.rules_roles.specs.Roles.{NOT-DUE}
 use Rattle.rules_state.specs.Role.{only, roleIn, tableRole}
-use Rattle.entry.specs.Verdict.{roleOf, isDone}
+use Rattle.entry_judging.specs.Judging.{roleOf}
+use Rattle.entry_verdict.specs.Verdict.{isDone}
 use Rattle.good.specs.Parts.{Record}
 use Rattle.good.specs.Marks.{nameOf}
 use Rattle.good.proofs.Steps.{Takes, next, Passes}

@@ -12,12 +12,12 @@ use Rattle.columns.specs.declared.columns.LineNo.{LineNo}
 use Rattle.rules_state.specs.declared.state.Phase.{Phase}
 use Rattle.rules_state.specs.declared.state.Phase.the-variants.{InCommon, InData}
 use Rattle.rules_state.specs.State.{Context, HEADINGS, UNITS, VALUES}
-use Rattle.rules_state.specs.Role.{COMMON-HEADING, COMMON-UNIT, COMMON-VALUE, DATA-HEADING, DATA-UNIT, DATA-VALUE}
-use Rattle.rules_section.specs.Values.{valuesFor}
+use Rattle.rules_roles.specs.Roles.{COMMON-HEADING, COMMON-UNIT, COMMON-VALUE, DATA-HEADING, DATA-UNIT, DATA-VALUE}
+use Rattle.rules_values.specs.Values.{valuesFor}
 use Rattle.entry_next.specs.Next.{contextAfter}
 use Rattle.entry_next.specs.Due.{phaseAfter}
-use Rattle.entry_counted.specs.Counted.{trackAfter, afterInside, headingsRead, unitsRead, valuesRead}
-use Rattle.entry_counted.specs.Counted.{nextRow, sameRow, nextLine}
+use Rattle.entry_counted.specs.Counted.{trackAfter, afterInside}
+use Rattle.entry_tally.specs.Tally.{headingsRead, unitsRead, valuesRead, nextRow, sameRow, nextLine}
 use Rattle.entry_next.specs.Parts.{seenAfter, partAfter, bibChange, tableChange}
 use Rattle.good.specs.Parts.{Record}
 use Rattle.good.proofs.Steps.{next}

@@ -117,9 +117,8 @@ module _ (d : Bool) (k : Kind) (count : ℕ → Record → ℕ)
 -- ---- the rules of a row, record by record
 
 -- The judge's context moves with each record: six columns fewer are left, the records of the row before grow by one,
--- their
--- numbers add up. `RowFine` says the same without contexts, and `run-row` that both say the same. It stops at the last
--- record of the row, since the context behind that one belongs to the next row.
+-- their numbers add up. `RowFine` says the same without contexts, and `run-row` that both say the same. It stops at the
+-- last record of the row, since the context behind that one belongs to the next row.
 
 -- `before` are the records of the row before it, and m their numbers
 unfoldable pub RowFine : (ℕ → List Record → ℕ → Record → Type 0) → (ℕ → Record → ℕ)

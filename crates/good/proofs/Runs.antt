@@ -13,8 +13,10 @@ use Rattle.laws.proofs.Booleans.{differ}
 use Rattle.columns.proofs.ReadColumns.{field-of}
 use Rattle.rules_state.specs.declared.state.Phase.{Phase}
 use Rattle.rules_state.specs.State.{Context}
-use Rattle.rules_state.specs.Role.{NOT-DUE, only, roleIn, either as oneOf}
-use Rattle.entry.specs.Verdict.{roleOf, isDone}
+use Rattle.rules_roles.specs.Roles.{NOT-DUE}
+use Rattle.rules_state.specs.Role.{only, roleIn, either as oneOf}
+use Rattle.entry_judging.specs.Judging.{roleOf}
+use Rattle.entry_verdict.specs.Verdict.{isDone}
 use Rattle.good.specs.Parts.{Record}
 use Rattle.good.specs.Marks.{nameOf}
 use Rattle.good.proofs.Steps.{Takes, next, Passes, takes-due, pass-next, next-pass}

@@ -13,21 +13,21 @@ use Rattle.laws.specs.Blocks.{joined}
 use Rattle.laws.specs.Members.{listOf}
 use Rattle.columns.specs.Fields.{fieldsOf, n1}
 use Rattle.record.specs.Identifier.{ENDSUBENT}
-use Rattle.record.specs.Expected.{identificationFor}
+use Rattle.record_expected.specs.Expected.{identificationFor}
 use Rattle.rules_state.specs.declared.state.Phase.the-variants.{AfterBib, AfterCommon, AfterData, Between}
 use Rattle.rules_state.specs.State.{Context}
 use Rattle.rules_state.specs.Role.{only, roleIn, dataRole, either as oneOf}
-use Rattle.entry.specs.Verdict.{roleOf}
-use Rattle.good.specs.Parts.{Record, Bib, Table, Section, present, absent, concat, textsOf, rowsOf, bibRecords}
+use Rattle.entry_judging.specs.Judging.{roleOf}
+use Rattle.rules_plain.specs.Places.{concat, cell, Long}
+use Rattle.good.specs.Parts.{Record, Bib, Table, Section, present, absent, textsOf, rowsOf, bibRecords}
 use Rattle.good.specs.Parts.{tableRecords}
 use Rattle.good.specs.Marks.{Following, nameOf}
 use Rattle.good.specs.Bib.{textsOfPart}
-use Rattle.good.specs.Tables.{cell, headingsOf, Heading, GoodTable, columnsOf, headingsOfPart}
+use Rattle.good.specs.Tables.{headingsOf, Heading, GoodTable, columnsOf, headingsOfPart}
 use Rattle.good.specs.Subentries.{ownNumber, Encloses}
 use Rattle.good.proofs.Steps.{Takes}
 use Rattle.good.proofs.Runs.{role-at}
 use Rattle.good.proofs.Moves.{Moved}
-use Rattle.good.proofs.Lists.{Long}
 use Rattle.good.proofs.Marks.{says-as}
 use Rattle.good.proofs.TableKinds.{openFor, noFor, GoodPart}
 use Rattle.good.proofs.TableWalked.{headingRows, columnsIn}

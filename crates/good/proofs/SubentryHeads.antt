@@ -11,20 +11,22 @@ use Rattle.laws.specs.Walk.{All}
 use Rattle.laws.specs.Blocks.{joined}
 use Rattle.laws.specs.Members.{listOf}
 use Rattle.record_words.specs.Word.{equalTo}
-use Rattle.record.specs.Expected.{identificationFor}
+use Rattle.record.specs.Identifier.{SUBENT}
+use Rattle.record_expected.specs.Expected.{identificationFor}
 use Rattle.rules_state.specs.declared.state.Phase.the-variants.{InSubentry, AfterCommon}
 use Rattle.rules_state.specs.State.{Context}
-use Rattle.rules_section.specs.Headings.{pointersFor as pointersSeen}
-use Rattle.entry.specs.Verdict.{isDone}
+use Rattle.rules_pointers.specs.Pointers.{pointersFor as pointersSeen}
+use Rattle.entry_verdict.specs.Verdict.{isDone}
+use Rattle.rules_plain.specs.Places.{Long}
 use Rattle.good.specs.Parts.{Record, Bib, Table, Section, bibRecords, tableRecords}
 use Rattle.good.specs.Marks.{Following}
 use Rattle.good.specs.Bib.{GoodBibPart, textsOfPart}
 use Rattle.good.specs.Tables.{GoodCommonPart, headingsOfPart}
+use Rattle.good.specs.Subentries.{ownNumber}
 use Rattle.good.specs.Totals.{keywordsIn, numbersOf}
 use Rattle.good.proofs.Repeats.{OnceBy}
-use Rattle.good.proofs.Steps.{Passes}
+use Rattle.good.proofs.Steps.{Passes, next}
 use Rattle.good.proofs.Moves.{Moved, moved-on, recount}
-use Rattle.good.proofs.Lists.{Long}
 use Rattle.good.proofs.Marks.{following-append, following-left, following-right, following-as}
 use Rattle.good.proofs.Systems.{identificationIn}
 use Rattle.good.proofs.BibContexts.{afterBib, BehindBib, behind-bib}
@@ -34,6 +36,7 @@ use Rattle.good.proofs.TableWalked.{headingRows, columnsIn, afterTable,
 use Rattle.good.proofs.TablesPassed.{pass-table}
 use Rattle.good.proofs.TablesGood.{GoodHere, table-behind, table-pass}
 use Rattle.good.proofs.Together.{Shown, shown, new-once, once-new}
+use Rattle.good.proofs.Openings.{after-opening}
 use Rattle.good.proofs.Subentries.{part-words, part-headings, none-shown, common-due}
 
 -- the context behind SUBENT, and what is known there
@@ -46,6 +49,21 @@ pub record Begun (c : Context) (accession : List ℕ) (number : ℕ) (rows : Lis
   pub common : c .seen .common ≡ []
   pub common001 : c .seen .common001 ≡ joined rows
   pub long : All Long rows
+
+pub begun-by : (c : Context) (accession : List ℕ) (rows : List Record) (r : Record) → c .track .accession ≡ accession
+    → c .seen .common001 ≡ joined rows → All Long rows → Begun (next c SUBENT r) accession (ownNumber r) rows
+begun-by c accession rows r own before long =
+    let o = after-opening false c r in
+    record {
+      phase = o .phase;
+      accession-is = o .accession ∙ own;
+      number-is = o .number;
+      records = o .records;
+      bib = o .bib;
+      common = o .common;
+      common001 = o .common001 ∙ before;
+      long = long;
+    }
 
 abbrev pub afterHead : Context → Section Bib → Section Table → Context
 afterHead c bib common = afterTable false (afterBib c bib) common

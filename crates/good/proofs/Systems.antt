@@ -10,12 +10,13 @@ use borrow.Author.Tests.{eqb-true, eq-eqb, ne-eqb, ltb-true, not-false}
 use Rattle.laws.proofs.Booleans.{differ, and-left, and-right}
 use Rattle.columns.specs.Fields.{fieldsOf, n1, n2}
 use Rattle.record.specs.Identifier.{OTHER, isEnd}
-use Rattle.record.specs.Expected.{identificationFor}
+use Rattle.record_expected.specs.Expected.{identificationFor}
 use Rattle.rules_state.specs.declared.state.Track.{Track}
 use Rattle.rules_state.specs.State.{Context}
-use Rattle.rules_state.specs.Role.{NOT-DUE, isSystem, opensSubentry, opensSection}
-use Rattle.rules_system.specs.System.{FREE, COUNT, formN1, formN2, inForm, rule7, countN1, countN2, limitN1, limitN2}
-use Rattle.rules_system.specs.System.{meets, announcedFault, trueCount, keywordsTrue, countTrue, rule8, rule9}
+use Rattle.rules_roles.specs.Roles.{NOT-DUE, isSystem, opensSubentry, opensSection}
+use Rattle.rules_system.specs.System.{FREE, COUNT, formN1, formN2, inForm, rule7, rule9}
+use Rattle.rules_counts.specs.Counts.{countN1, countN2, limitN1, limitN2, meets, announcedFault, trueCount}
+use Rattle.rules_counts.specs.Counts.{keywordsTrue, countTrue, rule8}
 use Rattle.rules.proofs.NoColumns.{when-none, whens-none}
 use Rattle.rules.proofs.ByKind.{clean-system}
 use Rattle.good.specs.Parts.{Record}

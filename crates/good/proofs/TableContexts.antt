@@ -8,19 +8,19 @@ use borrow.Author.Tests.{le-leb}
 use Rattle.laws.specs.Walk.{All}
 use Rattle.laws.specs.Blocks.{joined}
 use Rattle.columns.specs.Fields.{fieldsOf}
-use Rattle.rules_state.specs.State.{Context, MOST-COLUMNS, MOST-LINES}
-use Rattle.rules_section.specs.Headings.{pointersFor}
-use Rattle.rules_system.specs.System.{countN1, countN2}
+use Rattle.rules_state.specs.State.{Context}
+use Rattle.rules_state.specs.Limits.{MOST-COLUMNS, MOST-LINES}
+use Rattle.rules_pointers.specs.Pointers.{pointersFor}
+use Rattle.rules_counts.specs.Counts.{countN1, countN2}
 use Rattle.entry_next.specs.Next.{contextAfter}
 use Rattle.entry_next.specs.Due.{phaseAfter}
 use Rattle.entry_counted.specs.Counted.{trackAfter, afterSystem}
-use Rattle.entry_next.specs.Parts.{seenAfter, partAfter, bibChange}
-use Rattle.entry_next.specs.Parts.{tableChange}
+use Rattle.entry_next.specs.Parts.{seenAfter, partAfter, bibChange, tableChange}
 use Rattle.record.specs.System.{upTo}
+use Rattle.rules_plain.specs.Places.{Long}
 use Rattle.good.specs.Parts.{Record}
 use Rattle.good.proofs.Steps.{next}
 use Rattle.good.proofs.Moves.{Moved, quiet}
-use Rattle.good.proofs.Lists.{Long}
 use Rattle.good.proofs.RowPlaces.{RowAt}
 use Rattle.good.proofs.Rows.{headings, endFor}
 use Rattle.good.proofs.Headings.{HeadingsKnown}

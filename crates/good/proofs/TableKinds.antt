@@ -13,9 +13,10 @@ use Rattle.columns.specs.Fields.{fieldsOf, n2}
 use Rattle.record.specs.Identifier.{COMMON, NOCOMMON, DATA, NODATA}
 use Rattle.rules_state.specs.declared.state.Phase.{Phase}
 use Rattle.rules_state.specs.declared.state.Phase.the-variants.{AfterCommon, AfterData}
-use Rattle.rules_state.specs.State.{Context, MOST-COLUMNS, MOST-LINES}
+use Rattle.rules_state.specs.State.{Context}
+use Rattle.rules_state.specs.Limits.{MOST-COLUMNS, MOST-LINES}
 use Rattle.rules_every.specs.Every.{expectedIdentification, expectedSequence}
-use Rattle.rules_system.specs.System.{limitN1, limitN2, meets, trueCount, keywordsTrue}
+use Rattle.rules_counts.specs.Counts.{limitN1, limitN2, meets, trueCount, keywordsTrue}
 use Rattle.good.specs.Parts.{Record, Table, Section, present}
 use Rattle.good.specs.Marks.{nameOf, CountIs}
 use Rattle.good.specs.Tables.{columnsOf, GoodTable, GoodCommonPart, GoodDataPart}

@@ -9,7 +9,8 @@ use lib.ListN.{length, length-append}
 use Rattle.laws.specs.Blocks.{joined}
 use Rattle.columns.specs.Columns.{recordsFor}
 use Rattle.rules_state.specs.State.{Context}
-use Rattle.good.specs.Parts.{Record, Table, Section, present, absent, concat, rowsOf, tableRecords}
+use Rattle.rules_plain.specs.Places.{concat}
+use Rattle.good.specs.Parts.{Record, Table, Section, present, absent, rowsOf, tableRecords}
 use Rattle.good.specs.Marks.{Following}
 use Rattle.good.specs.Tables.{columnsOf}
 use Rattle.good.specs.Totals.{linesIn, numbersOf, numbersOfLines}

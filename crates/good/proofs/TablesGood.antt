@@ -1,7 +1,7 @@
 -- From the section to the walk: the judge goes over the records of a good COMMON section or NOCOMMON, of a good DATA
 -- section or NODATA. Assumes nothing.
 use Prim.Native.Nat.{ℕ, _+_, _<_}
-use mathlib.Core.Path.{_≡_, refl, sym, _∙_, ap}
+use mathlib.Core.Path.{_≡_, refl, sym, _∙_}
 use mathlib.Core.Bool.{Bool, true, false}
 use mathlib.Core.List.{List, [], _∷_, _++_}
 use native.Mathlib.Omega.{arith}
@@ -10,12 +10,13 @@ use Rattle.columns.specs.Columns.{recordsFor}
 use Rattle.columns.specs.Fields.{fieldsOf, n1}
 use Rattle.rules_state.specs.State.{Context}
 use Rattle.rules_state.specs.Role.{either as oneOf}
-use Rattle.rules_system.specs.System.{trueCount}
-use Rattle.entry.specs.Verdict.{roleOf}
-use Rattle.good.specs.Parts.{Record, Table, Section, present, absent, concat, rowsOf, tableRecords}
+use Rattle.rules_counts.specs.Counts.{trueCount}
+use Rattle.entry_judging.specs.Judging.{roleOf}
+use Rattle.rules_plain.specs.Places.{concat, cell}
+use Rattle.good.specs.Parts.{Record, Table, Section, present, absent, rowsOf, tableRecords}
 use Rattle.good.specs.Marks.{Marked, Following, nameOf}
-use Rattle.good.specs.Tables.{columnsOf, cell}
-use Rattle.good.specs.Subentries.{Occurs}
+use Rattle.good.specs.Tables.{columnsOf}
+use Rattle.good.proofs.Pointers.{FoundIn}
 use Rattle.good.proofs.Steps.{next, Passes, next-pass}
 use Rattle.good.proofs.Runs.{only-role, either-left, either-right}
 use Rattle.good.proofs.Marks.{says-as, counted2, following-left, following-right, following-as}
@@ -42,7 +43,7 @@ good-walked : (d : Bool) (c : Context) (t : Table) (b : ℕ) (first common : Lis
     → PartsKnown first common pointers c → Pieces d t b
     → Following (identificationIn c) (c .track .subentry .records + 3) (rowsOf t)
     → ((x : ℕ) → x < columnsOf t → NewIn first common [] (t .headings) x)
-    → (d ≡ true → (x : ℕ) → x < columnsOf t → Occurs pointers (cell (t .headings) x))
+    → (d ≡ true → (x : ℕ) → x < columnsOf t → FoundIn pointers (cell (t .headings) x))
     → Walked d c t (columnsOf t) b
 unfolding columnsOf
 good-walked d c t b first common pointers k p f new found =
@@ -133,7 +134,7 @@ pub record GoodHere (d : Bool) (c : Context) (part : Section Table) (first commo
     : Type 0 where
   pub good : GoodPart d part
   pub new : (x : ℕ) → x < columnsIn part → NewIn first common [] (headingRows part) x
-  pub found : d ≡ true → (x : ℕ) → x < columnsIn part → Occurs pointers (cell (headingRows part) x)
+  pub found : d ≡ true → (x : ℕ) → x < columnsIn part → FoundIn pointers (cell (headingRows part) x)
   pub follows : Following (identificationIn c) (c .track .subentry .records + 2) (tableRecords part)
 
 rows-follow : (d : Bool) (c : Context) (t : Table) (first common : List Record) (pointers : List ℕ)

@@ -10,12 +10,14 @@ use Rattle.columns.specs.Columns.{recordsFor}
 use Rattle.columns.specs.Fields.{fieldsOf, n1}
 use Rattle.rules_state.specs.State.{Context}
 use Rattle.rules_state.specs.Role.{either as oneOf}
-use Rattle.rules_system.specs.System.{trueCount, countN1, countN2}
-use Rattle.entry.specs.Verdict.{roleOf, isDone}
-use Rattle.good.specs.Parts.{Record, Table, Section, present, absent, concat, rowsOf, tableRecords}
+use Rattle.rules_counts.specs.Counts.{trueCount, countN1, countN2}
+use Rattle.entry_judging.specs.Judging.{roleOf}
+use Rattle.entry_verdict.specs.Verdict.{isDone}
+use Rattle.rules_plain.specs.Places.{concat, cell}
+use Rattle.good.specs.Parts.{Record, Table, Section, present, absent, rowsOf, tableRecords}
 use Rattle.good.specs.Marks.{Marked, Following, nameOf}
-use Rattle.good.specs.Tables.{columnsOf, cell}
-use Rattle.good.specs.Subentries.{Occurs}
+use Rattle.good.specs.Tables.{columnsOf}
+use Rattle.good.proofs.Pointers.{FoundIn}
 use Rattle.good.proofs.Steps.{Takes, next, Passes, takes-marked}
 use Rattle.good.proofs.Runs.{pass-only, pass-either, rest-of, Step, afterRun}
 use Rattle.good.proofs.Marks.{says-as, following-append, following-as}
@@ -40,7 +42,7 @@ pub record PassedTable (d : Bool) (c : Context) (rs : List Record) (z : Context)
   pub split : rs ≡ tableRecords part ++ rest
   pub good : GoodPart d part
   pub new : (x : ℕ) → x < columnsIn part → NewIn first common [] (headingRows part) x
-  pub found : d ≡ true → (x : ℕ) → x < columnsIn part → Occurs pointers (cell (headingRows part) x)
+  pub found : d ≡ true → (x : ℕ) → x < columnsIn part → FoundIn pointers (cell (headingRows part) x)
   pub follows : Following (identificationIn c) (c .track .subentry .records + 2) (tableRecords part)
   pub behind : BehindTable c (afterTable d c part) d part
   pub passes : Passes (afterTable d c part) rest z

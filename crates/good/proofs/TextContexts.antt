@@ -15,16 +15,18 @@ use Rattle.record_words.specs.Word.{blankTo}
 use Rattle.record.specs.Identifier.{OTHER}
 use Rattle.rules_state.specs.declared.state.Phase.the-variants.{InBib}
 use Rattle.rules_state.specs.State.{Context}
-use Rattle.rules_state.specs.Role.{TEXT, NOT-DUE, roleIn, bibRole}
+use Rattle.rules_roles.specs.Roles.{TEXT, NOT-DUE}
+use Rattle.rules_state.specs.Role.{roleIn, bibRole}
 use Rattle.entry_next.specs.Next.{contextAfter}
 use Rattle.entry_next.specs.Due.{phaseAfter}
-use Rattle.entry_counted.specs.Counted.{trackAfter, afterInside, textRead}
-use Rattle.entry_next.specs.Parts.{seenAfter, partAfter}
-use Rattle.entry_next.specs.Parts.{bibChange}
-use Rattle.entry.specs.Verdict.{roleOf, isDone}
+use Rattle.entry_counted.specs.Counted.{trackAfter, afterInside}
+use Rattle.entry_tally.specs.Tally.{textRead}
+use Rattle.entry_next.specs.Parts.{seenAfter, partAfter, bibChange}
+use Rattle.entry_judging.specs.Judging.{roleOf}
+use Rattle.entry_verdict.specs.Verdict.{isDone}
+use Rattle.rules_plain.specs.Places.{bibPlace}
 use Rattle.good.specs.Parts.{Record}
 use Rattle.good.specs.Marks.{nameOf}
-use Rattle.good.specs.Bib.{bibPlace}
 use Rattle.good.proofs.Steps.{Takes, next, Passes}
 use Rattle.good.proofs.Runs.{role-at, Run, afterRun, pass-run, run-pass, run-left}
 use Rattle.good.proofs.Moves.{Moved, still, moved-on, recount}

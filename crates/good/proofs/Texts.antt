@@ -17,22 +17,21 @@ use Rattle.columns.specs.Fields.{fieldsOf}
 use Rattle.columns.proofs.ReadColumns.{field-of}
 use Rattle.columns.specs.Text.{isBlank}
 use Rattle.record_words.specs.Word.{blankTo, equalTo, isWord, pointerOf, badPointer}
-use Rattle.record.specs.Expected.{identificationFor}
+use Rattle.record_expected.specs.Expected.{identificationFor}
 use Rattle.rules_state.specs.State.{Context}
-use Rattle.rules_state.specs.Role.{TEXT}
+use Rattle.rules_roles.specs.Roles.{TEXT}
 use Rattle.rules_every.specs.Every.{expectedIdentification, expectedSequence}
 use Rattle.rules_text.specs.Text.{keywordFault, rule10, pointerRepeated, rule11Text}
 use Rattle.entry_next.specs.Next.{contextAfter}
-use Rattle.entry_next.specs.Parts.{seenAfter, partAfter}
-use Rattle.entry_next.specs.Parts.{underChange}
+use Rattle.entry_next.specs.Parts.{seenAfter, partAfter, underChange}
 use Rattle.rules.proofs.NoColumns.{when-none, none-when}
 use Rattle.rules.proofs.ByKind.{clean-text}
+use Rattle.rules_plain.specs.Places.{bibPlace, pointersIn, Long}
+use Rattle.rules_plain.proofs.Lists.{places-joined, pointers-joined}
 use Rattle.good.specs.Parts.{Record}
 use Rattle.good.specs.Marks.{Marked}
-use Rattle.good.specs.Bib.{bibPlace, pointersIn}
 use Rattle.good.proofs.Steps.{Takes, next, MarkedFor, takes-marked, marked-every}
 use Rattle.good.proofs.Runs.{Run}
-use Rattle.good.proofs.Lists.{Long, places-joined, pointers-joined}
 use Rattle.good.proofs.TextContexts.{Other, after-text}
 
 -- ---- the rules for a text record

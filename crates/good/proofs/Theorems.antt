@@ -17,16 +17,18 @@ use Rattle.laws.specs.Walk.{walk, All}
 use Rattle.laws.specs.Blocks.{blocks, joined}
 use Rattle.laws.proofs.Walk.{goes-walk, walk-goes}
 use Rattle.laws.proofs.Blocks.{joined-blocks, blocks-joined, length-joined, blocks-wide, length-blocks}
-use Rattle.rules_state.specs.State.{Context, startContext, MOST-RECORDS}
-use Rattle.entry.specs.declared.verdict.Verdict.{Verdict}
-use Rattle.entry.specs.Verdict.{roleOf, turnOf, refused, accepted, isDone, endOf, lengthGood, judgeOf}
+use Rattle.rules_state.specs.State.{Context, startContext}
+use Rattle.rules_state.specs.Limits.{MOST-RECORDS}
+use Rattle.entry_verdict.specs.declared.verdict.Verdict.{Verdict}
+use Rattle.entry_judging.specs.Judging.{roleOf, turnOf, endOf, judgeOf}
+use Rattle.entry_verdict.specs.Verdict.{refused, accepted, isDone, lengthGood}
 use Rattle.entry.proofs.GoingOn.{done-of, out-refused}
-use Rattle.entry.proofs.Numbered.{whole-records}
+use Rattle.entry_step.proofs.Numbered.{whole-records}
+use Rattle.rules_plain.specs.Places.{Long}
 use Rattle.good.specs.Parts.{Record, recordsOf}
 use Rattle.good.specs.Good.{GoodBytes}
 use Rattle.good.specs.Claims.{AcceptedExactly, GoodAccepted}
 use Rattle.good.proofs.Steps.{Passes, next, goes-passes, passes-goes}
-use Rattle.good.proofs.Lists.{Long}
 use Rattle.good.proofs.Entries.{pass-entry, entry-pass}
 
 abbrev Fair : Verdict → Type 0

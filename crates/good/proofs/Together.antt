@@ -1,13 +1,12 @@
 -- Headings of several sections together, and the pointers that may be named: by the cells of the heading records,
 -- unused ones too, as the judge looks at them, and by the lists of headings. Assumes nothing.
-use Prim.Native.Nat.{ℕ, zero, suc, _+_, _-_, _*_, _/_, _%_, _<_, _≤_}
+use Prim.Native.Nat.{ℕ, zero, suc, _+_, _-_, _*_, _<_, _≤_}
 use mathlib.Core.Path.{_≡_, refl, sym, _∙_, ap}
 use mathlib.Core.Bool.{Bool, true, false, cond}
 use mathlib.Core.List.{List, [], _∷_, _++_}
 use native.Mathlib.Omega.{arith}
 use lib.Dec.{eqb}
-use lib.ListN.{length, drop}
-use lib.Seq.{getD-take, getD-drop}
+use lib.ListN.{length}
 use Rattle.laws.proofs.Booleans.{differ, cond-itself}
 use Rattle.laws.proofs.Listing.{any-list, any-map, any-none, any-one, list-same, list-split, none-any, one-any}
 use Rattle.laws.specs.Members.{listOf, anyOf}
@@ -18,16 +17,15 @@ use Rattle.laws.proofs.Members.{any-append}
 use Rattle.columns.specs.Text.{isBlank}
 use Rattle.record_words.specs.Word.{equalTo, isWord, pointerOf}
 use Rattle.rules_text.specs.Text.{pointersOf}
-use Rattle.rules_section.specs.Headings.{headingPointerAt, headingPointers, pointersFor as pointersSeen}
+use Rattle.rules_pointers.specs.Pointers.{headingPointerAt, headingPointers, pointersFor as pointersSeen}
+use Rattle.rules_plain.specs.Places.{pointersIn, cell, pointersOn, Long}
+use Rattle.rules_plain.proofs.Lists.{pointers-joined}
+use Rattle.rules_plain.proofs.Rows.{headings-in, pointer-cell}
 use Rattle.good.specs.Parts.{Record}
 use Rattle.good.proofs.Repeats.{OnceBy}
-use Rattle.good.specs.Bib.{pointersIn}
-use Rattle.good.specs.Tables.{cell, Heading, BlankCell}
-use Rattle.good.specs.Subentries.{pointersOn}
-use Rattle.good.proofs.Lists.{Long, pointers-joined}
+use Rattle.good.specs.Tables.{Heading, BlankCell}
 use Rattle.record.proofs.PlainColumns.{blank-exactly, word-exactly}
 use Rattle.record_words.proofs.WordsAndBlanks.{heading-differs, blank-pointer}
-use Rattle.good.proofs.Earlier.{heading-cell, headings-in}
 use Rattle.good.proofs.HeadingsByColumn.{NewIn}
 
 -- ---- nothing twice, by places
@@ -131,13 +129,6 @@ once-new first common rs n1 n2 n s t words h x l =
     }
 
 -- ---- pointers
-
-pointer-cell : (rows : List Record) (m : ℕ) → All Long rows → m < length rows * 6
-    → headingPointerAt (joined rows) m ≡ pointerOf (cell rows m)
-pointer-cell rows m a l =
-    let o = m / 6 * 81 + m % 6 * 11 in
-    sym (getD-drop o (joined rows) 10 0) ∙ sym (getD-take 11 (drop o (joined rows)) 10 0 (omega arith))
-    ∙ ap pointerOf (heading-cell rows m a l)
 
 -- a pointer is found among all cells exactly where it is among the headings
 heading-pointers : (rows : List Record) (n p : ℕ) → All Long rows → Shown rows n → isBlank p ≡ false

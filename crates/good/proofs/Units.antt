@@ -15,14 +15,15 @@ use Rattle.columns.specs.Fields.{fieldAt, fieldsOf, inField}
 use Rattle.record_words.specs.Word.{isUnitWord, unitFault, blankTo}
 use Rattle.record.proofs.PlainColumns.{blank-exactly, unit-exactly}
 use Rattle.rules_state.specs.State.{Context, used}
-use Rattle.rules_state.specs.Role.{NOT-DUE, isUnit as unitRole}
-use Rattle.rules_state.specs.Fault.{fieldColumn}
+use Rattle.rules_roles.specs.Roles.{NOT-DUE, isUnit as unitRole}
+use Rattle.rules_roles.specs.Fault.{fieldColumn}
 use Rattle.rules_section.specs.Headings.{rule12Unit}
 use Rattle.rules.proofs.NoColumns.{where-none, none-where}
 use Rattle.rules.proofs.ByKind.{clean-unit}
+use Rattle.rules_plain.specs.Places.{cell}
 use Rattle.good.specs.Parts.{Record}
 use Rattle.good.specs.Marks.{Following}
-use Rattle.good.specs.Tables.{cell, UnitCell, BlankCell, GoodUnits}
+use Rattle.good.specs.Tables.{UnitCell, BlankCell, GoodUnits}
 use Rattle.good.proofs.Steps.{Takes, MarkedFor, marked-every}
 use Rattle.good.proofs.Runs.{Run, afterRun}
 use Rattle.good.proofs.Systems.{identificationIn}

@@ -18,13 +18,15 @@ use Rattle.number.specs.declared.form.Form.{Form}
 use Rattle.number.specs.declared.form.Form.the-variants as Form
 use Rattle.columns.specs.Columns.{recordsFor}
 use Rattle.columns.specs.Fields.{fieldAt, fieldsOf, inField, firstField}
-use Rattle.record.specs.Numbers.{formAt, saysBlank, saysNumber, noValue, valueFault, isNumberAt, valuesOf}
+use Rattle.record_values.specs.Numbers.{formAt, saysBlank, saysNumber, noValue, valueFault, isNumberAt, valuesOf}
+use Rattle.record.proofs.PlainColumns.{not-none}
 use Rattle.record.proofs.PlainValues.{value-exactly, unused-exactly}
 use Rattle.rules_state.specs.declared.state.Table.{Table}
 use Rattle.rules_state.specs.State.{Context, used}
-use Rattle.rules_state.specs.Role.{NOT-DUE, isValue}
-use Rattle.rules_state.specs.Fault.{when, columnsWhere, fieldColumn}
-use Rattle.rules_section.specs.Values.{optional, blankFields, lineBlank, rule15, valuesFor}
+use Rattle.rules_roles.specs.Roles.{NOT-DUE, isValue}
+use Rattle.rules_roles.specs.Fault.{when, columnsWhere, fieldColumn}
+use Rattle.rules_values.proofs.BlankFields.{blank-form}
+use Rattle.rules_values.specs.Values.{optional, blankFields, lineBlank, rule15, valuesFor}
 use Rattle.rules.proofs.NoColumns.{when-none, append-none, where-none, none-where}
 use Rattle.rules.proofs.ByKind.{clean-value}
 use Rattle.good.specs.Parts.{Record}
@@ -36,8 +38,7 @@ use Rattle.good.proofs.Systems.{identificationIn}
 use Rattle.good.proofs.RowPlaces.{RowAt, NoEnd}
 use Rattle.good.proofs.Rows.{values, roleFor, numbersOf, lastOf, row-step}
 use Rattle.good.proofs.Rowwise.{RowFine, run-row, BehindRow, behind-row, countRow}
-use Rattle.good.proofs.Cells.{field-at, few, few-used, few-least, few-below, few-past, below-few}
-use Rattle.good.proofs.Cells.{Cells}
+use Rattle.good.proofs.Cells.{field-at, few, few-used, few-least, few-below, few-past, below-few, Cells}
 
 -- ---- rule 15
 
@@ -63,11 +64,6 @@ rule-value d c r m e =
 optional-is : (d : Bool) → optional (roleFor values d) ≡ d
 optional-is false = refl
 optional-is true = refl
-
-says-blank : (x : Form) → not (saysBlank x) ≡ false → x ≡ Form.Blank
-says-blank Form.Blank e = refl
-says-blank Form.Number e = differ e
-says-blank Form.Malformed e = differ e
 
 filled-number : (d : Bool) (x : Form) → noValue d x ≡ false → not (saysBlank x) ≡ saysNumber x
 filled-number d Form.Blank e = refl
@@ -115,7 +111,7 @@ fine-cells d c rest r e f =
           (f .none j l));
       unused = λ j l a.
           unused-exactly (fieldAt r j) .0
-          (says-blank (formAt (fieldAt r j))
+          (blank-form (formAt (fieldAt r j))
           (rw (few-used (c .track) rest e, le-ltb j (few rest) (few-past rest j l a), field-at r j l) at
           (f .none j l)));
     }
@@ -202,10 +198,7 @@ some-of c rest m r e b g h l =
     ∙ sym (and-same (leb rest 6) true (eqb m 0 && eqb (count rest r) 0) (eqb m 0 && eqb (count rest r) 0)
     (le-leb rest 6 l) refl)
     ∙ sym (line-blank c rest m r e b g) ∙ h in
-    by-number (m + count rest r) (eqb-false (m + count rest r) 0 k)
-  where
-    by-number : (n : ℕ) → (n ≡ 0 → ⊥) → 1 ≤ n
-    by-number n f = either 0 n (λ a. omega arith) (λ a. absurd (f (omega arith)))
+    not-none (m + count rest r) (eqb-false (m + count rest r) 0 k)
 
 no-blank : (d : Bool) (c : Context) (rest m : ℕ) (r : Record) → c .track .table .rest ≡ rest
     → c .track .table .blank ≡ eqb m 0 → ValuesFine d rest m r

@@ -13,18 +13,19 @@ use Rattle.laws.proofs.Booleans.{differ}
 use Rattle.laws.proofs.Counting.{many-same, many-split}
 use Rattle.laws.specs.Search.{howMany}
 use Rattle.columns.specs.Columns.{recordsFor}
-use Rattle.record.specs.Numbers.{formAt, saysNumber}
+use Rattle.record_values.specs.Numbers.{formAt, saysNumber}
 use Rattle.rules_state.specs.State.{Context, used}
+use Rattle.rules_plain.specs.Places.{cell}
+use Rattle.rules_plain.proofs.Rows.{cell-here, cell-there}
 use Rattle.good.specs.Parts.{Record}
 use Rattle.good.specs.Marks.{Following}
-use Rattle.good.specs.Tables.{cell, GoodValue, BlankValue, isNumber, numbersInLine, GoodValues}
+use Rattle.good.specs.Tables.{GoodValue, BlankValue, isNumber, numbersInLine, GoodValues}
 use Rattle.good.proofs.Runs.{Run}
 use Rattle.good.proofs.Systems.{identificationIn}
 use Rattle.good.proofs.RowPlaces.{RowAt, NoEnd}
 use Rattle.good.proofs.Rows.{values, roleFor}
 use Rattle.good.proofs.Rowwise.{RowFine, countRow}
-use Rattle.good.proofs.Cells.{few, cell-here}
-use Rattle.good.proofs.Cells.{cell-there, fine-used, fine-unused, cells-here, used-there, unused-there}
+use Rattle.good.proofs.Cells.{few, fine-used, fine-unused, cells-here, used-there, unused-there}
 use Rattle.good.proofs.Values.{numberAt, count, LineFine, run-values}
 
 -- the numbers counted record by record are those of the line, counted over its columns

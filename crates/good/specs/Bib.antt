@@ -4,34 +4,25 @@ use mathlib.Core.Path.{_≡_}
 use mathlib.Core.List.{List, [], _∷_, map}
 use lib.ListN.{length}
 use Rattle.laws.specs.Walk.{All}
-use Rattle.columns.specs.Fields.{fieldAt, fieldsOf, n1, n2}
+use Rattle.columns.specs.Fields.{fieldsOf, n1, n2}
 use Rattle.record_words.specs.Word.{pointerOf}
 use Rattle.record.specs.Identifier.{BIB, NOBIB, ENDBIB, OTHER}
-use Rattle.record.specs.Plain.{BlankColumns, SameColumns, Word, PointerOrBlank}
+use Rattle.record.specs.Plain.{SameColumns, Word, PointerOrBlank}
+use Rattle.rules_plain.specs.Places.{bibPlace, pointersIn}
+use Rattle.rules_plain.specs.Texts.{NoKeyword, SamePointer}
 use Rattle.good.specs.Parts.{Record, Keyword, Bib, Section, present, absent, textsOf}
 use Rattle.good.specs.Marks.{nameOf, CountIs, Once}
-
--- "BIB: columns 1-10 a keyword (word) or blank, 11 a pointer or blank, 12-66 text."
-abbrev pub bibPlace : Record → List ℕ
-bibPlace r = fieldAt r 0
 
 -- any system identifier inside BIB is not due; "11 a pointer or blank"
 pub record Text (r : Record) : Type 0 where
   pub no-system : nameOf r ≡ OTHER
   pub pointer : PointerOrBlank (pointerOf (bibPlace r))
 
--- "Blank means no pointer.": p is a pointer, and q is the same
-abbrev pub SamePointer : ℕ → ℕ → Type 0
-SamePointer p q = (p ≡ 32 → ⊥) × (p ≡ q)
-
-abbrev pub pointersIn : List Record → List ℕ
-pointersIn rs = map (λ r. pointerOf (bibPlace r)) rs
-
 -- one keyword and what stands under it: "a keyword (word)"; then columns 1-10 are blank; "no pointer twice under one
 -- keyword"
 pub record GoodKeyword (k : Keyword) : Type 0 where
   pub word : Word 10 (bibPlace (k .first))
-  pub blank : All (λ r. BlankColumns 10 (bibPlace r)) (k .more)
+  pub blank : All NoKeyword (k .more)
   pub texts : All Text (k .first ∷ k .more)
   pub pointers : Once SamePointer [] (pointersIn (k .first ∷ k .more))
 

@@ -8,8 +8,8 @@ use Rattle.laws.specs.Blocks.{joined}
 use Rattle.columns.specs.Fields.{fieldsOf, n1, n2}
 use Rattle.record.specs.Identifier.{ENTRY, ENDENTRY}
 use Rattle.record.specs.Plain.{Date, EntryN1}
-use Rattle.record.specs.Expected.{accessionOf, identificationFor, entryAccession}
-use Rattle.rules_state.specs.State.{MOST-RECORDS}
+use Rattle.record_expected.specs.Expected.{accessionOf, identificationFor, entryAccession}
+use Rattle.rules_state.specs.Limits.{MOST-RECORDS}
 use Rattle.good.specs.Parts.{Record, Entry, recordsOf}
 use Rattle.good.specs.Marks.{Marked, nameOf, CountIs}
 use Rattle.good.specs.Subentries.{GoodFirst, GoodSubentry, NumbersRise}

@@ -7,10 +7,10 @@ use mathlib.Core.List.{List, [], _∷_, _++_}
 use lib.ListN.{length, getD}
 use Rattle.laws.specs.Walk.{All}
 use Rattle.columns.specs.Columns.{hasLineFeed}
-use Rattle.columns.specs.Class.{isPermitted}
+use Rattle.classes.specs.Class.{isPermitted}
 use Rattle.columns.specs.Fields.{fieldAt}
 use Rattle.record.specs.Identifier.{identifierOf}
-use Rattle.record.specs.Expected.{identificationOf, sequenceOf, inDigits}
+use Rattle.record_expected.specs.Expected.{identificationOf, sequenceOf, inDigits}
 use Rattle.record.specs.Plain.{SameColumns, CountSays}
 use Rattle.good.specs.Parts.{Record}
 

@@ -5,6 +5,7 @@
 --   SUBENT 001. 001 has neither DATA nor NODATA."
 use Prim.Native.Nat.{ℕ}
 use mathlib.Core.List.{List, [], _∷_, _++_}
+use Rattle.rules_plain.specs.Places.{concat}
 
 -- "A record is 80 columns and one line feed (81 bytes).": its bytes
 abbrev pub Record : Type 0
@@ -63,10 +64,6 @@ pub record Entry : Type 0 where
   pub ending : Record
 
 -- ---- their records, in order
-
-unfoldable pub concat : {A : Type 0} → List (List A) → List A
-concat [] = []
-concat (xs ∷ xss) = xs ++ concat xss
 
 unfoldable pub textsOf : List Keyword → List Record
 textsOf [] = []

@@ -1,23 +1,20 @@
 -- Subentries (document 01, "Nesting and counts" and "BIB, headings, pointers").
 use Prim.Native.Nat.{ℕ, _<_, _≤_}
 use mathlib.Core.Path.{_≡_}
-use mathlib.Core.Bool.{true, false}
-use mathlib.Core.List.{List, [], _∷_, _++_, map}
-use lib.Dec.{eqb}
+use mathlib.Core.List.{List, [], _∷_, _++_}
 use lib.ListN.{length}
-use Rattle.laws.specs.Members.{anyOf}
 use Rattle.laws.specs.Walk.{All}
-use Rattle.columns.specs.Text.{isBlank}
 use Rattle.columns.specs.Fields.{fieldsOf, n1, n2}
 use Rattle.record_words.specs.Word.{pointerOf}
 use Rattle.record.specs.Identifier.{SUBENT, NOSUBENT, ENDSUBENT}
 use Rattle.record.specs.System.{subentryOf}
 use Rattle.record.specs.Plain.{SameColumns, Date, SubentN1}
-use Rattle.record.specs.Expected.{identificationFor, subentIdentification, subentAccession}
-use Rattle.rules_state.specs.State.{LAST-SUBENTRY}
+use Rattle.record_expected.specs.Expected.{identificationFor, subentIdentification, subentAccession}
+use Rattle.rules_state.specs.Limits.{LAST-SUBENTRY}
+use Rattle.rules_plain.specs.Places.{Some, pointersIn, pointersOn}
 use Rattle.good.specs.Parts.{Record, Subentry001, Later, Subentry, nosubent, subent, bodyOfFirst, bodyOf}
 use Rattle.good.specs.Marks.{Marked, Following, nameOf, CountIs, Once}
-use Rattle.good.specs.Bib.{GoodBibPart, pointersIn, textsOfPart}
+use Rattle.good.specs.Bib.{GoodBibPart, textsOfPart}
 use Rattle.good.specs.Tables.{GoodCommonPart, GoodDataPart, headingsOfPart}
 
 -- ---- SUBENT, NOSUBENT and ENDSUBENT
@@ -52,10 +49,6 @@ headingsTogether first s =
 abbrev pub NoneTwice : List (List ℕ) → Type 0
 NoneTwice headings = Once (SameColumns 11) [] headings
 
--- the eleventh columns of headings
-abbrev pub pointersOn : List (List ℕ) → List ℕ
-pointersOn headings = map pointerOf headings
-
 -- "A pointer on a DATA heading must occur in BIB column 11 of this subentry or 001, or on a heading of either one's
 -- COMMON."
 abbrev pub pointersKnown : Subentry001 → Later → List ℕ
@@ -64,9 +57,9 @@ pointersKnown first s =
     ++ (pointersIn (textsOfPart (first .bib))
     ++ (pointersOn (headingsOfPart (s .common)) ++ pointersOn (headingsOfPart (first .common))))
 
--- a pointer, if the heading has one, is among them
+-- "Blank means no pointer.": a pointer, if the heading has one, is equal to one of them
 abbrev pub Occurs : List ℕ → List ℕ → Type 0
-Occurs pointers h = isBlank (pointerOf h) ≡ false → anyOf (eqb (pointerOf h)) pointers ≡ true
+Occurs pointers h = (pointerOf h ≡ 32 → ⊥) → Some (λ p. pointerOf h ≡ p) pointers
 
 -- ---- subentries
 

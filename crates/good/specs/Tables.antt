@@ -1,20 +1,21 @@
 -- COMMON and DATA sections (document 01, "BIB, headings, pointers" and the table of N1 and N2).
-use Prim.Native.Nat.{ℕ, _*_, _/_, _%_, _<_, _≤_}
+use Prim.Native.Nat.{ℕ, _*_, _<_, _≤_}
 use mathlib.Core.Path.{_≡_}
 use mathlib.Core.Bool.{Bool, true, false}
 use mathlib.Core.List.{List, []}
-use lib.ListN.{length, getD}
+use lib.ListN.{length}
 use Rattle.laws.specs.Search.{howMany}
 use Rattle.laws.specs.Members.{listOf}
 use Rattle.laws.specs.Walk.{All}
 use Rattle.columns.specs.Columns.{recordsFor}
-use Rattle.columns.specs.Fields.{fieldAt, fieldsOf, n1, n2}
+use Rattle.columns.specs.Fields.{fieldsOf, n1, n2}
 use Rattle.record_words.specs.Word.{pointerOf}
 use Rattle.record.specs.Identifier.{COMMON, NOCOMMON, ENDCOMMON, DATA, NODATA, ENDDATA, isEnd}
 use Rattle.record.specs.System.{countOf, numberOf}
-use Rattle.record.specs.Numbers.{formAt, saysNumber}
+use Rattle.record_values.specs.Numbers.{formAt, saysNumber}
 use Rattle.record.specs.Plain.{BlankColumns, Word, UnitWord, PointerOrBlank, AllBlank, NumberField, NumberOrBlank}
-use Rattle.rules_state.specs.State.{MOST-COLUMNS, MOST-LINES}
+use Rattle.rules_state.specs.Limits.{MOST-COLUMNS, MOST-LINES}
+use Rattle.rules_plain.specs.Places.{cell}
 use Rattle.good.specs.Parts.{Record, Table, Section, present, absent, rowsOf}
 use Rattle.good.specs.Marks.{nameOf, CountIs}
 
@@ -23,10 +24,6 @@ use Rattle.good.specs.Marks.{nameOf, CountIs}
 -- "columns, 1-18": what N1 of COMMON and of DATA says (`GoodTable.counted`)
 unfoldable pub columnsOf : Table → ℕ
 columnsOf t = numberOf (countOf (n1 (fieldsOf (t .opening))))
-
--- the column c of a row, counted from 0: six to a record
-unfoldable pub cell : List Record → ℕ → List ℕ
-cell row c = fieldAt (getD row (c / 6) []) (c % 6)
 
 -- "With k = columns/6 rounded up": a row of n columns has k records; each used column has one property, and "unused
 -- fields are blank"; no record begins with a system identifier "beginning with END"

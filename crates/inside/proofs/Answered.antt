@@ -13,7 +13,7 @@ use Rattle.laws.specs.Blocks.{blockAt}
 use Rattle.columns.specs.Columns.{recordsFor, placeOf}
 use Rattle.columns.specs.Fields.{fieldsOf}
 use Rattle.columns.specs.Text.{within}
-use Rattle.record.specs.Numbers.{noValue}
+use Rattle.record_values.specs.Numbers.{noValue}
 use Rattle.number.specs.Form.{formOf}
 use Rattle.record.specs.Identifier.{COMMON, DATA}
 use Rattle.record.specs.System.{upTo}
@@ -24,25 +24,27 @@ use Rattle.columns.proofs.TablePlaces.{place-at, place-field}
 use Rattle.number.specs.Reading.{readField}
 use Rattle.number.specs.declared.value.Reading.{Reading}
 use Rattle.number.specs.declared.value.Reading.the-variants.{Blank, Number, Refused}
-use Rattle.rules_system.specs.System.{countN1, countN2}
-use Rattle.rules_state.specs.Role.{NOT-DUE, isValue}
-use Rattle.rules_state.specs.State.{MOST-COLUMNS, MOST-LINES}
-use Rattle.entry.specs.Verdict.{roleOf, judgeOf, Accepted}
+use Rattle.rules_counts.specs.Counts.{countN1, countN2}
+use Rattle.rules_roles.specs.Roles.{NOT-DUE, isValue}
+use Rattle.rules_state.specs.Limits.{MOST-COLUMNS, MOST-LINES}
+use Rattle.entry_judging.specs.Judging.{roleOf, judgeOf, Accepted}
 use Rattle.rules.proofs.DueRecords.{fine-due}
 use Rattle.rules.proofs.WithoutFault.{fine-reads}
 use Rattle.entry.proofs.GoingOn.{go-fine}
-use Rattle.entry.specs.Contexts.{contextAt, roleAt}
-use Rattle.entry.specs.Answer.{firstOf, refusal}
-use Rattle.questions_rows.specs.declared.row.Row.{Row}
+use Rattle.entry_judging.specs.Contexts.{contextAt, roleAt}
+use Rattle.entry_verdict.specs.Answer.{firstOf, refusal}
+use Rattle.questions_noted.specs.declared.row.Row.{Row}
 use Rattle.questions_places.specs.declared.place.Shape.{Shape}
 use Rattle.questions_rows.specs.Row.{rowOf}
 use Rattle.questions_places.specs.Place.{COMMON-SECTION, DATA-SECTION, fieldsAt, shapeOf, headingPlace, unitPlace}
 use Rattle.questions_places.specs.Place.{fieldOf, byteOf}
-use Rattle.questions.specs.Ask.{sectionIn, noSection, noLine, noColumn, sectionRefusals, valueRefusal}
-use Rattle.questions.specs.Ask.{valueBy, valueAsked, columnRefusal, headingBy, headingAsked, unitBy, unitAsked}
+use Rattle.questions_refusals.specs.Refused.{sectionIn, noSection, noLine, noColumn, sectionRefusals, valueRefusal}
+use Rattle.questions_refusals.specs.Refused.{columnRefusal}
+use Rattle.questions_answers.specs.Answers.{valueBy, headingBy, unitBy}
+use Rattle.questions.specs.Ask.{valueAsked, headingAsked, unitAsked}
 use Rattle.inside.specs.Inside.{OpensSection, isSaid, ValueAnswered, HeadingAnswered, UnitAnswered}
-use Rattle.questions.proofs.Refusals.{section-none}
-use Rattle.inside.proofs.Contexts.{walked}
+use Rattle.questions_refusals.proofs.InOrder.{section-none}
+use Rattle.entry.proofs.AcceptedWalk.{walked}
 use Rattle.inside.proofs.Laid.{rowRole}
 use Rattle.inside.proofs.TableLaid.{table-laid, sectionRole, linesOf, Opened, opened}
 use Rattle.questions_rows.proofs.RowChanges.{Section, common, table, opener, named}

@@ -11,22 +11,26 @@ use Rattle.laws.specs.Blocks.{blockAt}
 use Rattle.columns.specs.Fields.{fieldsOf}
 use Rattle.columns.specs.declared.columns.LineNo.{LineNo}
 use Rattle.columns.specs.declared.columns.RecordNo.{RecordNo}
-use Rattle.entry.specs.Verdict.{judgeOf, Accepted}
-use Rattle.entry.specs.Answer.{refusal}
-use Rattle.questions_rows.specs.Row.{NONE, rowOf}
+use Rattle.entry_judging.specs.Judging.{judgeOf, Accepted}
+use Rattle.entry_verdict.specs.Answer.{refusal}
+use Rattle.entry_verdict.proofs.Answers.{answer-number}
+use Rattle.questions_noted.specs.Row.{NONE}
+use Rattle.questions_rows.specs.Row.{rowOf}
 use Rattle.questions_places.specs.Place.{COMMON-SECTION, DATA-SECTION, shapeOf}
-use Rattle.questions.specs.Ask.{sectionIn, InShape, noLine, noColumn, valueRefusal, valueBy, valueAsked}
-use Rattle.questions.specs.Ask.{columnRefusal, headingBy, headingAsked, unitBy, unitAsked}
-use Rattle.questions.proofs.Refusals.{value-inside, column-inside}
+use Rattle.questions_refusals.specs.Refused.{sectionIn, InShape, noLine, noColumn, valueRefusal, columnRefusal}
+use Rattle.questions_answers.specs.Answers.{valueBy, headingBy, unitBy}
+use Rattle.questions.specs.Ask.{valueAsked, headingAsked, unitAsked}
+use Rattle.questions_answers.proofs.Parts.{part-number}
+use Rattle.questions_refusals.proofs.InOrder.{value-inside, column-inside}
 use Rattle.questions_rows.proofs.RowChanges.{common, table}
 use Rattle.inside.specs.Inside.{OpensSection, InsideColumn, InsideValue, linesAnnounced}
 use Rattle.inside.specs.Asked.{ValueInside, HeadingInside, UnitInside, AnsweredSaid, AnsweredTen}
 use Rattle.inside.proofs.TableLaid.{linesOf}
 use Rattle.inside.proofs.RowFound.{Opening}
 use Rattle.inside.proofs.TextLaid.{row-opening}
-use Rattle.inside.proofs.Answered.{sectionNo, sectionOf, shape-columns, shape-lines}
-use Rattle.inside.proofs.Answered.{value-answered, heading-answered, unit-answered}
-use Rattle.inside.proofs.NotRefused.{answer-number, part-number, asked-of}
+use Rattle.inside.proofs.Answered.{sectionNo, sectionOf, shape-columns, shape-lines, value-answered}
+use Rattle.inside.proofs.Answered.{heading-answered, unit-answered}
+use Rattle.inside.proofs.NotRefused.{asked-of}
 
 -- ---- the section that is asked for: DATA where b is true, else COMMON
 
@@ -44,9 +48,10 @@ section-named s n section accepted = by-tests (eqb section COMMON-SECTION) refl 
     by-tests false p true u some = (true, (eqb-true section DATA-SECTION u, row-opening s n accepted table some))
     by-tests false p false u some = absurd (some refl)
 
-opens-of : (s : List ℕ) (n : ℕ) (b : Bool) (a : ℕ) → Opening s n (sectionOf b) a → OpensSection s n (sectionNo b) a
-opens-of s n true a o = record { there = o .there; role = o .role; subentry = o .subentry }
-opens-of s n false a o = record { there = o .there; role = o .role; subentry = o .subentry }
+pub opens-of : (s : List ℕ) (n : ℕ) (b : Bool) (a : ℕ) → Opening s n (sectionOf b) a
+    → OpensSection s n (sectionNo b) a
+opens-of s n true a o = o
+opens-of s n false a o = o
 
 pub lines-same : (b : Bool) (r : List ℕ) → linesAnnounced (sectionNo b) r ≡ linesOf b (fieldsOf r)
 lines-same true r = refl

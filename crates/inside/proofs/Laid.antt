@@ -20,17 +20,18 @@ use Rattle.rules_state.specs.declared.state.Phase.the-variants.{InCommon, InDat
 use Rattle.rules_state.specs.declared.state.Table.{Table}
 use Rattle.rules_state.specs.declared.state.Track.{Track}
 use Rattle.rules_state.specs.State.{Context, HEADINGS, UNITS, VALUES}
-use Rattle.rules_state.specs.Role.{COMMON-HEADING, COMMON-UNIT, COMMON-VALUE, DATA-HEADING, DATA-UNIT, DATA-VALUE}
-use Rattle.rules_state.specs.Role.{NOT-DUE}
+use Rattle.rules_roles.specs.Roles.{COMMON-HEADING, COMMON-UNIT, COMMON-VALUE, DATA-HEADING, DATA-UNIT, DATA-VALUE}
+use Rattle.rules_roles.specs.Roles.{NOT-DUE}
 use Rattle.rules_state.specs.Role.{allRead, tableRole, roleIn}
-use Rattle.rules_section.specs.Values.{valuesFor}
-use Rattle.entry_counted.specs.Counted.{headingsRead, unitsRead, valuesRead, afterInside, trackAfter}
+use Rattle.rules_values.specs.Values.{valuesFor}
+use Rattle.entry_tally.specs.Tally.{headingsRead, unitsRead, valuesRead}
+use Rattle.entry_counted.specs.Counted.{afterInside, trackAfter}
 use Rattle.entry_next.specs.Due.{phaseAfter}
 use Rattle.entry_next.specs.Next.{contextAfter}
-use Rattle.entry.specs.Verdict.{roleOf, turnOf}
+use Rattle.entry_judging.specs.Judging.{roleOf, turnOf}
 use Rattle.rules.proofs.DueRecords.{fine-due}
 use Rattle.entry.proofs.GoingOn.{go-fine}
-use Rattle.entry.specs.Contexts.{behind}
+use Rattle.entry_judging.specs.Contexts.{behind}
 
 -- ---- the two sections alike: DATA where b is true, else COMMON
 

@@ -1,4 +1,3 @@
-pub mod Contexts
 pub mod Laid
 pub mod TableLaid
 pub mod Nesting

@@ -20,15 +20,16 @@ use Rattle.rules_state.specs.declared.state.Phase.the-variants.{Start, Opened, 
 use Rattle.rules_state.specs.declared.state.Phase.the-variants.{AfterCommon, InData, AfterData, Between, Done}
 use Rattle.rules_state.specs.declared.state.Track.{Track}
 use Rattle.rules_state.specs.State.{Context, HEADINGS, UNITS}
-use Rattle.rules_state.specs.Role.{TEXT, NOT-DUE, isSystem, opensSubentry, isHeading, isUnit, isValue, bibRole, allRead}
-use Rattle.rules_state.specs.Role.{tableRole, dataRole, roleIn}
+use Rattle.rules_roles.specs.Roles.{TEXT, NOT-DUE, isSystem, opensSubentry, isHeading, isUnit, isValue}
+use Rattle.rules_state.specs.Role.{bibRole, allRead, tableRole, dataRole, roleIn}
 use Rattle.rules_system.specs.System.{numberDue}
 use Rattle.rules.proofs.DueRecords.{fine-due, fine-number}
 use Rattle.rules_state.proofs.EitherWay.{either-way}
 use Rattle.entry_next.specs.Due.{phaseAfter}
-use Rattle.entry_counted.specs.Counted.{textRead, afterSystem, afterInside, trackAfter}
+use Rattle.entry_tally.specs.Tally.{textRead}
+use Rattle.entry_counted.specs.Counted.{afterSystem, afterInside, trackAfter}
 use Rattle.entry_next.specs.Next.{contextAfter}
-use Rattle.entry.specs.Verdict.{roleOf, turnOf}
+use Rattle.entry_judging.specs.Judging.{roleOf, turnOf}
 use Rattle.entry.proofs.GoingOn.{go-fine}
 
 -- ---- ranks

@@ -1,5 +1,5 @@
--- What an answer's number says: that of the first refusal, and 0 only where the entry is accepted and the row of the
--- subentry names the section.
+-- What an answer's number says: 0 only where the entry is accepted and the row of the subentry names the section; and
+-- what then stands beside it.
 -- Assumes nothing.
 use Prim.Native.Nat.{ℕ, _+_, _≤_}
 use mathlib.Core.Path.{_≡_, refl, sym, _∙_}
@@ -10,26 +10,16 @@ use lib.Dec.{eqb, leb}
 use lib.ListN.{length}
 use borrow.Author.Tests.{eqb-true, eqb-false}
 use Rattle.columns.specs.declared.columns.RecordNo.{RecordNo}
-use Rattle.entry.specs.declared.verdict.Verdict.{Verdict}
-use Rattle.entry.specs.declared.answer.Answer.{Answer}
-use Rattle.entry.specs.Verdict.{judgeOf, Accepted}
-use Rattle.entry.specs.Answer.{Refusal, refusal, firstOf, isRefused, answerOf, answerFor}
-use Rattle.questions_rows.specs.declared.row.Row.{Row}
-use Rattle.questions.specs.declared.ask.PartAnswer.{PartAnswer}
-use Rattle.questions.specs.Ask.{isSubent, noSection, sectionRefusals, noPart, partWith}
+use Rattle.entry_verdict.specs.declared.verdict.Verdict.{Verdict}
+use Rattle.entry_judging.specs.Judging.{judgeOf, Accepted}
+use Rattle.entry_verdict.specs.Answer.{Refusal, refusal, firstOf, isRefused, answerOf, answerFor}
+use Rattle.entry_verdict.proofs.Answers.{answer-number}
+use Rattle.questions_noted.specs.declared.row.Row.{Row}
+use Rattle.questions_answers.specs.declared.answers.PartAnswer.{PartAnswer}
+use Rattle.questions_refusals.specs.Refused.{isSubent, noSection, sectionRefusals}
+use Rattle.questions_answers.specs.Answers.{noPart, partWith}
 
--- ---- the number beside an answer is that of the first refusal
-
-abbrev answered : Verdict → ℕ → Bool → Answer
-answered v number b =
-    cond b (record { number = 31; refusal = v .refusal; «record» = v .«record»; column = v .column }) (answerOf number)
-
-pub answer-number : (v : Verdict) (number : ℕ) → answerFor v number .number ≡ number
-answer-number v number = by-test (eqb number 31) refl
-  where
-    by-test : (b : Bool) → eqb number 31 ≡ b → answered v number b .number ≡ number
-    by-test true e = sym (eqb-true number 31 e)
-    by-test false e = refl
+-- ---- a part that is handed back, or not
 
 module _ (s : List ℕ) (v : Verdict) (number from bytes pointer : ℕ) where
   abbrev part : Bool → Bool → PartAnswer
@@ -37,14 +27,6 @@ module _ (s : List ℕ) (v : Verdict) (number from bytes pointer : ℕ) where
       cond b
       (cond c (record { answer = answerOf 0; first = from; length = bytes; pointer = pointer }) (noPart (answerOf 0)))
       (noPart (answerFor v number))
-
-  pub part-number : partWith s v number from bytes pointer .answer .number ≡ number
-  part-number = by-tests (eqb number 0) refl (leb (from + bytes) (length s))
-    where
-      by-tests : (b : Bool) → eqb number 0 ≡ b → (c : Bool) → part b c .answer .number ≡ number
-      by-tests true e true = sym (eqb-true number 0 e)
-      by-tests true e false = sym (eqb-true number 0 e)
-      by-tests false e c = answer-number v number
 
   -- "zeros with any other answer"
   pub part-zeros : partWith s v number from bytes pointer .answer .number ≡ 0
@@ -68,16 +50,6 @@ module _ (s : List ℕ) (v : Verdict) (number from bytes pointer : ℕ) where
       by-tests true true e h = (refl, refl)
       by-tests true false e h = absurd (omega arith)
       by-tests false c e h = absurd (omega arith)
-
-  -- one that has bytes has its pointer
-  pub part-pointer : 1 ≤ partWith s v number from bytes pointer .length
-      → partWith s v number from bytes pointer .pointer ≡ pointer
-  part-pointer = by-tests (eqb number 0) (leb (from + bytes) (length s))
-    where
-      by-tests : (b c : Bool) → 1 ≤ part b c .length → part b c .pointer ≡ pointer
-      by-tests true true h = refl
-      by-tests true false h = absurd (omega arith)
-      by-tests false c h = absurd (omega arith)
 
 -- ---- a question that is not refused
 

@@ -17,20 +17,20 @@ use Rattle.record_words.specs.Word.{equalTo, pointerOf}
 use Rattle.columns.specs.declared.columns.RecordNo.{RecordNo}
 use Rattle.record_words.proofs.EqualColumns.{equal-both, equal-taken}
 use Rattle.rules_text.specs.Text.{placeInPart}
-use Rattle.entry.specs.Verdict.{judgeOf, Accepted}
-use Rattle.entry.specs.Answer.{firstOf, refusal}
-use Rattle.questions_rows.specs.declared.row.Row.{Row}
+use Rattle.entry_judging.specs.Judging.{judgeOf, Accepted}
+use Rattle.entry_verdict.specs.Answer.{firstOf, refusal}
+use Rattle.questions_noted.specs.declared.row.Row.{Row}
 use Rattle.questions_places.specs.declared.passage.Passage.{Passage}
 use Rattle.questions_rows.specs.Row.{rowOf}
 use Rattle.questions_places.specs.Place.{firstByte}
-use Rattle.questions_places.specs.Passage.{textRecord, textAt, hasKeyword, isKeyword, begins, beginsWith}
-use Rattle.questions_places.specs.Passage.{firstText, passageUnder, passageOf}
-use Rattle.questions.specs.Ask.{noSection, noPassage, sectionRefusals, passageRefusal, passageBy}
+use Rattle.questions_places.specs.Passage.{textRecord, textAt, hasKeyword, isKeyword, begins, beginsWith, firstText}
+use Rattle.questions_places.specs.Passage.{passageUnder, passageOf}
+use Rattle.questions_refusals.specs.Refused.{noSection, noPassage, sectionRefusals, passageRefusal}
+use Rattle.questions_answers.specs.Answers.{passageBy}
 use Rattle.questions.specs.Ask.{passageAsked}
-use Rattle.questions.proofs.Refusals.{section-none}
+use Rattle.questions_refusals.proofs.InOrder.{section-none}
 use Rattle.questions_rows.proofs.RowChanges.{bib}
-use Rattle.inside.specs.Inside.{TextOf, InsidePassage, RunFrom, PassageAnswered}
-use Rattle.inside.specs.Inside.{BegunInside, OnePassage}
+use Rattle.inside.specs.Inside.{TextOf, InsidePassage, RunFrom, PassageAnswered, BegunInside, OnePassage}
 use Rattle.inside.proofs.RecordsFrom.{place-field}
 use Rattle.inside.proofs.RowWalked.{fields-at}
 use Rattle.inside.proofs.RowFound.{Opening, row-names, row-subent}

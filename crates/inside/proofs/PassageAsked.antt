@@ -15,19 +15,22 @@ use Rattle.laws.proofs.Counting.{first-before, first-holds}
 use Rattle.columns.specs.declared.columns.RecordNo.{RecordNo}
 use Rattle.record_words.specs.Word.{equalTo}
 use Rattle.rules_text.specs.Text.{placeInPart}
-use Rattle.entry.specs.Verdict.{judgeOf, Accepted}
+use Rattle.entry_judging.specs.Judging.{judgeOf, Accepted}
 use Rattle.questions_rows.specs.Row.{rowOf}
 use Rattle.questions_places.specs.declared.passage.Passage.{Passage}
 use Rattle.questions_places.specs.Passage.{textRecords, textRecord, textAt, hasKeyword, isKeyword, begins, beginsWith}
 use Rattle.questions_places.specs.Passage.{firstText, NO-PASSAGE, passageUnder, passageOf}
-use Rattle.entry.specs.Answer.{refusal}
-use Rattle.questions.specs.Ask.{noPassage, passageRefusal, passageBy, passageAsked}
+use Rattle.entry_verdict.specs.Answer.{refusal}
+use Rattle.questions_refusals.specs.Refused.{noPassage, passageRefusal}
+use Rattle.questions_answers.specs.Answers.{passageBy}
+use Rattle.questions.specs.Ask.{passageAsked}
+use Rattle.questions_answers.proofs.Parts.{part-number}
 use Rattle.inside.specs.Inside.{TextOf, InsidePassage}
 use Rattle.inside.proofs.RecordsFrom.{place-field}
 use Rattle.inside.proofs.RowWalked.{fields-at}
 use Rattle.inside.proofs.TextLaid.{row-texts}
 use Rattle.inside.specs.Asked.{PassageInside}
-use Rattle.inside.proofs.NotRefused.{part-number, asked-of, last-none}
+use Rattle.inside.proofs.NotRefused.{asked-of, last-none}
 
 module _ (s : List ℕ) (n : ℕ) (keyword : List ℕ) (pointer : ℕ) where
   abbrev bib : RecordNo

@@ -20,25 +20,25 @@ use Rattle.columns.specs.declared.columns.RecordNo.{RecordNo}
 use Rattle.columns.proofs.ReadColumns.{field-of}
 use Rattle.columns.proofs.TablePlaces.{place-at, place-field}
 use Rattle.record_words.specs.Word.{pointerOf}
-use Rattle.rules_state.specs.Role.{COMMON-HEADING, COMMON-UNIT, COMMON-VALUE, DATA-HEADING, DATA-UNIT, DATA-VALUE}
-use Rattle.rules_system.specs.System.{countN1}
-use Rattle.entry.specs.Verdict.{judgeOf, Accepted}
-use Rattle.entry.specs.Contexts.{contextAt, roleAt}
+use Rattle.rules_roles.specs.Roles.{COMMON-HEADING, COMMON-UNIT, COMMON-VALUE, DATA-HEADING, DATA-UNIT, DATA-VALUE}
+use Rattle.rules_counts.specs.Counts.{countN1}
+use Rattle.entry_judging.specs.Judging.{judgeOf, Accepted}
+use Rattle.entry_judging.specs.Contexts.{contextAt, roleAt}
 use Rattle.questions_rows.specs.Row.{rowOf}
 use Rattle.questions_places.specs.declared.place.Shape.{Shape}
 use Rattle.questions_places.specs.Place.{shapeOf, headingPlace, unitPlace, fieldOf, byteOf}
-use Rattle.questions.specs.Ask.{sectionIn, valueRefusal, valueBy, valueAsked, columnRefusal, headingBy, headingAsked}
-use Rattle.questions.specs.Ask.{unitBy}
-use Rattle.questions.specs.Ask.{unitAsked}
+use Rattle.questions_refusals.specs.Refused.{sectionIn, valueRefusal, columnRefusal}
+use Rattle.questions_answers.specs.Answers.{valueBy, headingBy, unitBy}
+use Rattle.questions.specs.Ask.{valueAsked, headingAsked, unitAsked}
 use Rattle.inside.specs.Placed.{cellAt, Cell, inSection, ValueAt, ValuePlaced, HeadingAt, HeadingPlaced, UnitAt}
 use Rattle.inside.specs.Placed.{UnitPlaced}
-use Rattle.inside.proofs.Contexts.{walked}
+use Rattle.entry.proofs.AcceptedWalk.{walked}
 use Rattle.inside.proofs.Laid.{Laid, rowRole}
 use Rattle.inside.proofs.TableLaid.{table-laid, linesOf}
 use Rattle.inside.proofs.RowFound.{Opening}
 use Rattle.inside.proofs.RowWalked.{fields-at}
-use Rattle.inside.proofs.Answered.{sectionNo, sectionOf, which, begun, at-record, shape-columns}
-use Rattle.inside.proofs.Answered.{value-answered, heading-answered, unit-answered}
+use Rattle.inside.proofs.Answered.{sectionNo, sectionOf, which, begun, at-record, shape-columns, value-answered}
+use Rattle.inside.proofs.Answered.{heading-answered, unit-answered}
 use Rattle.inside.proofs.NotRefused.{part-there}
 use Rattle.inside.proofs.Asked.{lines-same, value-not-refused}
 

@@ -23,18 +23,20 @@ use Rattle.rules_state.specs.declared.state.Phase.the-variants.{Start, Opened, 
 use Rattle.rules_state.specs.declared.state.Phase.the-variants.{AfterCommon, InData, AfterData, Between, Done}
 use Rattle.rules_state.specs.declared.state.Track.{Track}
 use Rattle.rules_state.specs.State.{Context, HEADINGS, UNITS}
-use Rattle.rules_state.specs.Role.{opensSubentry, bibRole, allRead, tableRole, dataRole, roleIn}
+use Rattle.rules_roles.specs.Roles.{opensSubentry}
+use Rattle.rules_state.specs.Role.{bibRole, allRead, tableRole, dataRole, roleIn}
 use Rattle.rules_state.proofs.EitherWay.{either-way}
 use Rattle.entry_next.specs.Due.{phaseAfter}
-use Rattle.entry.specs.Verdict.{Accepted}
-use Rattle.entry.specs.Contexts.{contextAt, roleAt}
+use Rattle.entry_judging.specs.Judging.{Accepted}
+use Rattle.entry_judging.specs.Contexts.{contextAt, roleAt}
 use Rattle.entry.proofs.Contexts.{records-at}
 use Rattle.questions_rows.specs.Row.{rowAt, rowOf}
 use Rattle.questions_places.specs.Place.{fieldsAt, identifierAt}
 use Rattle.questions_rows.proofs.RowChanges.{Section, bib, common, table, opener, named, level, first-stays, first-set}
 use Rattle.questions_rows.proofs.RowChanges.{section-stays, section-set}
 use Rattle.questions_rows.proofs.RowNoted.{found-row}
-use Rattle.inside.proofs.Contexts.{Walked, walked}
+use Rattle.inside.specs.Inside.{RecordOf}
+use Rattle.entry.proofs.AcceptedWalk.{Walked, walked}
 use Rattle.inside.proofs.Nesting.{rank, Unnumbered, unnumbered-turn, key, Nested, nested-turn}
 use Rattle.inside.proofs.RowWalked.{number-of, row-next, fields-at}
 
@@ -256,10 +258,8 @@ module _ (s : List ℕ) (n : ℕ) (w : Walked s n) (fits : n * 81 ≤ length s) 
 -- ---- in an accepted entry
 
 -- a record that opens the section k of a subentry
-pub record Opening (s : List ℕ) (number : ℕ) (k : Section) (a : ℕ) : Type 0 where
-  pub there : a < length s / 81
-  pub role : roleAt s a ≡ opener k
-  pub subentry : contextAt s a .track .subentry .number ≡ number
+abbrev pub Opening : List ℕ → ℕ → Section → ℕ → Type 0
+Opening s number k a = RecordOf s number (opener k) a
 
 module _ (s : List ℕ) (accepted : Accepted s) (number : ℕ) (k : Section) (a : ℕ) (o : Opening s number k a) where
   abbrev n : ℕ

@@ -9,8 +9,8 @@ use borrow.Author.Tests.{ne-eqb, le-leb}
 use Rattle.laws.specs.Blocks.{blockAt}
 use Rattle.columns.specs.Fields.{fieldsOf}
 use Rattle.columns.specs.declared.columns.RecordNo.{RecordNo}
-use Rattle.entry.specs.Verdict.{roleOf}
-use Rattle.entry.specs.Contexts.{contextAt, roleAt}
+use Rattle.entry_judging.specs.Judging.{roleOf}
+use Rattle.entry_judging.specs.Contexts.{contextAt, roleAt}
 use Rattle.questions_rows.specs.Row.{notedAs, rowAt}
 use Rattle.questions_places.specs.Place.{fieldsAt}
 use Rattle.questions_rows.proofs.RowChanges.{number-stays}

@@ -14,16 +14,18 @@ use Rattle.columns.specs.Columns.{recordsFor}
 use Rattle.columns.specs.Fields.{fieldsOf}
 use Rattle.record.specs.Identifier.{COMMON, DATA}
 use Rattle.rules_state.specs.declared.state.Phase.{Phase}
-use Rattle.rules_state.specs.State.{Context, MOST-COLUMNS, MOST-LINES}
-use Rattle.rules_system.specs.System.{countN1, countN2}
+use Rattle.rules_state.specs.State.{Context}
+use Rattle.rules_state.specs.Limits.{MOST-COLUMNS, MOST-LINES}
+use Rattle.rules_counts.specs.Counts.{countN1, countN2}
 use Rattle.rules.proofs.DueRecords.{fine-common, fine-data}
 use Rattle.entry_next.specs.Due.{phaseAfter}
 use Rattle.entry_counted.specs.Counted.{afterSystem, trackAfter}
 use Rattle.entry_next.specs.Next.{contextAfter}
-use Rattle.entry.specs.Verdict.{roleOf, isDone}
+use Rattle.entry_judging.specs.Judging.{roleOf}
+use Rattle.entry_verdict.specs.Verdict.{isDone}
 use Rattle.entry.proofs.GoingOn.{go-fine}
-use Rattle.entry.specs.Contexts.{contextAt, roleAt}
-use Rattle.inside.proofs.Contexts.{Walked}
+use Rattle.entry_judging.specs.Contexts.{contextAt, roleAt}
+use Rattle.entry.proofs.AcceptedWalk.{Walked}
 use Rattle.inside.proofs.Laid.{phaseIn, rowRole, lineOf, Laid, laid-role, laid-on, laid-over}
 
 -- the last row that is read has the last line

@@ -2,7 +2,7 @@
 -- must stand there"): as many as the BIB record announces, each a text record of the same subentry. And the BIB record
 -- that a row names is one of that subentry.
 -- Assumes nothing.
-use Prim.Native.Nat.{ℕ, zero, suc, _+_, _*_, _-_, _/_, _<_, _≤_}
+use Prim.Native.Nat.{ℕ, zero, suc, _+_, _-_, _/_, _<_, _≤_}
 use mathlib.Core.Path.{_≡_, refl, sym, _∙_}
 use mathlib.Core.Bool.{Bool, true, false, cond}
 use mathlib.Core.List.{List, []}
@@ -11,8 +11,7 @@ use lib.Dec.{eqb}
 use lib.ListN.{length, getD}
 use borrow.Author.Tests.{eqb-true, eqb-false, ne-eqb, le-leb}
 use Rattle.laws.specs.Turns.{go}
-use Rattle.laws.specs.Walk.{walk}
-use Rattle.laws.specs.Blocks.{blocks, blockAt}
+use Rattle.laws.specs.Blocks.{blockAt}
 use Rattle.laws.proofs.Search.{either}
 use Rattle.laws.proofs.Booleans.{either-as}
 use Rattle.columns.specs.Fields.{fieldsOf}
@@ -22,25 +21,30 @@ use Rattle.columns.specs.declared.columns.RecordNo.{RecordNo}
 use Rattle.rules_state.specs.declared.state.Phase.{Phase}
 use Rattle.rules_state.specs.declared.state.Phase.the-variants.{InBib}
 use Rattle.rules_state.specs.declared.state.Track.{Track}
-use Rattle.rules_state.specs.State.{Context, startContext, MOST-RECORDS}
-use Rattle.rules_system.specs.System.{countN2}
-use Rattle.rules_state.specs.Role.{TEXT, NOT-DUE, isValue, bibRole, roleIn}
+use Rattle.rules_state.specs.State.{Context}
+use Rattle.rules_state.specs.Limits.{MOST-RECORDS}
+use Rattle.rules_counts.specs.Counts.{countN2}
+use Rattle.rules_roles.specs.Roles.{TEXT, NOT-DUE, isValue}
+use Rattle.rules_state.specs.Role.{bibRole, roleIn}
 use Rattle.rules.proofs.DueRecords.{fine-due}
 use Rattle.entry_next.specs.Due.{phaseAfter}
-use Rattle.entry_counted.specs.Counted.{textRead, afterSystem, afterInside, trackAfter}
+use Rattle.entry_tally.specs.Tally.{textRead}
+use Rattle.entry_counted.specs.Counted.{afterSystem, afterInside, trackAfter}
 use Rattle.entry_next.specs.Next.{contextAfter}
-use Rattle.entry.specs.Verdict.{roleOf, isDone, turnOf, endOf, lengthGood, judgeOf, refused, Accepted}
+use Rattle.entry_judging.specs.Judging.{roleOf, turnOf, Accepted}
+use Rattle.entry_verdict.specs.Verdict.{isDone}
 use Rattle.entry.proofs.GoingOn.{go-fine}
-use Rattle.entry.proofs.Numbered.{whole-records}
-use Rattle.entry.specs.Contexts.{behind, contextAt, roleAt}
+use Rattle.entry_step.proofs.Numbered.{whole-records}
+use Rattle.entry_step.proofs.Walking.{accepted-good}
+use Rattle.entry_judging.specs.Contexts.{behind, contextAt, roleAt}
 use Rattle.entry.proofs.Contexts.{records-at}
-use Rattle.questions_rows.specs.declared.row.Row.{Row}
-use Rattle.questions_rows.specs.Row.{NONE, notedAs, rowAt, rowOf}
+use Rattle.questions_noted.specs.declared.row.Row.{Row}
+use Rattle.questions_rows.specs.Row.{notedAs, rowAt, rowOf}
 use Rattle.questions_places.specs.Passage.{textRecords}
 use Rattle.questions_rows.proofs.RowChanges.{Section, bib, common, table, opener, named, section-stays, section-set}
 use Rattle.questions_rows.proofs.RowNoted.{found-row}
 use Rattle.inside.specs.Inside.{TextOf}
-use Rattle.inside.proofs.Contexts.{walked}
+use Rattle.entry.proofs.AcceptedWalk.{walked}
 use Rattle.inside.proofs.RowWalked.{number-of, row-next}
 use Rattle.inside.proofs.RowFound.{Opening, row-fields}
 
@@ -166,24 +170,13 @@ module _ (s : List ℕ) (accepted : Accepted s) (n a : ℕ) (o : Opening s n bib
         subentry = y .subentry;
       }
 
--- an accepted entry has whole records, 20,000 at most
-pub records-whole : (s : List ℕ) → Accepted s → (length s ≡ length s / 81 * 81) × (length s / 81 ≤ MOST-RECORDS)
-unfolding judgeOf
-records-whole s accepted = by-test (lengthGood (length s)) refl accepted
-  where
-    by-test : (t : Bool) → lengthGood (length s) ≡ t
-        → cond t (walk turnOf endOf startContext 0 (blocks 81 (length s / 81) s)) (refused 1 NONE 0) .refusal ≡ 0
-        → (length s ≡ length s / 81 * 81) × (length s / 81 ≤ MOST-RECORDS)
-    by-test true e h = whole-records (length s) e
-    by-test false e h = absurd (omega arith)
-
 -- the text records of the section, by the row of the subentry, are those that its own record announces
 pub texts-number : (s : List ℕ) (accepted : Accepted s) (n a : ℕ) → Opening s n bib a
     → textRecords s (rowOf s n .bib) ≡ textsOf s a
 unfolding textRecords
 texts-number s accepted n a o =
     let l = texts-there s accepted n a o in
-    let few = records-whole s accepted .1 in
+    let few = whole-records (length s) (accepted-good s accepted) .1 in
     rw (row-fields s accepted n bib a o, le-leb (textsOf s a) MOST-RECORDS (omega arith))
 
 -- ---- the section's record that a row names

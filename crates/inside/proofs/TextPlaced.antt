@@ -13,13 +13,14 @@ use Rattle.laws.proofs.Booleans.{differ, either-as}
 use Rattle.columns.specs.Fields.{fieldsOf}
 use Rattle.record.specs.Identifier.{BIB, ENDBIB, OTHER, identifierOf}
 use Rattle.rules_state.specs.State.{Context}
-use Rattle.rules_state.specs.Role.{TEXT, NOT-DUE, only, bibRole, roleIn}
+use Rattle.rules_roles.specs.Roles.{TEXT, NOT-DUE}
+use Rattle.rules_state.specs.Role.{only, bibRole, roleIn}
 use Rattle.rules_state.proofs.RolePlaces.{inBib, text-in-bib}
 use Rattle.entry_next.specs.Due.{phaseAfter}
 use Rattle.entry_next.specs.Next.{contextAfter}
 use Rattle.entry_next.proofs.Following.{bib-led, one-of}
-use Rattle.entry.specs.Verdict.{Accepted}
-use Rattle.entry.specs.Contexts.{contextAt, roleAt}
+use Rattle.entry_judging.specs.Judging.{Accepted}
+use Rattle.entry_judging.specs.Contexts.{contextAt, roleAt}
 use Rattle.questions_rows.proofs.RowChanges.{bib}
 use Rattle.inside.specs.Inside.{TextOf}
 use Rattle.inside.proofs.RowFound.{Opening, row-names}

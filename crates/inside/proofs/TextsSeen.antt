@@ -18,27 +18,27 @@ use Rattle.columns.specs.Fields.{fieldsOf}
 use Rattle.record.specs.Identifier.{BIB}
 use Rattle.columns.specs.Text.{isBlank}
 use Rattle.record_words.specs.Word.{blankTo, equalTo, isWord, pointerOf, badPointer}
-use Rattle.rules_state.specs.declared.fault.Fault.the-variants.{Fine}
+use Rattle.rules_roles.specs.declared.fault.Fault.the-variants.{Fine}
 use Rattle.rules_state.specs.declared.state.Track.{Track}
 use Rattle.rules_state.specs.State.{Seen, Context}
-use Rattle.rules_state.specs.Role.{TEXT}
-use Rattle.rules_text.specs.Text.{placeInPart, placesOf, pointersOf, keywordFault, rule10, pointerRepeated}
-use Rattle.rules_text.specs.Text.{rule11Text}
+use Rattle.rules_roles.specs.Roles.{TEXT}
+use Rattle.rules_text.specs.Text.{placeInPart, placesOf, pointersOf, keywordFault, rule10, pointerRepeated, rule11Text}
 use Rattle.rules.specs.Order.{faultOf}
 use Rattle.rules.specs.Clean.{Clean}
 use Rattle.rules.proofs.NoColumns.{when-none}
 use Rattle.rules.proofs.Clean.{fine-clean}
 use Rattle.entry_next.specs.Parts.{partAfter, bibChange, underChange, seenAfter}
 use Rattle.entry_next.specs.Next.{contextAfter}
-use Rattle.entry.specs.Verdict.{roleOf, Accepted}
+use Rattle.entry_judging.specs.Judging.{roleOf, Accepted}
 use Rattle.entry.proofs.GoingOn.{go-fine}
-use Rattle.entry.specs.Contexts.{behind, contextAt, roleAt}
+use Rattle.entry_judging.specs.Contexts.{behind, contextAt, roleAt}
 use Rattle.questions_places.specs.Passage.{hasKeyword}
 use Rattle.questions_rows.proofs.RowChanges.{bib}
 use Rattle.inside.specs.Inside.{TextOf, Under}
-use Rattle.inside.proofs.Contexts.{walked, context-next}
-use Rattle.inside.proofs.RecordsFrom.{place-field, recordsFrom, records-none, records-next}
-use Rattle.inside.proofs.RecordsFrom.{not-among, not-pointed}
+use Rattle.entry.proofs.AcceptedWalk.{walked}
+use Rattle.entry.proofs.Contexts.{context-after}
+use Rattle.inside.proofs.RecordsFrom.{place-field, recordsFrom, records-none, records-next, not-among}
+use Rattle.inside.proofs.RecordsFrom.{not-pointed}
 use Rattle.inside.proofs.RowFound.{Opening}
 use Rattle.inside.proofs.TextLaid.{textsOf, texts-stand, text-laid}
 use Rattle.inside.proofs.TextPlaced.{text-placed, text-behind, texts-between}
@@ -46,21 +46,26 @@ use Rattle.inside.proofs.TextPlaced.{text-placed, text-behind, texts-be
 -- ---- what a text record adds
 
 module _ (c : Context) (r : List ℕ) (role : roleOf c r ≡ TEXT) (f : List ℕ) (own : getD (fieldsOf r) 0 [] ≡ f) where
-  bib-joined : behind c r .seen .bib ≡ c .seen .bib ++ r
+  pub bib-joined : behind c r .seen .bib ≡ c .seen .bib ++ r
   unfolding contextAfter seenAfter partAfter bibChange
   bib-joined = rw role
 
-  under-begun : blankTo 10 f ≡ false → behind c r .seen .under ≡ r
+  pub under-begun : blankTo 10 f ≡ false → behind c r .seen .under ≡ r
   unfolding contextAfter seenAfter partAfter underChange
   under-begun e = rw (role, own, e)
 
-  under-joined : blankTo 10 f ≡ true → behind c r .seen .under ≡ c .seen .under ++ r
+  pub under-joined : blankTo 10 f ≡ true → behind c r .seen .under ≡ c .seen .under ++ r
   unfolding contextAfter seenAfter partAfter underChange
   under-joined e = rw (role, own, e)
 
-bib-emptied : (c : Context) (r : List ℕ) → roleOf c r ≡ BIB → behind c r .seen .bib ≡ []
+-- and BIB takes away
+pub bib-emptied : (c : Context) (r : List ℕ) → roleOf c r ≡ BIB → behind c r .seen .bib ≡ []
 unfolding contextAfter seenAfter partAfter bibChange
 bib-emptied c r role = rw role
+
+pub under-emptied : (c : Context) (r : List ℕ) → roleOf c r ≡ BIB → behind c r .seen .under ≡ []
+unfolding contextAfter seenAfter partAfter underChange
+under-emptied c r role = rw role
 
 -- ---- rules 10 and 11 on a record without fault
 
@@ -114,12 +119,12 @@ module _ (s : List ℕ) (accepted : Accepted s) where
       → contextAt s (suc a + m) .seen .bib ≡ recordsFrom s (suc a) m
   bib-seen n a o zero h =
       let e : suc a + 0 ≡ suc a = omega arith in
-      rw (e, context-next s a, records-none s (suc a)) (bib-emptied (contextAt s a) (blockAt 81 s a) (o .role))
+      rw (e, context-after s a, records-none s (suc a)) (bib-emptied (contextAt s a) (blockAt 81 s a) (o .role))
   bib-seen n a o (suc m) h =
       let i = suc a + m in
       let e : suc a + suc m ≡ suc i = omega arith in
       let t = text-laid s accepted n a o m (omega arith) in
-      rw (e, context-next s i)
+      rw (e, context-after s i)
       (bib-joined (contextAt s i) (blockAt 81 s i) (t .role) (placeInPart s i) (place-field s i)
       ∙ ap (λ (x : List ℕ). x ++ blockAt 81 s i) (bib-seen n a o m (omega arith)) ∙ records-next s (suc a) m)
 
@@ -151,7 +156,7 @@ module _ (s : List ℕ) (accepted : Accepted s) where
       → contextAt s (suc k + e) .seen .under ≡ recordsFrom s k (suc e)
   under-seen n k zero t h rest =
       let e : suc k + 0 ≡ suc k = omega arith in
-      rw (e, context-next s k)
+      rw (e, context-after s k)
       (under-begun (contextAt s k) (blockAt 81 s k) (t .role) (placeInPart s k) (place-field s k)
       (not-true (blankTo 10 (placeInPart s k)) h))
   under-seen n k (suc e) t h rest =
@@ -159,7 +164,7 @@ module _ (s : List ℕ) (accepted : Accepted s) where
       let x : suc k + suc e ≡ suc i = omega arith in
       let y : k + suc e ≡ i = omega arith in
       let (u, b) = rest i (omega arith) (omega arith) in
-      rw (x, context-next s i)
+      rw (x, context-after s i)
       (under-joined (contextAt s i) (blockAt 81 s i) (u .role) (placeInPart s i) (place-field s i)
       (not-false (blankTo 10 (placeInPart s i)) b)
       ∙ ap (λ (p : List ℕ). p ++ blockAt 81 s i)

@@ -5,7 +5,7 @@ use mathlib.Core.Path.{_≡_}
 use mathlib.Core.Bool.{true}
 use mathlib.Core.List.{List}
 use Rattle.columns.specs.declared.columns.LineNo.{LineNo}
-use Rattle.entry.specs.Verdict.{Accepted}
+use Rattle.entry_judging.specs.Judging.{Accepted}
 use Rattle.questions.specs.Ask.{valueAsked, headingAsked, unitAsked, passageAsked}
 use Rattle.inside.specs.Inside.{InsideValue, InsideColumn, InsidePassage, isSaid}
 

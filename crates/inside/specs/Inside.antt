@@ -1,8 +1,9 @@
 -- What an entry holds by its own counts: the questions inside its shape.
 --
--- The judge's context before each record says what the record is: its role, its subentry, and in a table its row. From
--- this alone, and from the counts that a section's own record announces, it is said which columns and lines the entry
--- has; how they are found plays no part here.
+-- What a record is, its role, its subentry and in a table its row, is told by the judge's context before it
+-- (`contextAt`, `roleAt`): these definitions rest on that walk. Which columns and lines the entry has is told by the
+-- counts that a section's own record announces; how an answer is found there is not told. The same with no walk, of a
+-- good entry's own tables and BIB sections, is said in `answered_tables`.
 use Prim.Native.Nat.{ℕ, _*_, _-_, _/_, _<_, _≤_}
 use mathlib.Core.Path.{_≡_}
 use mathlib.Core.Bool.{Bool, true, false, cond}
@@ -16,15 +17,23 @@ use Rattle.columns.specs.Fields.{fieldsOf}
 use Rattle.record_words.specs.Word.{equalTo, pointerOf}
 use Rattle.record.specs.Identifier.{COMMON, DATA}
 use Rattle.columns.specs.declared.columns.LineNo.{LineNo}
-use Rattle.rules_system.specs.System.{countN1, countN2}
+use Rattle.rules_counts.specs.Counts.{countN1, countN2}
 use Rattle.rules_text.specs.Text.{placeInPart}
-use Rattle.rules_state.specs.Role.{TEXT, NOT-DUE}
-use Rattle.entry.specs.Verdict.{Accepted}
-use Rattle.entry.specs.Contexts.{contextAt, roleAt}
+use Rattle.rules_roles.specs.Roles.{TEXT, NOT-DUE}
+use Rattle.entry_judging.specs.Judging.{Accepted}
+use Rattle.entry_judging.specs.Contexts.{contextAt, roleAt}
 use Rattle.questions_places.specs.Place.{COMMON-SECTION, DATA-SECTION}
-use Rattle.questions.specs.declared.ask.PartAnswer.{PartAnswer}
+use Rattle.questions_answers.specs.declared.answers.PartAnswer.{PartAnswer}
 use Rattle.questions_places.specs.Passage.{hasKeyword, begins, beginsWith}
 use Rattle.questions.specs.Ask.{valueAsked, headingAsked, unitAsked, passageAsked}
+
+-- ---- a record of a subentry
+
+-- the record with the index i is one of the subentry n, of this kind
+pub record RecordOf (s : List ℕ) (n kind i : ℕ) : Type 0 where
+  pub there : i < length s / 81
+  pub role : roleAt s i ≡ kind
+  pub subentry : contextAt s i .track .subentry .number ≡ n
 
 -- ---- tables
 
@@ -33,10 +42,8 @@ abbrev pub openedBy : ℕ → ℕ
 openedBy section = cond (eqb section COMMON-SECTION) COMMON (cond (eqb section DATA-SECTION) DATA NOT-DUE)
 
 -- the record with the index i opens that section of the subentry n
-pub record OpensSection (s : List ℕ) (n section i : ℕ) : Type 0 where
-  pub there : i < length s / 81
-  pub role : roleAt s i ≡ openedBy section
-  pub subentry : contextAt s i .track .subentry .number ≡ n
+abbrev pub OpensSection : List ℕ → ℕ → ℕ → ℕ → Type 0
+OpensSection s n section i = RecordOf s n (openedBy section) i
 
 -- "columns, 1-18": the columns that a section's own record announces
 pub record InsideColumn (s : List ℕ) (n section column : ℕ) : Type 0 where
@@ -60,10 +67,8 @@ pub record InsideValue (s : List ℕ) (n section : ℕ) (line : LineNo) (column 
 -- ---- text records
 
 -- the record with the index i is a text record of the subentry n
-pub record TextOf (s : List ℕ) (n i : ℕ) : Type 0 where
-  pub there : i < length s / 81
-  pub role : roleAt s i ≡ TEXT
-  pub subentry : contextAt s i .track .subentry .number ≡ n
+abbrev pub TextOf : List ℕ → ℕ → ℕ → Type 0
+TextOf s n i = RecordOf s n TEXT i
 
 -- ---- passages
 

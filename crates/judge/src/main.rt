@@ -1,6 +1,6 @@
 // The judging program: reads an entry of at most 809 records from standard input, and writes refusal, record, column,
 // subentries, keywords, lines and numbers. A longer input is refusal 1, whatever it holds.
-use entry::verdict::judge;
+use entry::judge::judge;
 use program_verdict::say_verdict;
 
 // 809 records, and one byte more, so that a longer input shows.

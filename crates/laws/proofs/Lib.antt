@@ -6,7 +6,6 @@ pub mod Walk
 pub mod Blocks
 pub mod Agree
 pub mod Copies
-pub mod Replacing
 pub mod Bits
 pub mod Promise
 pub mod Booleans

@@ -6,7 +6,7 @@ use mathlib.Core.Path.{_≡_, _∙_, refl, sym}
 use mathlib.Core.Bool.{Bool, true, false, cond}
 use mathlib.Core.List.{List, [], _∷_, _++_}
 use native.Mathlib.Omega.{arith}
-use native.Mathlib.Nat.{add-sub-cancel-left, add-zero, le-of-suc-le-suc, not-suc-le-zero}
+use native.Mathlib.Nat.{add-zero, le-of-suc-le-suc, not-suc-le-zero}
 use lib.ListN.{getD}
 use Rattle.laws.specs.Members.{listOf, joinOf, anyOf}
 use Rattle.laws.proofs.Search.{less}
@@ -15,9 +15,6 @@ use Rattle.laws.proofs.Search.{less}
 pub record Look {A : Type 0} (p : A → Bool) (f : ℕ → A) (whole : Bool) (i e : ℕ) : Type 0 where
   pub low : i ≤ e
   pub rest : whole ≡ anyOf p (listOf f i (e - i))
-
-pub look-run : {A : Type 0} {p : A → Bool} {f : ℕ → A} {i : ℕ} (n : ℕ) → Look p f (anyOf p (listOf f i n)) i (i + n)
-look-run n = record { low = omega arith; rest = rw add-sub-cancel-left }
 
 pub look-all : {A : Type 0} {p : A → Bool} {f : ℕ → A} (n : ℕ) → Look p f (anyOf p (listOf f 0 n)) 0 n
 look-all n = let z : n - 0 ≡ n = omega arith in record { low = omega arith; rest = rw z }
@@ -71,9 +68,6 @@ any-append p (x ∷ a) b = by-test (p x) (anyOf p (a ++ b)) (anyOf p a) (anyOf p
 pub record Join {A : Type 0} (p : A → Bool) (f : ℕ → List A) (whole : Bool) (i e : ℕ) : Type 0 where
   pub low : i ≤ e
   pub rest : whole ≡ anyOf p (joinOf f i (e - i))
-
-pub join-all : {A : Type 0} {p : A → Bool} {f : ℕ → List A} (n : ℕ) → Join p f (anyOf p (joinOf f 0 n)) 0 n
-join-all n = let z : n - 0 ≡ n = omega arith in record { low = omega arith; rest = rw z }
 
 module _ {A : Type 0} {p : A → Bool} {f : ℕ → List A} {whole : Bool} {i e : ℕ} (l : Join p f whole i e) where
   pub join-done : e ≤ i → false ≡ whole

@@ -11,10 +11,6 @@ pub record Run {S R : Type 0} (f : S → ℕ → Turn S R) (end : S → R) (whol
   pub low : i ≤ e
   pub rest : whole ≡ run f end s i (e - i)
 
-pub run-upto : {S R : Type 0} {f : S → ℕ → Turn S R} {end : S → R} {s : S} {i : ℕ} (e : ℕ) → i ≤ e
-    → Run f end (run f end s i (e - i)) s i e
-run-upto e h = record { low = h; rest = refl }
-
 pub run-all : {S R : Type 0} {f : S → ℕ → Turn S R} {end : S → R} {s : S} (n : ℕ) → Run f end (run f end s 0 n) s 0 n
 run-all n = let z : n - 0 ≡ n = omega arith in record { low = omega arith; rest = rw z }
 

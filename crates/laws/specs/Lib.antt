@@ -5,4 +5,3 @@ pub mod Table
 pub mod Walk
 pub mod Blocks
 pub mod Copies
-pub mod Replacing

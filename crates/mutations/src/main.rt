@@ -2,8 +2,8 @@
 // Writes for each refusal number how many cases got it, and a checksum over refusal, record and column of all cases.
 ghost use Prim.Native.Nat.{_<_};
 ghost use lib.ListN.{length};
-use entry::verdict::Verdict;
-use entry::verdict::judge;
+use entry::judge::judge;
+use entry_verdict::verdict::Verdict;
 use program_text::say_line;
 use std::num::wrapping_add_u32;
 

@@ -14,7 +14,7 @@ use Rattle.number.specs.Value.{meaning, Reads, Says, blank, number, malf
 use Rattle.number.specs.Reading.{Lead, finish, readField, readNumber, answer}
 use Rattle.number.specs.Form.{formOf, formRefusal}
 use Rattle.number.specs.Claims.{ValueFound, ValueOne, SpeltOnce, SaysExactly, SaysOnce, ReadsExactly}
-use Rattle.number.specs.Claims.{BlankExactly, ElevenRead, OthersRefused, ReadBoundsEleven}
+use Rattle.number.specs.Claims.{BlankRead, ElevenRead, OthersRefused, ReadBoundsEleven}
 use Rattle.number.proofs.Equation as Equation
 use Rattle.number.proofs.Spelling as Spelling
 use Rattle.number.proofs.Follow as Follow
@@ -59,8 +59,8 @@ pub reads-once : {l : List ℕ} {v w : Decimal} → Reads l v → Reads l w → 
 reads-once x y = let e = Agree.reads-number x in let f = Agree.reads-number y in cc
 
 -- it reads as blank exactly when it is blanks
-pub blank-exactly : BlankExactly
-blank-exactly l = (λ e. by-says (Agree.says l) e, λ b. Agree.said-so (blank b))
+pub blank-read : BlankRead
+blank-read l = (λ e. by-says (Agree.says l) e, λ b. Agree.said-so (blank b))
   where
     by-says : {r : Reading} → Says l r → r ≡ Blank → l ≡ blanks (length l)
     by-says (blank b) e = b

@@ -46,8 +46,8 @@ abbrev pub ReadsExactly : Type 0
 ReadsExactly = (l : List ℕ) (v : Decimal) → (readField l ≡ Number v) ↔ Reads l v
 
 -- and as blank exactly when they are blanks
-abbrev pub BlankExactly : Type 0
-BlankExactly = (l : List ℕ) → (readField l ≡ Blank) ↔ (l ≡ blanks (length l))
+abbrev pub BlankRead : Type 0
+BlankRead = (l : List ℕ) → (readField l ≡ Blank) ↔ (l ≡ blanks (length l))
 
 -- "Number reading: 40 not eleven bytes, 15 malformed"
 abbrev pub ElevenRead : Type 0

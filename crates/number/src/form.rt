@@ -2,8 +2,8 @@
 // table of the places to which they lead.
 ghost use mathlib.Core.Path.{_≡_};
 ghost use Prim.Native.Nat.{_<_};
-ghost use Rattle.number.specs.Reading.{Scan, columnOf, scanStep, readField};
-ghost use Rattle.number.specs.Form.{formOf, kindTable, nextTable, placeNumber, formAtEnd, Tables};
+ghost use Rattle.number.specs.Reading.{Scan, columnOf, scanStep, readField, answer};
+ghost use Rattle.number.specs.Form.{formOf, formRefusal, kindTable, nextTable, placeNumber, formAtEnd, Tables};
 
 pub enum Form {
     Blank,
@@ -121,6 +121,7 @@ fn form_of_columns(kinds: &[u8; 256], nexts: &[u8; 88], s: &[u8]) -> Form
 pub fn form_of_field(kinds: &[u8; 256], nexts: &[u8; 88], field: [u8; 11]) -> Form
     requires { ⌜ Tables (now kinds) (now nexts) ⌝ }
     ensures { λ r. ⌜ r ≡ formOf (readField field) ⌝ }
+    ensures { λ r. ⌜ formRefusal r ≡ answer (readField field) .refusal ⌝ }
 {
     form_of_columns(kinds, nexts, &field)
 }

@@ -1,4 +1,3 @@
 // Number fields: reading a field of eleven columns as an exact decimal.
 pub mod read;
-mod signed;
 mod walk;

@@ -7,6 +7,7 @@ use number::value::Reading;
 // What a field of eleven columns says.
 pub fn read_field(field: [u8; 11]) -> Reading
     ensures { λ r. ⌜ r ≡ readField field ⌝ }
+    ensures { λ r. ⌜ answer r ≡ answer (readField field) ⌝ }
 {
     read_columns(&field)
 }

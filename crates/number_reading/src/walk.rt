@@ -2,16 +2,12 @@
 // the rest of the reading needs.
 ghost use mathlib.Core.Path.{_≡_};
 ghost use Prim.Native.Nat.{_+_, _*_, _<_, _≤_, _^_};
-ghost use lib.IntN.{pos, _-ℤ_};
 ghost use lib.ListN.{length};
-ghost use Rattle.number.specs.Value.{signedBy, valueOf};
 ghost use Rattle.number.specs.Reading.{Signed, Whole, Point, Gap, Mark, MarkGap, PowerSign, Power, readField};
-ghost use Rattle.number_reading.specs.Walk.{digital, pastSign, badFront, badExponent};
-ghost use Rattle.number_reading.specs.Walk.{Reached, Raises, Points, Passes, Leads};
-use crate::signed::difference;
-use number::value::Decimal;
+ghost use Rattle.number_reading.specs.Walk.{digital, pastSign, badFront, badExponent, Reached, Raises, Points};
+ghost use Rattle.number_reading.specs.Walk.{Passes, Leads};
 use number::value::Reading;
-use number::value::without_zeros;
+use number_value::decimal::value;
 
 // The digits read so far, how many of them stand behind the point, and the column that comes next.
 pub(crate) struct Front {
@@ -38,36 +34,6 @@ fn is_digit(b: u8) -> bool
 }
 
 // ---- the value
-
-fn value(negative: bool, number: u64, places: u32, below: bool, size: u32) -> Decimal
-    requires { ⌜ (places ≤ 11) × (size < 10 ^ 8) ⌝ }
-    ensures { λ r. ⌜ r ≡ valueOf negative number (signedBy below size -ℤ pos places) ⌝ }
-{
-    if number == 0 {
-        return Decimal {
-            negative: false,
-            coefficient: 0,
-            power: 0,
-        };
-    }
-    let t = without_zeros(number);
-    let coefficient = t.number;
-    let zeros = t.zeros;
-    if below {
-        let power = difference(zeros, size + places);
-        return Decimal {
-            negative: negative,
-            coefficient: coefficient,
-            power: power,
-        };
-    }
-    let power = difference(size + zeros, places);
-    Decimal {
-        negative: negative,
-        coefficient: coefficient,
-        power: power,
-    }
-}
 
 // ---- behind the digits
 

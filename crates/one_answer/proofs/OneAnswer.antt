@@ -2,13 +2,13 @@
 -- has its place besides.
 -- Assumes nothing.
 use Rattle.laws.proofs.Promise.{one-answer}
-use Rattle.entry.proofs.PartPlace.{one-place}
+use Rattle.entry_verdict.proofs.PartPlace.{one-place}
 use Rattle.one_answer.specs.OneAnswer.{OneAnswer}
 
 pub one-answers : OneAnswer
 one-answers =
     record {
-      read-field = λ κs a x y s t p q. one-answer p q;
+      read-field = λ κs a x y s t p q. one-answer (p .0) (q .0);
       read-number = λ κs a x y s t p q. one-answer (p .0) (q .0);
       write-number = λ κs a x y s t p q. (one-answer (p .0) (q .0), one-answer (p .1 .0) (q .1 .0));
       judge = λ κs a x y s t p q. one-answer p q;

@@ -10,7 +10,7 @@ use denote.Ref.{now}
 use Rattle.number_reading.proofs.read.read_field.Reads as read-field
 use Rattle.number_reading.proofs.read.read_number.Reads as read-number
 use Rattle.canonical.proofs.write.write_number.Reads as write-number
-use Rattle.entry.proofs.verdict.judge.Reads as judge
+use Rattle.entry.proofs.judge.judge.Reads as judge
 use Rattle.questions.proofs.ask.value.Reads as value
 use Rattle.questions.proofs.ask.heading.Reads as heading
 use Rattle.questions.proofs.ask.unit.Reads as unit

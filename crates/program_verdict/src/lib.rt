@@ -1,5 +1,5 @@
 // A verdict as programs write it.
-use entry::verdict::Verdict;
+use entry_verdict::verdict::Verdict;
 use program_text::say_line;
 
 // A word, and behind it refusal, record, column, subentries, keywords, lines and numbers: a line.

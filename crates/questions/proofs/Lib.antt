@@ -1,4 +1,1 @@
-pub mod Refusals
-pub mod Parts
 pub mod Said
-pub mod RowSections

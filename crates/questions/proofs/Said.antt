@@ -6,13 +6,14 @@ use borrow.Author.Tests.{ne-eqb}
 use Rattle.number.specs.Reading.{readField}
 use Rattle.number.specs.declared.value.Reading.{Reading}
 use Rattle.columns.specs.Columns.{placeOf}
-use Rattle.entry.specs.declared.verdict.Verdict.{Verdict}
-use Rattle.entry.specs.Verdict.{judgeOf}
-use Rattle.entry.proofs.Answers.{answer-number}
+use Rattle.entry_verdict.specs.declared.verdict.Verdict.{Verdict}
+use Rattle.entry_judging.specs.Judging.{judgeOf}
+use Rattle.entry_verdict.proofs.Answers.{answer-number}
 use Rattle.questions_places.specs.Place.{shapeOf, fieldOf}
 use Rattle.questions_rows.specs.Row.{rowOf}
-use Rattle.questions.specs.Ask.{sectionIn, valueRefusal, valueWith, valueBy, valueAsked}
-use Rattle.questions.specs.Ask.{valueSaid, blankBeside, RefusedSaid}
+use Rattle.questions_refusals.specs.Refused.{sectionIn, valueRefusal}
+use Rattle.questions_answers.specs.Answers.{valueWith, valueBy, valueSaid, blankBeside}
+use Rattle.questions.specs.Ask.{valueAsked, RefusedSaid}
 
 with-said : (v : Verdict) (number : ℕ) (value : Reading) → (number ≡ 0 → ⊥)
     → valueSaid (valueWith v number value) ≡ blankBeside number

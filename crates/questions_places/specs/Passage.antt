@@ -12,8 +12,8 @@ use Rattle.columns.specs.Text.{isBlank}
 use Rattle.record.specs.System.{upTo}
 use Rattle.record_words.specs.Word.{blankTo, equalTo, pointerOf}
 use Rattle.columns.specs.declared.columns.RecordNo.{RecordNo}
-use Rattle.rules_state.specs.State.{MOST-RECORDS}
-use Rattle.rules_system.specs.System.{countN2}
+use Rattle.rules_state.specs.Limits.{MOST-RECORDS}
+use Rattle.rules_counts.specs.Counts.{countN2}
 use Rattle.questions_places.specs.declared.passage.Passage.{Passage}
 use Rattle.questions_places.specs.Place.{fieldsAt}
 

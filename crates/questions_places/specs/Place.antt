@@ -12,8 +12,8 @@ use Rattle.record.specs.Identifier.{identifierOf}
 use Rattle.record.specs.System.{upTo}
 use Rattle.columns.specs.declared.columns.RecordNo.{RecordNo}
 use Rattle.columns.specs.declared.columns.Place.{Place}
-use Rattle.rules_state.specs.State.{MOST-RECORDS, MOST-COLUMNS, MOST-LINES}
-use Rattle.rules_system.specs.System.{countN1, countN2}
+use Rattle.rules_state.specs.Limits.{MOST-RECORDS, MOST-COLUMNS, MOST-LINES}
+use Rattle.rules_counts.specs.Counts.{countN1, countN2}
 use Rattle.questions_places.specs.declared.place.Shape.{Shape}
 
 -- ---- a record by its number

@@ -1,7 +1,7 @@
 // The passages of a BIB section.
 ghost use mathlib.Core.Path.{_≡_};
 ghost use Prim.Native.Nat.{ℕ, _+_, _≤_, _<_};
-ghost use Rattle.rules_state.specs.State.{MOST-RECORDS};
+ghost use Rattle.rules_state.specs.Limits.{MOST-RECORDS};
 ghost use Rattle.questions_places.specs.Passage.{textAt, isKeyword, begins, beginsWith, sought, firstText, Span};
 ghost use Rattle.questions_places.specs.Passage.{passageUnder, passageOf};
 use crate::place::fields_at;

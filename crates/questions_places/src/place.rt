@@ -3,7 +3,7 @@ ghost use mathlib.Core.Path.{_≡_};
 ghost use Prim.Native.Nat.{ℕ, _≤_};
 ghost use lib.ListN.{getD};
 ghost use mathlib.Core.List.{[]};
-ghost use Rattle.rules_state.specs.State.{MOST-COLUMNS, MOST-LINES};
+ghost use Rattle.rules_state.specs.Limits.{MOST-COLUMNS, MOST-LINES};
 ghost use Rattle.questions_places.specs.Place.{hasRecord, fieldsAt, shapeOf, headingPlace, unitPlace, fieldOf};
 ghost use Rattle.questions_places.specs.Place.{firstByte, byteOf, InSection};
 use columns::columns::Place;
@@ -11,8 +11,8 @@ use columns::columns::RecordNo;
 use columns::columns::records_for;
 use columns::fields::fields;
 use record::system::count_to;
-use rules_system::system::MOST_COLUMNS;
-use rules_system::system::MOST_LINES;
+use rules_counts::counts::MOST_COLUMNS;
+use rules_counts::counts::MOST_LINES;
 
 // How many columns a table has, and how many lines.
 pub struct Shape {

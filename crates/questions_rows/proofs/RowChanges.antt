@@ -12,9 +12,10 @@ use Rattle.record.specs.System.{subentryOf}
 use Rattle.columns.specs.declared.columns.RecordNo.{RecordNo}
 use Rattle.columns.specs.Fields.{n1}
 use Rattle.rules_state.specs.declared.state.Track.{Track}
-use Rattle.rules_state.specs.Role.{opensSubentry}
-use Rattle.questions_rows.specs.declared.row.Row.{Row}
-use Rattle.questions_rows.specs.Row.{withFirstAt, withBibAt, withCommonAt, withDataAt, noted, subentryIn, notedAs}
+use Rattle.rules_roles.specs.Roles.{opensSubentry}
+use Rattle.questions_noted.specs.declared.row.Row.{Row}
+use Rattle.questions_noted.specs.Row.{withFirstAt, withBibAt, withCommonAt, withDataAt, noted}
+use Rattle.questions_rows.specs.Row.{subentryIn, notedAs}
 
 -- the sections that a row names
 pub data Section : Type 0 where

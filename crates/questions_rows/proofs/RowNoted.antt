@@ -16,20 +16,23 @@ use Rattle.columns.specs.Fields.{fieldsOf}
 use Rattle.record.specs.Identifier.{ENTRY, SUBENT, NOSUBENT, BIB, COMMON, DATA}
 use Rattle.record_words.specs.Word.{blankTo}
 use Rattle.rules_state.specs.declared.state.Track.{Track}
-use Rattle.rules_state.specs.State.{Context, MOST-RECORDS}
-use Rattle.rules_state.specs.Role.{TEXT, isSystem, opensSubentry, isHeading, isUnit, isValue}
+use Rattle.rules_state.specs.State.{Context}
+use Rattle.rules_state.specs.Limits.{MOST-RECORDS}
+use Rattle.rules_roles.specs.Roles.{TEXT, isSystem, opensSubentry, isHeading, isUnit, isValue}
 use Rattle.rules_state.proofs.EitherWay.{either-way}
-use Rattle.entry_counted.specs.Counted.{trackAfter, afterSystem, afterInside, textRead}
+use Rattle.entry_counted.specs.Counted.{trackAfter, afterSystem, afterInside}
+use Rattle.entry_tally.specs.Tally.{textRead}
 use Rattle.entry_next.specs.Next.{contextAfter}
 use Rattle.entry_next.proofs.Following.{one-of}
-use Rattle.entry.specs.declared.step.Judge.{Judge}
-use Rattle.entry.specs.declared.pass.Passed.{Passed}
-use Rattle.entry.specs.Verdict.{judgeOf, Accepted}
-use Rattle.entry.specs.Contexts.{contextAt, roleAt}
-use Rattle.entry.specs.Pass.{Walking, PassedAt}
+use Rattle.entry_step.specs.declared.step.Judge.{Judge}
+use Rattle.entry_step.specs.declared.pass.Passed.{Passed}
+use Rattle.entry_judging.specs.Judging.{judgeOf, Accepted}
+use Rattle.entry_judging.specs.Contexts.{contextAt, roleAt}
+use Rattle.entry_step.specs.Pass.{Walking, PassedAt}
 use Rattle.entry.proofs.Contexts.{records-at, context-next}
-use Rattle.entry.proofs.Walking.{track-stands}
-use Rattle.questions_rows.specs.Row.{emptyRow, notedIn, subentryIn, notedAs, rowAt, rowOf, Met}
+use Rattle.entry_step.proofs.Walking.{track-stands}
+use Rattle.questions_noted.specs.Row.{emptyRow, notedIn, Met}
+use Rattle.questions_rows.specs.Row.{subentryIn, notedAs, rowAt, rowOf}
 use Rattle.questions_rows.proofs.Rows.{met-empty, met-next}
 
 -- behind a record the state has the number of the subentry that the record belongs to

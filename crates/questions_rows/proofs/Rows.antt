@@ -9,12 +9,11 @@ use Rattle.columns.specs.Columns.{recordOf}
 use Rattle.record.specs.Identifier.{BIB, COMMON, DATA}
 use Rattle.columns.specs.declared.columns.RecordNo.{RecordNo}
 use Rattle.rules_state.specs.declared.state.Track.{Track}
-use Rattle.rules_state.specs.State.{MOST-RECORDS}
-use Rattle.rules_state.specs.Role.{opensSubentry}
-use Rattle.questions_rows.specs.declared.row.Row.{Row}
-use Rattle.questions_rows.specs.Row.{emptyRow, withFirstAt, withBibAt, withCommonAt, withDataAt, noted}
-use Rattle.questions_rows.specs.Row.{subentryIn}
-use Rattle.questions_rows.specs.Row.{notedAs, Met}
+use Rattle.rules_state.specs.Limits.{MOST-RECORDS}
+use Rattle.rules_roles.specs.Roles.{opensSubentry}
+use Rattle.questions_noted.specs.declared.row.Row.{Row}
+use Rattle.questions_noted.specs.Row.{emptyRow, withFirstAt, withBibAt, withCommonAt, withDataAt, noted, Met}
+use Rattle.questions_rows.specs.Row.{subentryIn, notedAs}
 
 pub met-empty : (number : ℕ) → Met (emptyRow number)
 met-empty number = record { first = omega arith; bib = omega arith; common = omega arith; «data» = omega arith }

@@ -3,8 +3,8 @@ pub mod NameTable
 pub mod Powers
 pub mod Found
 pub mod NumberFields
-pub mod Readings
 pub mod PlainColumns
 pub mod PlainNames
 pub mod PlainDigits
+pub mod PlainCounts
 pub mod PlainValues

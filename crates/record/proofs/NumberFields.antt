@@ -18,13 +18,13 @@ use Rattle.number.specs.declared.value.Reading.the-variants.{Refused}
 use Rattle.number.specs.Reading.{readField}
 use Rattle.number.proofs.Laws.{number-letters}
 use Rattle.number.specs.Form.{formOf}
-use Rattle.record.specs.Numbers.{formAt, noValue}
-use Rattle.columns.specs.Class.{isPermitted, digits}
+use Rattle.record_values.specs.Numbers.{formAt, noValue}
+use Rattle.classes.specs.Class.{isPermitted, digits}
 use Rattle.record_words.specs.Word.{differAt, equalTo}
 use Rattle.record.specs.Identifier.{OTHER, nameAt, nameTable, isName, identifierOf}
 use Rattle.record.proofs.NameTable.{name-at}
 
-true-of : (t : Bool) → T t → t ≡ true
+pub true-of : (t : Bool) → T t → t ≡ true
 true-of true h = refl
 true-of false h = absurd h
 

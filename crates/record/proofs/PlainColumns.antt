@@ -99,7 +99,7 @@ taken-exactly w a b p q = (
 
 -- ---- words
 
-not-none : (n : ℕ) → (n ≡ 0 → ⊥) → 1 ≤ n
+pub not-none : (n : ℕ) → (n ≡ 0 → ⊥) → 1 ≤ n
 not-none n f = either 0 n (λ a. omega arith) (λ a. absurd (f (omega arith)))
 
 word-said : (w : ℕ) (f : List ℕ) → isWord w f ≡ true → Word w f

@@ -15,7 +15,7 @@ use Rattle.number.specs.Value.{Says, blank, number, malformed}
 use Rattle.number.specs.Reading.{readField}
 use Rattle.number.specs.Form.{formOf}
 use Rattle.number.proofs.Laws.{says-exactly}
-use Rattle.record.specs.Numbers.{formAt, saysNumber, noValue}
+use Rattle.record_values.specs.Numbers.{formAt, saysNumber, noValue}
 use Rattle.record.specs.Plain.{AllBlank, NumberField, NumberOrBlank, a-number, a-blank, ValueExactly}
 use Rattle.record.specs.Plain.{UnusedExactly, NumberExactly, BlankAlike}
 use Rattle.record.proofs.PlainColumns.{blank-exactly}

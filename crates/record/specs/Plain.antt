@@ -16,9 +16,10 @@ use Rattle.number.specs.Value.{Reads}
 use Rattle.columns.specs.Columns.{columnsAt}
 use Rattle.record.specs.declared.system.Count.the-variants.{Number}
 use Rattle.record_words.specs.Word.{blankTo, equalTo, isWord, pointerOf, badPointer, isUnitWord}
-use Rattle.record.specs.System.{digitsIn, numberIn, integerOf, isDate, isEntryN1, isSubentN1, subentryOf}
+use Rattle.record.specs.System.{digitsIn, numberIn, integerOf, CountAnswer, countAnswer, isDate, isEntryN1}
+use Rattle.record.specs.System.{isSubentN1, subentryOf}
 use Rattle.record.specs.Identifier.{OTHER, nameAt, identifierOf}
-use Rattle.record.specs.Numbers.{formAt, saysNumber, noValue}
+use Rattle.record_values.specs.Numbers.{formAt, saysNumber, noValue}
 
 -- ---- blank and equal columns
 
@@ -76,6 +77,11 @@ pub record CountSays (w : ℕ) (f : List ℕ) (m : ℕ) : Type 0 where
   pub wide : lead + length digits ≡ w
   pub same : take w f ≡ blanks lead ++ digitsText digits
   pub number : num digits ≡ m
+
+-- its answer is that number, or "7 | system field not in its form" where the columns say none
+pub data CountAnswered (w : ℕ) (f : List ℕ) : CountAnswer → Type 0 where
+  a-count : (m : ℕ) → CountSays w f m → CountAnswered w f (record { refusal = 0; number = m })
+  no-count : ((m : ℕ) → CountSays w f m → ⊥) → CountAnswered w f (record { refusal = 7; number = 0 })
 
 -- "Date: 3 blanks and YYYYMMDD, month 01-12, day 01-31."
 pub record Date (f : List ℕ) : Type 0 where
@@ -164,6 +170,10 @@ DigitsExactly =
 
 abbrev pub CountExactly : Type 0
 CountExactly = (w : ℕ) (f : List ℕ) (m : ℕ) → (integerOf w f ≡ Number m) ↔ CountSays w f m
+
+abbrev pub CountAnswerExactly : Type 0
+CountAnswerExactly =
+    (w : ℕ) (f : List ℕ) (a : CountAnswer) → (countAnswer (integerOf w f) ≡ a) ↔ CountAnswered w f a
 
 abbrev pub DateExactly : Type 0
 DateExactly = (f : List ℕ) → (isDate f ≡ true) ↔ Date f

@@ -51,6 +51,15 @@ abbrev pub numberOf : Count → ℕ
 numberOf (Number n) = n
 numberOf Bad = 0
 
+-- document 01's number for each case, and the number that is counted: "7 | system field not in its form"
+pub record CountAnswer : Type 0 where
+  pub refusal : ℕ
+  pub number : ℕ
+
+abbrev pub countAnswer : Count → CountAnswer
+countAnswer (Number n) = record { refusal = 0; number = n }
+countAnswer Bad = record { refusal = 7; number = 0 }
+
 -- a number up to a limit, 0 past it
 abbrev pub upTo : ℕ → ℕ → ℕ
 upTo most n = cond (leb n most) n 0

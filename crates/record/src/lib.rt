@@ -1,5 +1,3 @@
 // One record of 80 columns: system identifiers, counts and dates, the columns that are expected, and value fields.
-pub mod expected;
 pub mod identifier;
-pub mod numbers;
 pub mod system;

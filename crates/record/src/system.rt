@@ -3,7 +3,7 @@ ghost use mathlib.Core.Path.{_≡_};
 ghost use Prim.Native.Nat.{ℕ, _+_, _*_, _^_, _≤_};
 ghost use mathlib.Core.Bool.{_||_};
 ghost use Rattle.columns.specs.Text.{isCapital, isDigit};
-ghost use Rattle.record.specs.System.{digitOf, digitsIn, numberIn, countOf, isCount, numberOf, upTo};
+ghost use Rattle.record.specs.System.{digitOf, digitsIn, numberIn, countOf, isCount, numberOf, countAnswer, upTo};
 ghost use Rattle.record.specs.System.{isDate, isAccession, isEntryN1, isSubentN1, subentryOf};
 use record_words::word::blank_to;
 use record_words::word::filled_from;
@@ -83,6 +83,7 @@ fn number_in(f: [u8; 11], from: usize, n: usize) -> u64
 // A count: blanks, then digits up to the last column.
 pub fn count_of(f: [u8; 11]) -> Count
     ensures { λ r. ⌜ r ≡ countOf f ⌝ }
+    ensures { λ r. ⌜ countAnswer r ≡ countAnswer (countOf f) ⌝ }
 {
     let start = filled_from(f, 0, 11);
     if start == 11 {

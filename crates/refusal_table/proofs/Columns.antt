@@ -10,7 +10,8 @@ use lib.Dec.{T}
 use lib.ListN.{length, replicate}
 use Rattle.laws.specs.Table.{every}
 use Rattle.laws.proofs.Table.{at}
-use Rattle.rules_state.specs.Fault.{on, when, columnsFrom, columnsWhere, leftmost}
+use Rattle.record.proofs.NumberFields.{true-of}
+use Rattle.rules_roles.specs.Fault.{on, when, columnsFrom, columnsWhere, leftmost}
 use Rattle.rules_state.proofs.EitherWay.{either-way, no}
 
 -- ---- each column
@@ -51,10 +52,6 @@ module _ (P : ℕ → Type 0) where
   each-leftmost (j ∷ ks) k (one p r) e h = subst P e p
 
 -- ---- a test that is computed for each number below n
-
-true-of : (b : Bool) → T b → b ≡ true
-true-of true t = refl
-true-of false t = absurd t
 
 -- the table of n zeros stands for the numbers below n
 abbrev zeros : ℕ → List ℕ

@@ -2,14 +2,13 @@
 -- behind it. From one record without fault to the next.
 -- Assumes nothing.
 use Prim.Native.Nat.{ℕ, zero, suc, _+_, _*_, _<_, _≤_}
-use mathlib.Core.Path.{_≡_, refl, sym, _∙_, ap, subst}
+use mathlib.Core.Path.{_≡_, refl, sym, subst}
 use mathlib.Core.Bool.{Bool, true, false, cond}
-use mathlib.Core.List.{List, []}
+use mathlib.Core.List.{List}
 use native.Mathlib.Omega.{arith}
 use native.Mathlib.Nat.{zero-mul, suc-mul}
-use borrow.Author.Tests.{eqb-true, eqb-false, ltb-false}
+use borrow.Author.Tests.{eqb-true, ltb-false}
 use lib.Dec.{eqb}
-use lib.ListN.{getD}
 use Rattle.laws.specs.Turns.{go}
 use Rattle.laws.specs.Blocks.{blockAt}
 use Rattle.laws.proofs.Search.{either}
@@ -17,28 +16,24 @@ use Rattle.laws.proofs.Booleans.{either-as}
 use Rattle.columns.specs.Columns.{recordsFor}
 use Rattle.record.specs.Identifier.{ENTRY, SUBENT, NOSUBENT, BIB, NOBIB, ENDBIB, COMMON, NOCOMMON, ENDCOMMON, DATA}
 use Rattle.record.specs.Identifier.{NODATA, ENDDATA, ENDSUBENT, ENDENTRY, OTHER, isEnd}
-use Rattle.record_words.specs.Word.{blankTo}
-use Rattle.rules_state.specs.declared.fault.Fault.the-variants.{Fine}
 use Rattle.rules_state.specs.declared.state.Phase.{Phase}
 use Rattle.rules_state.specs.declared.state.Phase.the-variants.{Start, Opened, InSubentry, InBib, AfterBib, InCommon}
 use Rattle.rules_state.specs.declared.state.Phase.the-variants.{AfterCommon, InData, AfterData, Between, Done}
 use Rattle.rules_state.specs.declared.state.Track.{Track}
 use Rattle.rules_state.specs.State.{Context}
-use Rattle.rules_state.specs.Role.{TEXT, NOT-DUE, allRead, only, either as eitherOf, bibRole, tableRole, dataRole}
-use Rattle.rules_state.specs.Role.{roleIn}
+use Rattle.rules_roles.specs.Roles.{TEXT, NOT-DUE}
+use Rattle.rules_state.specs.Role.{allRead, only, either as eitherOf, bibRole, tableRole, dataRole, roleIn}
 use Rattle.rules_state.proofs.EitherWay.{either-way}
-use Rattle.rules_system.specs.System.{countN2}
-use Rattle.rules.specs.Order.{faultOf}
 use Rattle.rules.proofs.DueRecords.{fine-common, fine-data}
-use Rattle.entry_counted.specs.Counted.{trackAfter, afterSystem, afterInside, textRead}
 use Rattle.entry_next.specs.Due.{phaseAfter}
 use Rattle.entry_next.specs.Next.{contextAfter}
-use Rattle.entry.specs.Verdict.{turnOf}
-use Rattle.entry.specs.Contexts.{contextAt, roleAt}
+use Rattle.entry_judging.specs.Judging.{turnOf}
+use Rattle.entry_judging.specs.Contexts.{contextAt, roleAt}
 use Rattle.entry.proofs.GoingOn.{fine-go}
 use Rattle.inside.proofs.Laid.{phaseIn, rowRole, lineOf, Laid, row-role, laid-on, laid-over}
 use Rattle.inside.proofs.TableLaid.{sectionRole, linesOf, opened-common, opened-data}
 use Rattle.refusal_table.specs.KindOf.{fieldsIn, nameIn, announcedN1, announcedN2}
+use Rattle.refusal_table.proofs.InTexts.{FineAt, InTexts, context-as, bib-opened, text-met}
 
 -- ---- counting
 
@@ -60,31 +55,10 @@ next-place i j a m e = omega arith
 next-row : (i j q k m : ℕ) → i ≡ j + 1 + (q * k + m) → k ≡ m + 1 → suc i ≡ j + 1 + (suc q * k + 0)
 next-row i j q k m e f = omega (arith, suc-mul q k)
 
-one-met : (i j a b : ℕ) → i ≡ j + 1 + b → a ≡ b + 1 → suc i ≡ j + 1 + a
-one-met i j a b e f = omega arith
-
-none-met : (i a : ℕ) → a ≡ 0 → suc i ≡ i + 1 + a
-none-met i a e = omega arith
-
-at-most : (a b n : ℕ) → a ≡ b + 1 → b < n → a ≤ n
-at-most a b n e h = omega arith
-
-no-less : (a r n : ℕ) → a ≤ n → n ≤ a → r ≡ n → a ≡ r
-no-less a r n h l e = omega arith
-
 as-many : (line last q lines : ℕ) → line ≤ last → line ≡ q → last ≡ lines → q ≤ lines
 as-many line last q lines h e f = omega arith
 
 -- ---- what holds before the record with the index i
-
--- inside BIB: so many text records are met since the record j
-pub record InTexts (s : List ℕ) (i : ℕ) : Type 0 where
-  pub j : ℕ
-  pub opens : nameIn s j ≡ BIB
-  pub no-system : (m : ℕ) → j < m → m < i → nameIn s m ≡ OTHER
-  pub records : contextAt s i .track .bib .records ≡ announcedN2 s j
-  pub met : i ≡ j + 1 + contextAt s i .track .section
-  pub few : contextAt s i .track .section ≤ announcedN2 s j
 
 -- inside a table: at the record m of the row q behind the record j
 pub record InRows (s : List ℕ) (b : Bool) (i : ℕ) : Type 0 where
@@ -110,35 +84,6 @@ Inside s i AfterData = Unit
 Inside s i Between = Unit
 Inside s i Done = Unit
 
--- ---- BIB
-
--- what is counted behind BIB, and behind a text record
-record Behind (records section : ℕ) (t : Track) : Type 0 where
-  kept : t .bib .records ≡ records
-  counted : t .section ≡ section
-
-behind-bib : (c : Context) (fs : List (List ℕ)) (r : List ℕ) → Behind (countN2 fs) 0 (contextAfter c BIB fs r .track)
-unfolding contextAfter trackAfter afterSystem
-behind-bib c fs r = record { kept = refl; counted = refl }
-
-behind-text : (c : Context) (fs : List (List ℕ)) (r : List ℕ)
-    → Behind (c .track .bib .records) (c .track .section + 1) (contextAfter c TEXT fs r .track)
-unfolding contextAfter trackAfter afterInside textRead
-behind-text c fs r =
-    either-way (λ (t : Track). Behind (c .track .bib .records) (c .track .section + 1) t)
-    (blankTo 10 (getD fs 0 [])) _ _ (record { kept = refl; counted = refl }) (record { kept = refl; counted = refl })
-
--- one more is announced
-pub one-more : (s : List ℕ) (i : ℕ) (x : InTexts s i)
-    → eqb (contextAt s i .track .section) (contextAt s i .track .bib .records) ≡ false
-    → contextAt s i .track .section < announcedN2 s (x .j)
-one-more s i x e =
-    either (contextAt s i .track .section) (announcedN2 s (x .j)) (λ l. l)
-    (λ l.
-    absurd (eqb-false (contextAt s i .track .section) (contextAt s i .track .bib .records) e
-    (no-less (contextAt s i .track .section) (contextAt s i .track .bib .records) (announcedN2 s (x .j)) (x .few) l
-    (x .records))))
-
 -- ---- tables
 
 abbrev pub sectionEnd : Bool → ℕ
@@ -161,56 +106,12 @@ unread s b i x e =
 
 -- ---- one record without fault
 
--- no rule finds anything on the record with the index i
-abbrev pub FineAt : List ℕ → ℕ → Type 0
-FineAt s i =
-    faultOf (contextAt s i .track) (contextAt s i .seen) (roleAt s i) (fieldsIn s i) (blockAt 81 s i) ≡ Fine
-
 module _ (s : List ℕ) (i : ℕ) (fine : FineAt s i) where
   abbrev here : Context
   here = contextAt s i
 
   abbrev name : ℕ
   name = nameIn s i
-
-  context-as : (role : ℕ) → roleAt s i ≡ role
-      → contextAt s (suc i) ≡ contextAfter (contextAt s i) role (fieldsIn s i) (blockAt 81 s i)
-  unfolding contextAt
-  context-as role e = ap (λ (k : ℕ). contextAfter (contextAt s i) k (fieldsIn s i) (blockAt 81 s i)) e
-
-  bib-opened : name ≡ BIB → roleAt s i ≡ BIB → InTexts s (suc i)
-  bib-opened n e =
-      let z = context-as BIB e in
-      let b = behind-bib here (fieldsIn s i) (blockAt 81 s i) in
-      let w : contextAt s (suc i) .track .section ≡ 0 = ap (λ (x : Context). x .track .section) z ∙ b .counted in
-      record {
-        j = i;
-        opens = n;
-        no-system = λ m l h. absurd (omega arith);
-        records = ap (λ (x : Context). x .track .bib .records) z ∙ b .kept;
-        met = none-met i (contextAt s (suc i) .track .section) w;
-        few = rw w (omega arith);
-      }
-
-  text-met : (x : InTexts s i) → name ≡ OTHER → eqb (here .track .section) (here .track .bib .records) ≡ false
-      → roleAt s i ≡ TEXT → InTexts s (suc i)
-  text-met x n less e =
-      let z = context-as TEXT e in
-      let b = behind-text here (fieldsIn s i) (blockAt 81 s i) in
-      let was : ℕ = contextAt s i .track .section in
-      let is : ℕ = contextAt s (suc i) .track .section in
-      let w : contextAt s (suc i) .track .section ≡ contextAt s i .track .section + 1 =
-      ap (λ (c : Context). c .track .section) z ∙ b .counted in
-      record {
-        j = x .j;
-        opens = x .opens;
-        no-system =
-            λ m l h. either m i (λ a. x .no-system m l a)
-            (λ a. let y : i ≡ m = omega arith in subst (λ (k : ℕ). nameIn s k ≡ OTHER) y n);
-        records = ap (λ (c : Context). c .track .bib .records) z ∙ b .kept ∙ x .records;
-        met = one-met i (x .j) is was (x .met) w;
-        few = at-most is was (announcedN2 s (x .j)) w (one-more s i x less);
-      }
 
   goes : turnOf (contextAt s i) i (blockAt 81 s i) ≡ go (contextAt s (suc i))
   unfolding contextAt
@@ -229,7 +130,7 @@ module _ (s : List ℕ) (i : ℕ) (fine : FineAt s i) where
         of-row = first-record (announcedN1 s i) (f .0);
         place = first-place i (recordsFor (announcedN1 s i));
         laid = subst (λ (c : Context). Laid false (here .track .subentry .number) (announcedN1 s i) 1 0 0 c)
-            (sym (context-as COMMON e)) l;
+            (sym (context-as s i COMMON e)) l;
       }
 
   data-opened : name ≡ DATA → roleAt s i ≡ DATA → InRows s true (suc i)
@@ -246,7 +147,7 @@ module _ (s : List ℕ) (i : ℕ) (fine : FineAt s i) where
         place = first-place i (recordsFor (announcedN1 s i));
         laid = subst
             (λ (c : Context). Laid true (here .track .subentry .number) (announcedN1 s i) (announcedN2 s i) 0 0 c)
-            (sym (context-as DATA e)) l;
+            (sym (context-as s i DATA e)) l;
       }
 
   rows-next : (b : Bool) (x : InRows s b i) → lineOf (x .q) ≤ linesOf b (fieldsIn s (x .j)) → InRows s b (suc i)
@@ -301,7 +202,7 @@ module _ (s : List ℕ) (i : ℕ) (fine : FineAt s i) where
   bib-next x =
       either-as Next (eqb (here .track .section) (here .track .bib .records)) (only ENDBIB name)
       (cond (eqb name OTHER) TEXT NOT-DUE) (λ e. only-next ENDBIB (λ n q. tt))
-      (λ e. either-as Next (eqb name OTHER) TEXT NOT-DUE (λ f q. text-met x (eqb-true name OTHER f) e q)
+      (λ e. either-as Next (eqb name OTHER) TEXT NOT-DUE (λ f q. text-met s i fine x (eqb-true name OTHER f) e q)
       (λ f. not-due-next))
 
   end-next : (b : Bool) → Next (sectionEnd b)
@@ -334,7 +235,7 @@ module _ (s : List ℕ) (i : ℕ) (fine : FineAt s i) where
   unfolding roleIn dataRole phaseAfter
   next Start x = only-next ENTRY (λ n e. tt)
   next Opened x = only-next SUBENT (λ n e. tt)
-  next InSubentry x = either-next BIB NOBIB bib-opened (λ n e. tt)
+  next InSubentry x = either-next BIB NOBIB (bib-opened s i) (λ n e. tt)
   next InBib x = bib-next x
   next AfterBib x = either-next COMMON NOCOMMON common-opened (λ n e. tt)
   next InCommon x = table-next false x

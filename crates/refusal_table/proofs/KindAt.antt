@@ -1,7 +1,7 @@
 -- The kind of a record before which nothing is found: its role, said by what a reader sees.
 -- Assumes nothing.
 use Prim.Native.Nat.{ℕ, zero, suc, _+_, _*_, _<_, _≤_}
-use mathlib.Core.Path.{_≡_, refl, sym, _∙_, ap, subst}
+use mathlib.Core.Path.{_≡_, refl, sym, subst}
 use mathlib.Core.Bool.{Bool, true, false, cond}
 use mathlib.Core.List.{List}
 use native.Mathlib.Omega.{arith}
@@ -13,44 +13,31 @@ use Rattle.laws.proofs.Booleans.{either-as}
 use Rattle.columns.specs.Columns.{recordsFor}
 use Rattle.record.specs.Identifier.{ENTRY, SUBENT, NOSUBENT, BIB, NOBIB, ENDBIB, COMMON, NOCOMMON, DATA, NODATA}
 use Rattle.record.specs.Identifier.{ENDSUBENT, ENDENTRY, OTHER, isEnd}
-use Rattle.rules_state.specs.declared.fault.Fault.{Fault}
-use Rattle.rules_state.specs.declared.fault.Fault.the-variants.{Fine, At}
 use Rattle.rules_state.specs.declared.state.Phase.{Phase}
 use Rattle.rules_state.specs.declared.state.Phase.the-variants.{Start, Opened, InSubentry, InBib, AfterBib, InCommon}
 use Rattle.rules_state.specs.declared.state.Phase.the-variants.{AfterCommon, InData, AfterData, Between, Done}
-use Rattle.rules_state.specs.Fault.{leftmost}
-use Rattle.rules_state.specs.Role.{TEXT, NOT-DUE, allRead, only, either as eitherOf, bibRole, dataRole, roleIn}
+use Rattle.rules_roles.specs.Roles.{TEXT, NOT-DUE}
+use Rattle.rules_state.specs.Role.{allRead, only, either as eitherOf, bibRole, dataRole, roleIn}
 use Rattle.rules_state.proofs.EitherWay.{either-way}
-use Rattle.rules.specs.Order.{faultOf}
-use Rattle.rules.proofs.Least.{fault-least}
-use Rattle.entry.specs.Contexts.{contextAt, roleAt}
-use Rattle.entry.specs.First.{foundAt, Nothing}
+use Rattle.rules.specs.Order.{Nothing}
+use Rattle.rules.proofs.FaultSaid.{nothing-fine}
+use Rattle.entry_judging.specs.Contexts.{contextAt, roleAt}
+use Rattle.entry.specs.First.{foundAt}
 use Rattle.inside.proofs.Laid.{phaseIn, rowRole, lineOf, row-role}
 use Rattle.inside.proofs.TableLaid.{sectionRole, linesOf}
 use Rattle.refusal_table.specs.KindOf.{fieldsIn, nameIn, announcedN1, announcedN2, BehindBib, KindOf, of-system}
 use Rattle.refusal_table.specs.KindOf.{of-text, common-heading, common-unit, common-value, data-heading}
-use Rattle.refusal_table.specs.KindOf.{data-unit}
-use Rattle.refusal_table.specs.KindOf.{data-value, not-due}
-use Rattle.refusal_table.proofs.Inside.{InTexts, InRows, Inside, one-more, sectionEnd, end-role, unread}
-use Rattle.refusal_table.proofs.Inside.{FineAt, inside-at}
-
--- where no rule finds anything, there is no fault
-pub nothing-fine : (s : List ℕ) (i : ℕ) → Nothing (foundAt s i) → FineAt s i
-nothing-fine s i none =
-    by-fault (faultOf (contextAt s i .track) (contextAt s i .seen) (roleAt s i) (fieldsIn s i) (blockAt 81 s i)) refl
-  where
-    by-fault : (x : Fault) → faultOf (contextAt s i .track) (contextAt s i .seen) (roleAt s i) (fieldsIn s i)
-        (blockAt 81 s i) ≡ x → FineAt s i
-    by-fault Fine e = e
-    by-fault (At n k) e =
-        let l = fault-least (contextAt s i .track) (contextAt s i .seen) (roleAt s i) (fieldsIn s i) (blockAt 81 s i)
-        n k e in
-        let z : 0 ≡ k = sym (ap leftmost (none (l .at) (l .there))) ∙ l .column in
-        let some = l .some in
-        absurd (omega arith)
+use Rattle.refusal_table.specs.KindOf.{data-unit, data-value, not-due}
+use Rattle.refusal_table.proofs.InTexts.{FineAt, InTexts, one-more}
+use Rattle.refusal_table.proofs.Inside.{InRows, Inside, sectionEnd, end-role, unread, inside-at}
 
 among-texts : (i j a n : ℕ) → i ≡ j + 1 + a → a < n → (j < i) × (i ≤ j + n)
 among-texts i j a n e h = (omega arith, omega arith)
+
+pub fine-at : (s : List ℕ) (j : ℕ) → Nothing (foundAt s j) → FineAt s j
+fine-at s j none =
+    let c = contextAt s j in
+    nothing-fine (c .track) (c .seen) (roleAt s j) (fieldsIn s j) (blockAt 81 s j) none
 
 module _ (s : List ℕ) (i : ℕ) where
   abbrev name : ℕ
@@ -68,7 +55,7 @@ module _ (s : List ℕ) (i : ℕ) where
 
   -- ---- BIB
 
-  behind-bib : (x : InTexts s i) → eqb (contextAt s i .track .section) (contextAt s i .track .bib .records) ≡ false
+  pub behind-bib : (x : InTexts s i) → eqb (contextAt s i .track .section) (contextAt s i .track .bib .records) ≡ false
       → name ≡ OTHER → BehindBib s (x .j) i
   behind-bib x e n =
       let (before, announced) =
@@ -146,4 +133,4 @@ module _ (s : List ℕ) (i : ℕ) where
   kind-in Done x = not-due
 
   pub kind-at : ((j : ℕ) → j < i → Nothing (foundAt s j)) → KindOf s i (roleAt s i)
-  kind-at h = kind-in (contextAt s i .phase) (inside-at s i (λ j l. nothing-fine s j (h j l)))
+  kind-at h = kind-in (contextAt s i .phase) (inside-at s i (λ j l. fine-at s j (h j l)))

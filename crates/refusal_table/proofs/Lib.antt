@@ -1,5 +1,11 @@
 pub mod Columns
+pub mod ByNumber
 pub mod Standing
+pub mod InTexts
 pub mod Inside
 pub mod KindAt
 pub mod Listed
+pub mod TextFaults
+pub mod TextsExactly
+pub mod HeadingParts
+pub mod HeadingFaults

@@ -16,21 +16,24 @@ use Rattle.rules_state.specs.declared.state.Phase.{Phase}
 use Rattle.rules_state.specs.declared.state.Phase.the-variants.{Start, Opened, InSubentry, InBib, AfterBib, InCommon}
 use Rattle.rules_state.specs.declared.state.Phase.the-variants.{AfterCommon, InData, AfterData, Between, Done}
 use Rattle.rules_state.specs.declared.state.Track.{Track}
-use Rattle.rules_state.specs.State.{Context, MOST-RECORDS}
-use Rattle.rules_state.specs.Role.{NOT-DUE, allRead, only, either, bibRole, tableRole, dataRole, roleIn}
+use Rattle.rules_state.specs.State.{Context}
+use Rattle.rules_state.specs.Limits.{MOST-RECORDS}
+use Rattle.rules_roles.specs.Roles.{NOT-DUE}
+use Rattle.rules_state.specs.Role.{allRead, only, either, bibRole, tableRole, dataRole, roleIn}
 use Rattle.rules_state.proofs.EitherWay.{either-way}
 use Rattle.entry_next.specs.Due.{phaseAfter}
 use Rattle.entry_next.specs.Next.{contextAfter}
-use Rattle.entry.specs.declared.verdict.Verdict.{Verdict}
-use Rattle.entry.specs.Verdict.{refused, isDone, lengthGood, judgeOf}
-use Rattle.entry.specs.Contexts.{contextAt, roleAt}
+use Rattle.entry_verdict.specs.declared.verdict.Verdict.{Verdict}
+use Rattle.entry_verdict.specs.Verdict.{refused, isDone, lengthGood}
+use Rattle.entry_judging.specs.Judging.{judgeOf}
+use Rattle.entry_judging.specs.Contexts.{contextAt, roleAt}
 use Rattle.entry.specs.First.{First, by-length, by-record, by-end, by-none}
 use Rattle.entry.proofs.Contexts.{context-next}
 use Rattle.entry.proofs.FirstRefused.{refused-first}
 use Rattle.entry.proofs.FirstAlone.{first-alone}
 use Rattle.refusal_table.specs.KindOf.{fieldsIn, nameIn}
-use Rattle.refusal_table.specs.Listed.{BadLength, none, not-whole, too-long}
-use Rattle.refusal_table.specs.Listed.{Listed, at-once, on-record, behind-last, RefusalsListed, LengthFirst}
+use Rattle.refusal_table.specs.Listed.{BadLength, none, not-whole, too-long, Listed, at-once, on-record}
+use Rattle.refusal_table.specs.Listed.{behind-last, RefusalsListed, LengthFirst}
 use Rattle.refusal_table.proofs.Standing.{least-stands}
 use Rattle.refusal_table.proofs.KindAt.{kind-at}
 

@@ -6,35 +6,37 @@ use mathlib.Core.Bool.{Bool, true, false, not, _&&_, _||_}
 use mathlib.Core.List.{List, [], _∷_}
 use mathlib.Core.Logic.{inl, inr}
 use native.Mathlib.Omega.{arith}
-use borrow.Author.Tests.{eqb-true, le-leb, leb-true, ltb-true}
-use lib.Dec.{eqb, leb}
+use borrow.Author.Tests.{eqb-true, le-leb, ltb-true}
+use lib.Dec.{eqb}
 use lib.ListN.{length, getD}
 use Rattle.laws.specs.Members.{anyOf}
 use Rattle.laws.specs.Search.{first}
 use Rattle.laws.specs.Walk.{All}
 use Rattle.laws.proofs.Booleans.{either-as}
 use Rattle.laws.proofs.Walk.{all-at}
-use Rattle.columns.specs.Class.{notPermitted}
+use Rattle.classes.specs.Class.{notPermitted}
 use Rattle.columns.specs.Columns.{hasLineFeed}
 use Rattle.columns.specs.Fields.{n1, n2}
 use Rattle.columns.specs.Text.{within}
-use Rattle.record.specs.Expected.{identificationOf, sequenceOf, inDigits}
+use Rattle.record_expected.specs.Expected.{identificationOf, sequenceOf, inDigits}
 use Rattle.record.specs.Identifier.{SUBENT, NOSUBENT, OTHER, isEnd}
 use Rattle.record.specs.System.{subentryOf}
 use Rattle.record_words.specs.Word.{equalTo, badPointer}
 use Rattle.rules_state.specs.declared.state.Track.{Track}
 use Rattle.rules_state.specs.State.{Seen, used}
-use Rattle.rules_state.specs.Role.{TEXT, DATA-HEADING, NOT-DUE, isSystem, opensSubentry, opensSection, isHeading}
-use Rattle.rules_state.specs.Role.{isUnit, isValue}
-use Rattle.rules_state.specs.Fault.{Finding, when, fieldColumn, pointerColumn}
+use Rattle.rules_roles.specs.Roles.{TEXT, DATA-HEADING, NOT-DUE, isSystem, opensSubentry, opensSection, isHeading}
+use Rattle.rules_roles.specs.Roles.{isUnit, isValue}
+use Rattle.rules_roles.specs.Fault.{Finding, when, fieldColumn, pointerColumn}
 use Rattle.rules_state.proofs.EitherWay.{no}
 use Rattle.rules_every.specs.Every.{rule2, rule3, rule4, expectedIdentification, rule5, expectedSequence, rule6}
-use Rattle.rules_system.specs.System.{FREE, formN1, formN2, inForm, rule7, countN1, countN2, limitN1, limitN2, meets}
-use Rattle.rules_system.specs.System.{announcedFault, countTrue, rule8, accessionN1, numberDue, rule9}
+use Rattle.rules_system.specs.System.{FREE, formN1, formN2, inForm, rule7, accessionN1, numberDue, rule9}
+use Rattle.rules_counts.specs.Counts.{countN1, countN2, limitN1, limitN2, meets, announcedFault, countTrue, rule8}
 use Rattle.rules_text.specs.Text.{keywordFault, rule10, pointerRepeated, rule11Text}
-use Rattle.rules_section.specs.Headings.{rule11Heading, rule12Heading, rule12Unit, rule13, rule14}
-use Rattle.rules_section.specs.Values.{lineBlank, rule15}
+use Rattle.rules_section.specs.Headings.{rule11Heading, rule12Heading, rule12Unit, rule13}
+use Rattle.rules_pointers.specs.Pointers.{rule14}
+use Rattle.rules_values.specs.Values.{lineBlank, rule15}
 use Rattle.rules.specs.Order.{findings, Before, noFinding, Least}
+use Rattle.rules.proofs.Rising.{used-few}
 use Rattle.rules.proofs.ByKind.{of-two, of-headings, of-units, of-values}
 use Rattle.refusal_table.specs.Table.{everyDue, withN1, withN2, countedN1, countedN2, headings, headingsAndUnits}
 use Rattle.refusal_table.specs.Table.{values, among, fieldsFirst, fieldsEleventh, refusals, noRow, TableAllows}
@@ -87,11 +89,11 @@ subentry-kinds : (role : ℕ) → opensSubentry role ≡ true → among (SUBENT 
 unfolding anyOf
 subentry-kinds = of-two SUBENT NOSUBENT (λ k. among (SUBENT ∷ NOSUBENT ∷ []) k ≡ true) refl refl
 
-one-kind : (k role : ℕ) → eqb role k ≡ true → among (k ∷ []) role ≡ true
+pub one-kind : (k role : ℕ) → eqb role k ≡ true → among (k ∷ []) role ≡ true
 unfolding anyOf
 one-kind k role h = rw h
 
-heading-kinds : (role : ℕ) → isHeading role ≡ true → headings role ≡ true
+pub heading-kinds : (role : ℕ) → isHeading role ≡ true → headings role ≡ true
 unfolding anyOf
 heading-kinds = of-headings (λ k. headings k ≡ true) refl refl
 
@@ -120,10 +122,6 @@ any-character j h =
     let a : 1 ≤ j + 1 = omega arith in
     let b : j + 1 ≤ 80 = omega arith in
     rw (le-leb 1 (j + 1) a, le-leb (j + 1) 80 b)
-
-used-few : (t : Track) → used t ≤ 6
-unfolding used
-used-few t = either-as (λ n. n ≤ 6) (leb (t .table .rest) 6) _ _ (leb-true (t .table .rest) 6) (λ e. omega arith)
 
 -- ---- rule by rule
 

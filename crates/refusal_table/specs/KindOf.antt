@@ -8,9 +8,9 @@ use Rattle.laws.specs.Blocks.{blockAt}
 use Rattle.columns.specs.Columns.{recordsFor}
 use Rattle.columns.specs.Fields.{fieldsOf}
 use Rattle.record.specs.Identifier.{BIB, COMMON, DATA, OTHER, identifierOf}
-use Rattle.rules_state.specs.Role.{TEXT, COMMON-HEADING, COMMON-UNIT, COMMON-VALUE, DATA-HEADING, DATA-UNIT, DATA-VALUE}
-use Rattle.rules_state.specs.Role.{NOT-DUE}
-use Rattle.rules_system.specs.System.{countN1, countN2}
+use Rattle.rules_roles.specs.Roles.{TEXT, COMMON-HEADING, COMMON-UNIT, COMMON-VALUE, DATA-HEADING, DATA-UNIT}
+use Rattle.rules_roles.specs.Roles.{DATA-VALUE, NOT-DUE}
+use Rattle.rules_counts.specs.Counts.{countN1, countN2}
 
 -- ---- the record with the index i
 

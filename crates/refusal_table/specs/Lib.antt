@@ -1,3 +1,5 @@
 pub mod Table
 pub mod KindOf
 pub mod Listed
+pub mod TextFaults
+pub mod HeadingFaults

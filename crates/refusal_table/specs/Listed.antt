@@ -5,7 +5,8 @@ use mathlib.Core.Path.{_≡_}
 use mathlib.Core.List.{List}
 use lib.ListN.{length}
 use Rattle.record.specs.Identifier.{ENDENTRY}
-use Rattle.entry.specs.Verdict.{refused, judgeOf, Accepted}
+use Rattle.entry_verdict.specs.Verdict.{refused}
+use Rattle.entry_judging.specs.Judging.{judgeOf, Accepted}
 use Rattle.refusal_table.specs.Table.{TableAllows}
 use Rattle.refusal_table.specs.KindOf.{nameIn, KindOf}
 

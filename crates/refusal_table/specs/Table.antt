@@ -13,8 +13,8 @@ use Rattle.laws.specs.Members.{anyOf}
 use Rattle.columns.specs.Text.{within}
 use Rattle.record.specs.Identifier.{ENTRY, SUBENT, NOSUBENT, BIB, ENDBIB, COMMON, ENDCOMMON, DATA, ENDDATA, ENDSUBENT}
 use Rattle.record.specs.Identifier.{ENDENTRY}
-use Rattle.rules_state.specs.Role.{TEXT, COMMON-HEADING, COMMON-UNIT, COMMON-VALUE, DATA-HEADING, DATA-UNIT, DATA-VALUE}
-use Rattle.rules_state.specs.Role.{NOT-DUE}
+use Rattle.rules_roles.specs.Roles.{TEXT, COMMON-HEADING, COMMON-UNIT, COMMON-VALUE, DATA-HEADING, DATA-UNIT}
+use Rattle.rules_roles.specs.Roles.{DATA-VALUE, NOT-DUE}
 
 -- a number with the kinds and the columns that it can have
 pub record Row : Type 0 where

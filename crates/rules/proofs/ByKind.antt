@@ -11,12 +11,14 @@ use Rattle.laws.proofs.Booleans.{differ}
 use Rattle.record.specs.Identifier.{SUBENT, NOSUBENT}
 use Rattle.rules_state.specs.declared.state.Track.{Track}
 use Rattle.rules_state.specs.State.{Seen}
-use Rattle.rules_state.specs.Role.{TEXT, COMMON-HEADING, COMMON-UNIT, COMMON-VALUE, DATA-HEADING, DATA-UNIT, DATA-VALUE}
-use Rattle.rules_state.specs.Role.{isSystem, opensSubentry, isHeading, isUnit, isValue}
-use Rattle.rules_system.specs.System.{rule7, rule8, rule9}
+use Rattle.rules_roles.specs.Roles.{TEXT, COMMON-HEADING, COMMON-UNIT, COMMON-VALUE, DATA-HEADING, DATA-UNIT}
+use Rattle.rules_roles.specs.Roles.{DATA-VALUE, isSystem, opensSubentry, isHeading, isUnit, isValue}
+use Rattle.rules_system.specs.System.{rule7, rule9}
+use Rattle.rules_counts.specs.Counts.{rule8}
 use Rattle.rules_text.specs.Text.{rule10, rule11Text}
-use Rattle.rules_section.specs.Headings.{rule11Heading, rule12Heading, rule12Unit, rule13, rule14}
-use Rattle.rules_section.specs.Values.{rule15}
+use Rattle.rules_section.specs.Headings.{rule11Heading, rule12Heading, rule12Unit, rule13}
+use Rattle.rules_pointers.specs.Pointers.{rule14}
+use Rattle.rules_values.specs.Values.{rule15}
 use Rattle.rules_state.proofs.EitherWay.{no}
 use Rattle.rules.specs.Clean.{CleanEvery, Clean}
 

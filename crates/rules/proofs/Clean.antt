@@ -8,10 +8,10 @@ use mathlib.Core.List.{List, []}
 use lib.Dec.{eqb}
 use Rattle.laws.specs.Walk.{All}
 use Rattle.laws.proofs.Booleans.{either-as}
-use Rattle.rules_state.specs.declared.fault.Fault.the-variants.{Fine}
+use Rattle.rules_roles.specs.declared.fault.Fault.the-variants.{Fine}
 use Rattle.rules_state.specs.declared.state.Track.{Track}
 use Rattle.rules_state.specs.State.{Seen}
-use Rattle.rules_state.specs.Role.{TEXT, DATA-HEADING, isSystem, opensSubentry, isHeading, isUnit, isValue}
+use Rattle.rules_roles.specs.Roles.{TEXT, DATA-HEADING, isSystem, opensSubentry, isHeading, isUnit, isValue}
 use Rattle.rules.specs.Order.{findings, faultOf}
 use Rattle.rules.specs.Clean.{Clean, CleanExactly}
 use Rattle.rules.proofs.NoColumns.{on-none, none-on}

@@ -12,13 +12,14 @@ use Rattle.columns.specs.Fields.{n1}
 use Rattle.record.specs.Identifier.{COMMON, DATA}
 use Rattle.record_words.specs.Word.{equalTo}
 use Rattle.record.specs.System.{subentryOf}
-use Rattle.rules_state.specs.declared.fault.Fault.the-variants.{Fine}
+use Rattle.rules_roles.specs.declared.fault.Fault.the-variants.{Fine}
 use Rattle.rules_state.specs.declared.state.Track.{Track}
-use Rattle.rules_state.specs.State.{Seen, MOST-COLUMNS, MOST-LINES}
-use Rattle.rules_state.specs.Role.{NOT-DUE, isSystem, opensSubentry, opensSection}
+use Rattle.rules_state.specs.State.{Seen}
+use Rattle.rules_state.specs.Limits.{MOST-COLUMNS, MOST-LINES}
+use Rattle.rules_roles.specs.Roles.{NOT-DUE, isSystem, opensSubentry, opensSection}
 use Rattle.rules_every.specs.Every.{rule4}
-use Rattle.rules_system.specs.System.{countN1, countN2, limitN1, limitN2, meets, announcedFault, rule8, numberDue}
-use Rattle.rules_system.specs.System.{accessionN1, rule9}
+use Rattle.rules_counts.specs.Counts.{countN1, countN2, limitN1, limitN2, meets, announcedFault, rule8}
+use Rattle.rules_system.specs.System.{numberDue, accessionN1, rule9}
 use Rattle.rules.specs.Order.{faultOf}
 use Rattle.rules.specs.Clean.{Clean}
 use Rattle.rules.proofs.NoColumns.{when-none, whens-none}

@@ -13,10 +13,10 @@ use lib.Dec.{eqb}
 use lib.ListN.{length, getD}
 use Rattle.laws.specs.Walk.{All}
 use Rattle.laws.proofs.Walk.{all-at}
-use Rattle.rules_state.specs.declared.fault.Fault.the-variants.{Fine, At}
+use Rattle.rules_roles.specs.declared.fault.Fault.the-variants.{Fine, At}
 use Rattle.rules_state.specs.declared.state.Track.{Track}
 use Rattle.rules_state.specs.State.{Seen}
-use Rattle.rules_state.specs.Fault.{Finding, firstFault, leftmost}
+use Rattle.rules_roles.specs.Fault.{Finding, firstFault, leftmost}
 use Rattle.rules.specs.Order.{findings, faultOf, Before, noFinding, Least, FaultLeast}
 use Rattle.rules.specs.Rising.{LAST-RULE, LAST-COLUMN, Rising, no-column, column, Sorted, no-more, also}
 use Rattle.rules.specs.Rising.{FaultBounds, FaultBounded}

@@ -1,6 +1,7 @@
 pub mod NoColumns
 pub mod Rising
 pub mod Least
+pub mod FaultSaid
 pub mod ByKind
 pub mod Clean
 pub mod WithoutFault

@@ -8,7 +8,7 @@ use mathlib.Core.List.{List, [], _∷_, _++_}
 use native.Mathlib.Omega.{arith}
 use lib.ListN.{length}
 use Rattle.laws.proofs.Search.{either}
-use Rattle.rules_state.specs.Fault.{on, when, columnsFrom, columnsWhere}
+use Rattle.rules_roles.specs.Fault.{on, when, columnsFrom, columnsWhere}
 
 pub some-column : {X : Type 0} (k : ℕ) (ks : List ℕ) → (k ∷ ks) ≡ [] → X
 some-column k ks e = let z : suc (length ks) ≡ 0 = ap length e in absurd (omega arith)

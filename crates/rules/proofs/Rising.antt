@@ -9,24 +9,25 @@ use borrow.Author.Tests.{leb-true}
 use lib.Dec.{eqb, leb}
 use lib.ListN.{getD}
 use Rattle.laws.proofs.Booleans.{either-as}
-use Rattle.columns.specs.Class.{notPermitted}
+use Rattle.classes.specs.Class.{notPermitted}
 use Rattle.columns.specs.Columns.{hasLineFeed}
 use Rattle.columns.specs.Fields.{n1, n2}
-use Rattle.record.specs.Expected.{identificationOf, sequenceOf, inDigits}
+use Rattle.record_expected.specs.Expected.{identificationOf, sequenceOf, inDigits}
 use Rattle.record.specs.Identifier.{isEnd}
 use Rattle.record.specs.System.{subentryOf}
 use Rattle.record_words.specs.Word.{equalTo, badPointer}
 use Rattle.rules_state.specs.declared.state.Track.{Track}
 use Rattle.rules_state.specs.State.{Seen, used}
-use Rattle.rules_state.specs.Role.{TEXT, DATA-HEADING, NOT-DUE, isSystem, opensSubentry, opensSection, isHeading}
-use Rattle.rules_state.specs.Role.{isUnit, isValue}
-use Rattle.rules_state.specs.Fault.{columnsFrom, columnsWhere, fieldColumn, pointerColumn, on, when}
+use Rattle.rules_roles.specs.Roles.{TEXT, DATA-HEADING, NOT-DUE, isSystem, opensSubentry, opensSection, isHeading}
+use Rattle.rules_roles.specs.Roles.{isUnit, isValue}
+use Rattle.rules_roles.specs.Fault.{columnsFrom, columnsWhere, fieldColumn, pointerColumn, on, when}
 use Rattle.rules_every.specs.Every.{rule2, rule3, rule4, expectedIdentification, rule5, expectedSequence, rule6}
-use Rattle.rules_system.specs.System.{formN1, formN2, inForm, rule7, countN1, countN2, limitN1, limitN2, meets}
-use Rattle.rules_system.specs.System.{announcedFault, countTrue, rule8, accessionN1, numberDue, rule9}
+use Rattle.rules_system.specs.System.{formN1, formN2, inForm, rule7, accessionN1, numberDue, rule9}
+use Rattle.rules_counts.specs.Counts.{countN1, countN2, limitN1, limitN2, meets, announcedFault, countTrue, rule8}
 use Rattle.rules_text.specs.Text.{keywordFault, rule10, pointerRepeated, rule11Text}
-use Rattle.rules_section.specs.Headings.{rule11Heading, rule12Heading, rule12Unit, rule13, rule14}
-use Rattle.rules_section.specs.Values.{lineBlank, rule15}
+use Rattle.rules_section.specs.Headings.{rule11Heading, rule12Heading, rule12Unit, rule13}
+use Rattle.rules_pointers.specs.Pointers.{rule14}
+use Rattle.rules_values.specs.Values.{lineBlank, rule15}
 use Rattle.rules_state.proofs.EitherWay.{either-way}
 use Rattle.rules.specs.Order.{findings}
 use Rattle.rules.specs.Rising.{LAST-RULE, LAST-COLUMN, Rising, no-column, column, Sorted, no-more, also}
@@ -79,7 +80,7 @@ pointers-rising : (test : ℕ → Bool) → Rising 1 (columnsWhere test pointerC
 pointers-rising test =
     where-rising test pointerColumn (λ k. omega arith) 6 (omega arith) (λ k l. omega arith)
 
-used-few : (t : Track) → used t ≤ 6
+pub used-few : (t : Track) → used t ≤ 6
 unfolding used
 used-few t = either-as (λ n. n ≤ 6) (leb (t .table .rest) 6) _ _ (leb-true (t .table .rest) 6) (λ e. omega arith)
 

@@ -12,19 +12,19 @@ use lib.Seq.{drop-drop, getD-drop}
 use Rattle.laws.proofs.Search.{either}
 use Rattle.number.specs.Reading.{readField}
 use Rattle.columns.specs.Columns.{hasLineFeed}
-use Rattle.columns.specs.Class.{isPermitted, notPermitted}
+use Rattle.classes.specs.Class.{isPermitted, notPermitted}
 use Rattle.columns.specs.Fields.{inField, fieldsOf}
-use Rattle.record.specs.Numbers.{formAt, noValue, valueFault}
-use Rattle.rules_state.specs.declared.fault.Fault.the-variants.{Fine}
+use Rattle.record_values.specs.Numbers.{formAt, noValue, valueFault}
+use Rattle.rules_roles.specs.declared.fault.Fault.the-variants.{Fine}
 use Rattle.rules_state.specs.declared.state.Track.{Track}
 use Rattle.rules_state.specs.State.{Seen, used}
-use Rattle.rules_state.specs.Role.{COMMON-VALUE, DATA-VALUE, isValue}
-use Rattle.rules_state.specs.Fault.{when, columnsFrom, columnsWhere, fieldColumn, firstFault}
+use Rattle.rules_roles.specs.Roles.{COMMON-VALUE, DATA-VALUE, isValue}
+use Rattle.rules_roles.specs.Fault.{when, columnsFrom, columnsWhere, fieldColumn, firstFault}
 use Rattle.rules_every.specs.Every.{rule2, rule3, rule5, rule6, expectedIdentification}
-use Rattle.rules_section.specs.Values.{optional, lineBlank, rule15}
+use Rattle.rules_values.specs.Values.{optional, lineBlank, rule15}
 use Rattle.rules.specs.Order.{findings, faultOf}
 use Rattle.rules.specs.Clean.{Clean}
-use Rattle.record.proofs.Readings.{fault-reads, fault-same, first-fault-same}
+use Rattle.record_values.proofs.Readings.{fault-reads, fault-same, first-fault-same}
 use Rattle.rules.proofs.NoColumns.{when-none, append-none, where-none}
 use Rattle.rules.proofs.ByKind.{of-values}
 use Rattle.rules.proofs.Clean.{fine-clean}

@@ -7,16 +7,18 @@ use mathlib.Core.Bool.{true}
 use mathlib.Core.List.{[]}
 use mathlib.Core.Logic.{_↔_}
 use lib.Dec.{eqb}
-use Rattle.rules_state.specs.declared.fault.Fault.the-variants.{Fine}
+use Rattle.rules_roles.specs.declared.fault.Fault.the-variants.{Fine}
 use Rattle.rules_state.specs.declared.state.Track.{Track}
 use Rattle.rules_state.specs.State.{Seen}
-use Rattle.rules_state.specs.Fault.{Record, Fields}
-use Rattle.rules_state.specs.Role.{Role, TEXT, DATA-HEADING, isSystem, opensSubentry, isHeading, isUnit, isValue}
+use Rattle.rules_roles.specs.Fault.{Record, Fields}
+use Rattle.rules_roles.specs.Roles.{Role, TEXT, DATA-HEADING, isSystem, opensSubentry, isHeading, isUnit, isValue}
 use Rattle.rules_every.specs.Every.{rule2, rule3, rule4, rule5, rule6}
-use Rattle.rules_system.specs.System.{rule7, rule8, rule9}
+use Rattle.rules_system.specs.System.{rule7, rule9}
+use Rattle.rules_counts.specs.Counts.{rule8}
 use Rattle.rules_text.specs.Text.{rule10, rule11Text}
-use Rattle.rules_section.specs.Headings.{rule11Heading, rule12Heading, rule12Unit, rule13, rule14}
-use Rattle.rules_section.specs.Values.{rule15}
+use Rattle.rules_section.specs.Headings.{rule11Heading, rule12Heading, rule12Unit, rule13}
+use Rattle.rules_pointers.specs.Pointers.{rule14}
+use Rattle.rules_values.specs.Values.{rule15}
 use Rattle.rules.specs.Order.{faultOf}
 
 -- by the rules for every record

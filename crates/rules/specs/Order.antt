@@ -7,24 +7,27 @@ use Prim.Native.Nat.{ℕ, _<_, _≤_}
 use mathlib.Core.Path.{_≡_}
 use mathlib.Core.Bool.{cond}
 use mathlib.Core.List.{List, [], _∷_}
-use mathlib.Core.Logic.{_⊎_}
+use mathlib.Core.Logic.{_⊎_, _↔_}
 use lib.Dec.{eqb}
 use lib.ListN.{length, getD}
 use Rattle.columns.specs.Columns.{Whole}
-use Rattle.record.specs.declared.numbers.Values.{Values}
-use Rattle.rules_state.specs.declared.fault.Fault.{Fault}
-use Rattle.rules_state.specs.declared.fault.Fault.the-variants.{At}
+use Rattle.record_values.specs.declared.numbers.Values.{Values}
+use Rattle.rules_roles.specs.declared.fault.Fault.{Fault}
+use Rattle.rules_roles.specs.declared.fault.Fault.the-variants.{At}
 use Rattle.rules_state.specs.declared.state.Track.{Track}
-use Rattle.rules_state.specs.declared.ranging.Ranges.{Ranges}
+use Rattle.rules_roles.specs.declared.ranging.Ranges.{Ranges}
 use Rattle.rules_state.specs.State.{Seen}
 use Rattle.rules_state.specs.Ranging.{Stands}
-use Rattle.rules_state.specs.Role.{Role, TEXT, DATA-HEADING, isSystem, opensSubentry, isHeading, isUnit, isValue}
-use Rattle.rules_state.specs.Fault.{Record, Fields, on, leftmost, Finding, finding, firstFault}
+use Rattle.rules_roles.specs.Roles.{Role, TEXT, DATA-HEADING, isSystem, opensSubentry, isHeading, isUnit, isValue}
+use Rattle.rules_roles.specs.Fault.{Record, Fields, on, leftmost, Finding, finding, FaultAnswer, faultAnswer}
+use Rattle.rules_roles.specs.Fault.{firstFault}
 use Rattle.rules_every.specs.Every.{rule2, rule3, rule4, rule5, rule6}
-use Rattle.rules_system.specs.System.{rule7, rule8, rule9}
+use Rattle.rules_system.specs.System.{rule7, rule9}
+use Rattle.rules_counts.specs.Counts.{rule8}
 use Rattle.rules_text.specs.Text.{rule10, rule11Text}
-use Rattle.rules_section.specs.Headings.{rule11Heading, rule12Heading, rule12Unit, rule13, rule14}
-use Rattle.rules_section.specs.Values.{rule15, valuesFor}
+use Rattle.rules_section.specs.Headings.{rule11Heading, rule12Heading, rule12Unit, rule13}
+use Rattle.rules_pointers.specs.Pointers.{rule14}
+use Rattle.rules_values.specs.Values.{rule15, valuesFor}
 
 -- what the rules find on a record, from what is counted and seen before it, its role and its six fields
 abbrev pub findings : Track → Seen → Role → Fields → Record → List Finding
@@ -80,3 +83,17 @@ abbrev pub FaultLeast : Type 0
 FaultLeast =
     (t : Track) (s : Seen) (role : Role) (fs : Fields) (r : Record) (n k : ℕ) → faultOf t s role fs r ≡ At n k
     → Least (findings t s role fs r) n k
+
+-- no rule finds anything
+abbrev pub Nothing : List Finding → Type 0
+Nothing fs = (k : ℕ) → k < length fs → getD fs k noFinding .columns ≡ []
+
+-- what is answered of a record: 0 0 where nothing is found, else the least of what is found
+pub data FaultSaid (fs : List Finding) : FaultAnswer → Type 0 where
+  no-fault : Nothing fs → FaultSaid fs (record { number = 0; column = 0 })
+  a-fault : (n k : ℕ) → Least fs n k → FaultSaid fs (record { number = n; column = k })
+
+abbrev pub FaultExactly : Type 0
+FaultExactly =
+    (t : Track) (s : Seen) (role : Role) (fs : Fields) (r : Record) (a : FaultAnswer)
+    → (faultAnswer (faultOf t s role fs r) ≡ a) ↔ FaultSaid (findings t s role fs r) a

@@ -5,11 +5,11 @@
 use Prim.Native.Nat.{ℕ, _<_, _≤_}
 use mathlib.Core.Path.{_≡_}
 use mathlib.Core.List.{List, [], _∷_}
-use Rattle.rules_state.specs.declared.fault.Fault.the-variants.{At}
+use Rattle.rules_roles.specs.declared.fault.Fault.the-variants.{At}
 use Rattle.rules_state.specs.declared.state.Track.{Track}
 use Rattle.rules_state.specs.State.{Seen}
-use Rattle.rules_state.specs.Role.{Role}
-use Rattle.rules_state.specs.Fault.{Record, Fields, Columns, Finding}
+use Rattle.rules_roles.specs.Roles.{Role}
+use Rattle.rules_roles.specs.Fault.{Record, Fields, Columns, Finding}
 use Rattle.rules.specs.Order.{findings, faultOf}
 
 -- the last number of a rule, and the last column of a record

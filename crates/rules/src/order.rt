@@ -5,36 +5,37 @@ ghost use mathlib.Core.Bool.{cond};
 ghost use lib.Dec.{eqb};
 ghost use lib.ListN.{length, getD, drop};
 ghost use Rattle.columns.specs.Columns.{Whole};
-ghost use Rattle.columns.specs.Class.{ClassesLent};
+ghost use Rattle.classes.specs.Class.{ClassesLent};
 ghost use Rattle.record.specs.Identifier.{NamesLent};
 ghost use Rattle.number.specs.Form.{Tables};
-ghost use Rattle.rules_state.specs.Ranging.{Stands, bytesOf, seenOf};
-ghost use Rattle.rules_state.specs.Role.{TEXT, isHeading};
-ghost use Rattle.rules_state.specs.Fault.{leftmost, on, firstFault};
+ghost use Rattle.rules_state.specs.Ranging.{Stands, seenOf};
+ghost use Rattle.rules_roles.specs.Parts.{bytesOf};
+ghost use Rattle.rules_roles.specs.Roles.{TEXT, isHeading};
+ghost use Rattle.rules_roles.specs.Fault.{leftmost, on, faultAnswer, firstFault};
 ghost use Rattle.rules_text.specs.Text.{rule11Text};
 ghost use Rattle.rules_section.specs.Headings.{rule11Heading};
 ghost use Rattle.rules.specs.Order.{findings, faultOf, Judged};
 use record::identifier::Names;
-use record::numbers::Values;
+use record_values::numbers::Values;
+use rules_counts::counts::rule8;
 use rules_every::every::rule2;
 use rules_every::every::rule3;
 use rules_every::every::rule4;
 use rules_every::every::rule5;
 use rules_every::every::rule6;
+use rules_pointers::pointers::rule14;
+use rules_roles::fault::Fault;
+use rules_roles::ranging::Ranges;
+use rules_roles::roles::TEXT;
 use rules_section::headings::rule11_heading;
 use rules_section::headings::rule12;
 use rules_section::headings::rule13;
-use rules_section::headings::rule14;
-use rules_section::values::rule15;
-use rules_state::fault::Fault;
-use rules_state::ranging::Ranges;
-use rules_state::role::TEXT;
 use rules_state::state::Track;
 use rules_system::system::rule7;
-use rules_system::system::rule8;
 use rules_system::system::rule9;
 use rules_text::text::rule10;
 use rules_text::text::rule11_text;
+use rules_values::values::rule15;
 
 // Rule 11 is made on text records and on heading records.
 fn rule11(track: Track, ranges: Ranges, before: &[u8], role: usize, fs: [[u8; 11]; 6]) -> u8
@@ -158,6 +159,8 @@ pub fn fault<'a>(
     requires { ⌜ Tables (now kinds) (now nexts) ⌝ }
     requires { ⌜ Judged track ranges (now before) (now rec) role fs values ⌝ }
     ensures { λ r. ⌜ r ≡ faultOf track (seenOf (now (before .entry)) ranges) role fs (now (rec .entry)) ⌝ }
+    ensures { λ r. ⌜ faultAnswer r
+        ≡ faultAnswer (faultOf track (seenOf (now (before .entry)) ranges) role fs (now (rec .entry))) ⌝ }
 {
     let a = rule2(rec);
     if a != 0 {

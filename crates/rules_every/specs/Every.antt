@@ -4,15 +4,15 @@ use mathlib.Core.Bool.{cond, not, _||_}
 use mathlib.Core.List.{List}
 use lib.Dec.{eqb}
 use Rattle.columns.specs.Columns.{hasLineFeed}
-use Rattle.columns.specs.Class.{notPermitted}
+use Rattle.classes.specs.Class.{notPermitted}
 use Rattle.columns.specs.Fields.{n1}
 use Rattle.record.specs.Identifier.{ENTRY, ENDSUBENT, ENDENTRY}
 use Rattle.record_words.specs.Word.{equalTo}
-use Rattle.record.specs.Expected.{identificationOf, sequenceOf, inDigits, identificationFor, entryAccession}
-use Rattle.record.specs.Expected.{subentIdentification}
+use Rattle.record_expected.specs.Expected.{identificationOf, sequenceOf, inDigits, identificationFor, entryAccession}
+use Rattle.record_expected.specs.Expected.{subentIdentification}
 use Rattle.rules_state.specs.declared.state.Track.{Track}
-use Rattle.rules_state.specs.Role.{Role, NOT-DUE, opensSubentry}
-use Rattle.rules_state.specs.Fault.{Record, Fields, Columns, when, columnsWhere}
+use Rattle.rules_roles.specs.Roles.{Role, NOT-DUE, opensSubentry}
+use Rattle.rules_roles.specs.Fault.{Record, Fields, Columns, when, columnsWhere}
 
 -- 2, "byte 81 not a line feed", column 81
 unfoldable pub rule2 : Record → Columns
@@ -40,7 +40,8 @@ expectedIdentification t role fs =
 unfoldable pub rule5 : Track → Role → Fields → Record → Columns
 rule5 t role fs r = when (not (equalTo 8 (identificationOf r) (expectedIdentification t role fs))) 67
 
--- "Sequence 00001 on ENTRY, SUBENT and NOSUBENT, one more on each following record, 99999 on ENDSUBENT and ENDENTRY."
+-- "Sequence 00001 on ENTRY, SUBENT and NOSUBENT, one more on each following record, 99999 on ENDSUBENT and ENDENTRY.":
+-- SUBENT has 1, so many records stand behind it, and the record in hand is the next, so it has two more than they are
 unfoldable pub expectedSequence : Track → Role → ℕ
 expectedSequence t role =
     cond (eqb role ENTRY || opensSubentry role) 1

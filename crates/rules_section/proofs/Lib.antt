@@ -1,3 +1,1 @@
 pub mod EarlierParts
-pub mod ReadValues
-pub mod BlankFields

@@ -1,23 +1,20 @@
--- The rules for heading and unit records of COMMON and DATA: refusals 11 to 14.
+-- The rules for heading and unit records of COMMON and DATA: refusals 11 to 13. Rule 14 is that of rules_pointers.
 use Prim.Native.Nat.{ℕ, _+_, _*_, _/_, _%_, _^_, _≤_, _<_}
 use mathlib.Core.Path.{_≡_}
-use mathlib.Core.Bool.{Bool, true, false, cond, not, _&&_}
-use mathlib.Core.List.{List, [], _++_}
+use mathlib.Core.Bool.{Bool, true, false, cond}
+use mathlib.Core.List.{List, []}
 use lib.Dec.{eqb, ltb}
 use lib.ListN.{length, getD}
 use Rattle.laws.specs.Search.{first}
 use Rattle.laws.specs.Turns.{Turn, go, out, run}
-use Rattle.laws.specs.Members.{listOf, anyOf}
 use Rattle.columns.specs.Columns.{columnsAt}
 use Rattle.columns.specs.Fields.{inField}
-use Rattle.columns.specs.Text.{isBlank}
-use Rattle.record_words.specs.Word.{equalTo, pointerOf, pointerFault, headingFault, unitFault}
+use Rattle.record_words.specs.Word.{equalTo, pointerFault, headingFault, unitFault}
 use Rattle.rules_state.specs.declared.state.Track.{Track}
 use Rattle.rules_section.specs.declared.headings.Found.{Found}
 use Rattle.rules_section.specs.declared.headings.Found.the-variants.{At, Nothing}
 use Rattle.rules_state.specs.State.{Seen, used}
-use Rattle.rules_state.specs.Fault.{Record, Fields, Columns, columnsWhere, fieldColumn, pointerColumn}
-use Rattle.rules_text.specs.Text.{pointersOf}
+use Rattle.rules_roles.specs.Fault.{Record, Fields, Columns, columnsWhere, fieldColumn, pointerColumn}
 
 -- "A heading is a word in ten columns, with a pointer or blank in the eleventh. A unit is a word in ten columns,
 -- eleventh blank." "unused fields are blank"
@@ -114,28 +111,3 @@ headingRepeated common001 common table r fs k =
 -- 13, "heading repeated", column "field's first"
 unfoldable pub rule13 : Seen → Track → Fields → Record → Columns
 rule13 s t fs r = columnsWhere (headingRepeated (s .common001) (s .common) (s .table) r fs) fieldColumn (used t)
-
--- ---- pointers
-
-abbrev pub headingPointerAt : List ℕ → ℕ → ℕ
-headingPointerAt part m = getD part (m / 6 * 81 + m % 6 * 11 + 10) 0
-
-unfoldable pub headingPointers : List ℕ → List ℕ
-headingPointers part = listOf (headingPointerAt part) 0 (headingsIn part)
-
--- "A pointer on a DATA heading must occur in BIB column 11 of this subentry or 001, or on a heading of either one's
--- COMMON."
-unfoldable pub pointersFor : List ℕ → List ℕ → List ℕ → List ℕ → List ℕ
-pointersFor bib bib001 common common001 =
-    pointersOf bib ++ (pointersOf bib001 ++ (headingPointers common ++ headingPointers common001))
-
-abbrev pub pointerLost : List ℕ → List ℕ → Bool
-pointerLost pointers f = not (isBlank (pointerOf f)) && not (anyOf (eqb (pointerOf f)) pointers)
-
-abbrev pub lostAt : List ℕ → Fields → ℕ → Bool
-lostAt pointers fs k = pointerLost pointers (getD fs k [])
-
--- 14, "DATA pointer not found", column "field's first"
-unfoldable pub rule14 : Seen → Track → Fields → Columns
-rule14 s t fs =
-    columnsWhere (lostAt (pointersFor (s .bib) (s .bib001) (s .common) (s .common001)) fs) fieldColumn (used t)

@@ -1,36 +1,28 @@
 // The rules for heading and unit records: refusals 11 to 14. Each gives the leftmost column at fault, 0 where there
 // is none.
 ghost use mathlib.Core.Path.{_≡_};
-ghost use Prim.Native.Nat.{ℕ, _+_, _-_, _*_, _/_, _%_, _≤_, _<_};
+ghost use Prim.Native.Nat.{_+_, _-_, _*_, _/_, _%_, _≤_, _<_};
 ghost use mathlib.Core.Bool.{cond};
-ghost use lib.Dec.{eqb};
-ghost use lib.ListN.{length, getD};
-ghost use Rattle.laws.specs.Members.{anyOf};
 ghost use Rattle.laws.specs.Search.{first};
 ghost use Rattle.columns.specs.Columns.{Whole};
-ghost use Rattle.rules_state.specs.State.{used};
-ghost use Rattle.rules_state.specs.Ranging.{Stands, bytesOf, seenOf};
-ghost use Rattle.rules_state.specs.Role.{DATA-HEADING, isHeading, isUnit};
-ghost use Rattle.rules_state.specs.Fault.{leftmost, on};
-ghost use Rattle.rules_section.specs.Headings.{rule11Heading, rule12Heading, rule12Unit, headingsIn, Earlier};
-ghost use Rattle.rules_section.specs.Headings.{earlier};
-ghost use Rattle.rules_section.specs.Headings.{partOf, headingCount, Left, FAR, Near};
-ghost use Rattle.rules_section.specs.Headings.{headingFound, equalHeading, isFound, headingRepeated, rule13};
-ghost use Rattle.rules_section.specs.Headings.{headingPointers, pointersFor, pointerLost, lostAt, rule14};
+ghost use Rattle.rules_state.specs.Ranging.{Stands, seenOf};
+ghost use Rattle.rules_roles.specs.Roles.{isHeading, isUnit};
+ghost use Rattle.rules_roles.specs.Fault.{leftmost, on};
+ghost use Rattle.rules_section.specs.Headings.{rule11Heading, rule12Heading, rule12Unit, headingsIn, earlier};
+ghost use Rattle.rules_section.specs.Headings.{partOf, headingCount, Left, FAR, Near, headingFound, equalHeading};
+ghost use Rattle.rules_section.specs.Headings.{isFound, headingRepeated, rule13};
 use columns::fields::field;
 use record_words::word::heading_fault;
 use record_words::word::pointer_fault;
 use record_words::word::same_heading;
 use record_words::word::unit_fault;
-use rules_state::fault::field_column;
-use rules_state::fault::pointer_column;
-use rules_state::ranging::Ranges;
-use rules_state::ranging::part;
-use rules_state::role::DATA_HEADING;
-use rules_state::role::is_heading;
-use rules_state::role::is_unit;
+use rules_roles::fault::field_column;
+use rules_roles::fault::pointer_column;
+use rules_roles::ranging::Ranges;
+use rules_roles::ranging::part;
+use rules_roles::roles::is_heading;
+use rules_roles::roles::is_unit;
 use rules_state::state::Track;
-use rules_text::text::pointer_in;
 
 // A section and a column of it, both from 1, or nothing.
 pub enum Found {
@@ -39,7 +31,7 @@ pub enum Found {
 }
 
 // The headings of a part of heading records, six to a record.
-fn headings_in(part: &[u8]) -> usize
+pub fn headings_in(part: &[u8]) -> usize
     ensures { λ r. ⌜ r ≡ headingsIn (now (part .entry)) ⌝ }
     ensures { λ r. ⌜ r < FAR ⌝ }
 {
@@ -170,79 +162,6 @@ fn repeated_at<'a>(
     n
 }
 
-// Whether one of the headings of a part has the pointer.
-fn heading_pointer_in(part: &[u8], pointer: u8) -> bool
-    ensures { λ r. ⌜ r ≡ anyOf (eqb pointer) (headingPointers (now (part .entry))) ⌝ }
-{
-    let n = headings_in(part);
-    let mut m = 0;
-    while m < n {
-        let at = m / 6 * 81 + m % 6 * 11 + 10;
-        let p = part[at];
-        if pointer == p {
-            return true;
-        }
-        m += 1;
-    }
-    false
-}
-
-// Whether a pointer stands in a BIB or on a heading of a COMMON.
-fn pointer_found(bib: &[u8], bib001: &[u8], common: &[u8], common001: &[u8], pointer: u8) -> bool
-    ensures { λ r. ⌜ r
-        ≡ anyOf (eqb pointer)
-        (pointersFor (now (bib .entry)) (now (bib001 .entry)) (now (common .entry)) (now (common001 .entry))) ⌝ }
-{
-    if pointer_in(bib, pointer) {
-        return true;
-    }
-    if pointer_in(bib001, pointer) {
-        return true;
-    }
-    if heading_pointer_in(common, pointer) {
-        return true;
-    }
-    heading_pointer_in(common001, pointer)
-}
-
-fn pointer_lost(bib: &[u8], bib001: &[u8], common: &[u8], common001: &[u8], f: [u8; 11]) -> bool
-    ensures { λ r. ⌜ r
-        ≡ pointerLost
-        (pointersFor (now (bib .entry)) (now (bib001 .entry)) (now (common .entry)) (now (common001 .entry))) f ⌝ }
-{
-    let pointer = f[10];
-    if pointer == b' ' {
-        return false;
-    }
-    !pointer_found(bib, bib001, common, common001, pointer)
-}
-
-// The first of the first n fields whose pointer is not found, or n.
-fn lost_at(
-    bib: &[u8],
-    bib001: &[u8],
-    common: &[u8],
-    common001: &[u8],
-    fs: [[u8; 11]; 6],
-    n: usize,
-) -> usize
-    requires { ⌜ n ≤ 6 ⌝ }
-    ensures { λ r. ⌜ r
-        ≡ first (lostAt
-        (pointersFor (now (bib .entry)) (now (bib001 .entry)) (now (common .entry)) (now (common001 .entry))) fs) 0
-        n ⌝ }
-{
-    let mut k = 0;
-    while k < n {
-        let f = fs[k];
-        if pointer_lost(bib, bib001, common, common001, f) {
-            return k;
-        }
-        k += 1;
-    }
-    n
-}
-
 // Rule 11 on a heading record.
 pub fn rule11_heading(track: Track, role: usize, fs: [[u8; 11]; 6]) -> u8
     ensures { λ r. ⌜ r ≡ leftmost (on (isHeading role) (rule11Heading track fs)) ⌝ }
@@ -295,30 +214,6 @@ pub fn rule13<'a>(
         part(before, b),
         part(before, c),
         rec,
-        fs,
-        n,
-    );
-    field_column(k, n)
-}
-
-pub fn rule14(track: Track, ranges: Ranges, before: &[u8], role: usize, fs: [[u8; 11]; 6]) -> u8
-    requires { ⌜ Stands track ranges (now before) ⌝ }
-    ensures { λ r. ⌜ r
-        ≡ leftmost (on (eqb role DATA-HEADING) (rule14 (seenOf (now (before .entry)) ranges) track fs)) ⌝ }
-{
-    if role != DATA_HEADING {
-        return 0;
-    }
-    let a = ranges.bib;
-    let b = ranges.bib001;
-    let c = ranges.common;
-    let d = ranges.common001;
-    let n = track.used();
-    let k = lost_at(
-        part(before, a),
-        part(before, b),
-        part(before, c),
-        part(before, d),
         fs,
         n,
     );

@@ -1,3 +1,2 @@
-pub mod Leftmost
 pub mod EitherWay
 pub mod RolePlaces

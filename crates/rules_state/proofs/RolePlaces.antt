@@ -14,11 +14,9 @@ use Rattle.rules_state.specs.declared.state.Phase.the-variants.{InCommon
 use Rattle.rules_state.specs.declared.state.Phase.the-variants.{AfterCommon, InData, AfterData, Between, Done}
 use Rattle.rules_state.specs.declared.state.Track.{Track}
 use Rattle.rules_state.specs.State.{HEADINGS, UNITS}
-use Rattle.rules_state.specs.Role.{TEXT, COMMON-HEADING, COMMON-UNIT, COMMON-VALUE, DATA-HEADING, DATA-UNIT}
-use Rattle.rules_state.specs.Role.{DATA-VALUE}
-use Rattle.rules_state.specs.Role.{NOT-DUE, isHeading, only, either, bibRole, tableRole, dataRole, allRead}
-use Rattle.rules_state.specs.Role.{nextRole}
-use Rattle.rules_state.specs.Role.{roleIn}
+use Rattle.rules_roles.specs.Roles.{TEXT, COMMON-HEADING, COMMON-UNIT, COMMON-VALUE, DATA-HEADING, DATA-UNIT}
+use Rattle.rules_roles.specs.Roles.{DATA-VALUE, NOT-DUE, isHeading}
+use Rattle.rules_state.specs.Role.{only, either, bibRole, tableRole, dataRole, allRead, nextRole, roleIn}
 use Rattle.rules_state.proofs.EitherWay.{either-way, no}
 
 -- inside BIB; inside COMMON or DATA

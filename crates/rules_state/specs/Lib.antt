@@ -1,4 +1,4 @@
 pub mod State
 pub mod Ranging
 pub mod Role
-pub mod Fault
+pub mod Limits

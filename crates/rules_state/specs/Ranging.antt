@@ -4,17 +4,13 @@
 use mathlib.Core.Path.{_≡_}
 use mathlib.Core.List.{List}
 use Prim.Native.Nat.{ℕ, _*_, _-_, _≤_}
-use lib.ListN.{length, take, drop}
+use lib.ListN.{length}
 use Rattle.rules_state.specs.declared.state.Track.{Track}
-use Rattle.rules_state.specs.declared.ranging.Range.{Range}
-use Rattle.rules_state.specs.declared.ranging.Ranges.{Ranges}
-use Rattle.rules_state.specs.State.{MOST-RECORDS, Seen}
-
--- ---- the parts by the numbers of their records
-
--- the bytes of the records of a range
-abbrev pub bytesOf : List ℕ → Range → List ℕ
-bytesOf before g = take (g .past .0 * 81 - g .from .0 * 81) (drop (g .from .0 * 81) before)
+use Rattle.rules_roles.specs.declared.ranging.Range.{Range}
+use Rattle.rules_roles.specs.declared.ranging.Ranges.{Ranges}
+use Rattle.rules_state.specs.Limits.{MOST-RECORDS}
+use Rattle.rules_state.specs.State.{Seen}
+use Rattle.rules_roles.specs.Parts.{bytesOf}
 
 abbrev pub seenOf : List ℕ → Ranges → Seen
 seenOf before g =
@@ -26,11 +22,6 @@ seenOf before g =
       common = bytesOf before (g .common);
       table = bytesOf before (g .table);
     }
-
--- a range whose records lie among the bytes before the record in hand
-pub record Lent (before : List ℕ) (g : Range) : Type 0 where
-  pub ordered : g .from .0 ≤ g .past .0
-  pub within : g .past .0 * 81 ≤ length before
 
 -- a range of records among the first n
 pub record Placed (g : Range) (n : ℕ) : Type 0 where

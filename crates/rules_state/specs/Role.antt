@@ -1,7 +1,6 @@
 -- What a record is: its role, from what is due and from the system identifier in its columns 1 to 11. A record that
 -- is not due has the role NOT-DUE, which is refusal 4. Only here does the phase count; a rule goes by the role.
-use Prim.Native.Nat.{ℕ, _+_}
-use mathlib.Core.Bool.{Bool, cond, _||_}
+use mathlib.Core.Bool.{Bool, cond}
 use lib.Dec.{eqb, ltb}
 use Rattle.record.specs.Identifier.{ENTRY, SUBENT, NOSUBENT, BIB, NOBIB, ENDBIB, COMMON, NOCOMMON, ENDCOMMON, DATA}
 use Rattle.record.specs.Identifier.{NODATA, ENDDATA, ENDSUBENT, ENDENTRY, OTHER, Identifier, isEnd}
@@ -11,58 +10,8 @@ use Rattle.rules_state.specs.declared.state.Phase.the-variants.{Start, O
 use Rattle.rules_state.specs.declared.state.Phase.the-variants.{InCommon}
 use Rattle.rules_state.specs.declared.state.Phase.the-variants.{AfterCommon, InData, AfterData, Between, Done}
 use Rattle.rules_state.specs.State.{HEADINGS, UNITS}
-
--- ---- the roles: a system record has its identifier's number; the records inside sections have these
-
-abbrev pub Role : Type 0
-Role = ℕ
-
-abbrev pub TEXT : Role
-TEXT = OTHER + 1
-
-abbrev pub COMMON-HEADING : Role
-COMMON-HEADING = OTHER + 2
-
-abbrev pub COMMON-UNIT : Role
-COMMON-UNIT = OTHER + 3
-
-abbrev pub COMMON-VALUE : Role
-COMMON-VALUE = OTHER + 4
-
-abbrev pub DATA-HEADING : Role
-DATA-HEADING = OTHER + 5
-
-abbrev pub DATA-UNIT : Role
-DATA-UNIT = OTHER + 6
-
-abbrev pub DATA-VALUE : Role
-DATA-VALUE = OTHER + 7
-
-abbrev pub NOT-DUE : Role
-NOT-DUE = OTHER + 8
-
--- ---- kinds of roles
-
--- one of the fourteen system identifiers
-abbrev pub isSystem : Role → Bool
-isSystem role = ltb role OTHER
-
--- SUBENT or NOSUBENT
-abbrev pub opensSubentry : Role → Bool
-opensSubentry role = eqb role SUBENT || eqb role NOSUBENT
-
--- BIB, COMMON or DATA, whose N1 and N2 are counts
-abbrev pub opensSection : Role → Bool
-opensSection role = eqb role BIB || (eqb role COMMON || eqb role DATA)
-
-abbrev pub isHeading : Role → Bool
-isHeading role = eqb role COMMON-HEADING || eqb role DATA-HEADING
-
-abbrev pub isUnit : Role → Bool
-isUnit role = eqb role COMMON-UNIT || eqb role DATA-UNIT
-
-abbrev pub isValue : Role → Bool
-isValue role = eqb role COMMON-VALUE || eqb role DATA-VALUE
+use Rattle.rules_roles.specs.Roles.{Role, TEXT, COMMON-HEADING, COMMON-UNIT, COMMON-VALUE, DATA-HEADING, DATA-UNIT}
+use Rattle.rules_roles.specs.Roles.{DATA-VALUE, NOT-DUE}
 
 -- ---- what is due
 

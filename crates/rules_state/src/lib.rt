@@ -1,5 +1,3 @@
 // What the rules stand on: the state between two records, the role of a record, and a fault.
-pub mod fault;
-pub mod ranging;
 pub mod role;
 pub mod state;

@@ -1,9 +1,8 @@
 // What a record is: its role, from what is due and its system identifier.
 ghost use mathlib.Core.Path.{_≡_};
-ghost use Prim.Native.Nat.{ℕ, _+_, _-_, _*_, _≤_, _<_};
+ghost use Prim.Native.Nat.{_-_, _<_};
 ghost use Rattle.record.specs.Identifier.{NamesLent};
-ghost use Rattle.rules_state.specs.Role.{isSystem, opensSubentry, opensSection, isHeading, isUnit, isValue, only};
-ghost use Rattle.rules_state.specs.Role.{either, bibRole, tableRole, dataRole, nextRole, roleIn};
+ghost use Rattle.rules_state.specs.Role.{only, either, bibRole, tableRole, dataRole, nextRole, roleIn};
 use crate::state::HEADINGS;
 use crate::state::Phase;
 use crate::state::Track;
@@ -25,80 +24,14 @@ use record::identifier::Names;
 use record::identifier::OTHER;
 use record::identifier::SUBENT;
 use record::identifier::is_end;
-
-// The roles of the records inside sections; a system record has its identifier's number.
-pub const TEXT: usize = OTHER + 1;
-
-pub const COMMON_HEADING: usize = OTHER + 2;
-
-pub const COMMON_UNIT: usize = OTHER + 3;
-
-pub const COMMON_VALUE: usize = OTHER + 4;
-
-pub const DATA_HEADING: usize = OTHER + 5;
-
-pub const DATA_UNIT: usize = OTHER + 6;
-
-pub const DATA_VALUE: usize = OTHER + 7;
-
-pub const NOT_DUE: usize = OTHER + 8;
-
-// One of the fourteen system identifiers.
-pub fn is_system(role: usize) -> bool
-    ensures { λ r. ⌜ r ≡ isSystem role ⌝ }
-{
-    role < OTHER
-}
-
-// SUBENT or NOSUBENT.
-pub fn opens_subentry(role: usize) -> bool
-    ensures { λ r. ⌜ r ≡ opensSubentry role ⌝ }
-{
-    if role == SUBENT {
-        return true;
-    }
-    role == NOSUBENT
-}
-
-// BIB, COMMON or DATA.
-pub fn opens_section(role: usize) -> bool
-    ensures { λ r. ⌜ r ≡ opensSection role ⌝ }
-{
-    if role == BIB {
-        return true;
-    }
-    if role == COMMON {
-        return true;
-    }
-    role == DATA
-}
-
-pub fn is_heading(role: usize) -> bool
-    ensures { λ r. ⌜ r ≡ isHeading role ⌝ }
-{
-    if role == COMMON_HEADING {
-        return true;
-    }
-    role == DATA_HEADING
-}
-
-pub fn is_unit(role: usize) -> bool
-    ensures { λ r. ⌜ r ≡ isUnit role ⌝ }
-{
-    if role == COMMON_UNIT {
-        return true;
-    }
-    role == DATA_UNIT
-}
-
-pub fn is_value(role: usize) -> bool
-    ensures { λ r. ⌜ r ≡ isValue role ⌝ }
-{
-    if role == COMMON_VALUE {
-        return true;
-    }
-    role == DATA_VALUE
-}
+use rules_roles::roles::COMMON_HEADING;
+use rules_roles::roles::COMMON_UNIT;
+use rules_roles::roles::COMMON_VALUE;
+use rules_roles::roles::DATA_HEADING;
+use rules_roles::roles::DATA_UNIT;
+use rules_roles::roles::DATA_VALUE;
+use rules_roles::roles::NOT_DUE;
+use rules_roles::roles::TEXT;
 
 fn only(a: usize, k: usize) -> usize
     ensures { λ r. ⌜ r ≡ only a k ⌝ }

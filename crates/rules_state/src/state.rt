@@ -1,9 +1,9 @@
 // The state between two records: a phase of the nesting and a track of plain numbers.
 ghost use mathlib.Core.Path.{_≡_};
 ghost use Prim.Native.Nat.{ℕ, _+_, _*_, _≤_, _<_};
-ghost use Rattle.rules_state.specs.State.{MOST-RECORDS, startTrack, withAccession, withTotals, withSubentry};
-ghost use Rattle.rules_state.specs.State.{withSection, withBib, withTable};
-ghost use Rattle.rules_state.specs.State.{counted, used, rowEnds};
+ghost use Rattle.rules_state.specs.Limits.{MOST-RECORDS};
+ghost use Rattle.rules_state.specs.State.{startTrack, withAccession, withTotals, withSubentry, withSection};
+ghost use Rattle.rules_state.specs.State.{withBib, withTable, counted, used, rowEnds};
 ghost use Rattle.rules_state.specs.Ranging.{Bounded};
 use columns::columns::Index;
 use columns::columns::LineNo;

@@ -9,7 +9,7 @@ use Rattle.columns.specs.Columns.{columnsAt}
 use Rattle.columns.specs.Text.{isBlank}
 use Rattle.record_words.specs.Word.{blankTo, equalTo, eightAt, isWord, pointerOf, badPointer}
 use Rattle.rules_state.specs.declared.state.Track.{Track}
-use Rattle.rules_state.specs.Fault.{Fields, Columns, when}
+use Rattle.rules_roles.specs.Fault.{Fields, Columns, when}
 
 -- "BIB: columns 1-10 a keyword (word) or blank, 11 a pointer or blank, 12-66 text."
 

@@ -6,9 +6,10 @@ ghost use lib.Dec.{eqb};
 ghost use lib.ListN.{length, getD};
 ghost use Rattle.laws.specs.Members.{anyOf};
 ghost use Rattle.record_words.specs.Word.{equalTo};
-ghost use Rattle.rules_state.specs.Ranging.{Stands, bytesOf};
-ghost use Rattle.rules_state.specs.Role.{TEXT};
-ghost use Rattle.rules_state.specs.Fault.{leftmost, on};
+ghost use Rattle.rules_state.specs.Ranging.{Stands};
+ghost use Rattle.rules_roles.specs.Parts.{bytesOf};
+ghost use Rattle.rules_roles.specs.Roles.{TEXT};
+ghost use Rattle.rules_roles.specs.Fault.{leftmost, on};
 ghost use Rattle.rules_text.specs.Text.{placesOf, eightsOf, pointersOf, keywordFault, rule10, pointerRepeated};
 ghost use Rattle.rules_text.specs.Text.{rule11Text};
 use columns::fields::field;
@@ -17,9 +18,9 @@ use record_words::word::eight_columns;
 use record_words::word::is_keyword_blank;
 use record_words::word::is_word;
 use record_words::word::same_keyword;
-use rules_state::ranging::Ranges;
-use rules_state::ranging::part;
-use rules_state::role::TEXT;
+use rules_roles::ranging::Ranges;
+use rules_roles::ranging::part;
+use rules_roles::roles::TEXT;
 use rules_state::state::Track;
 
 // Whether one of the records of a part has columns 3 to 10 of that number. One test a record and no array: about twice

@@ -20,7 +20,7 @@ use bytes::scan::find;
 use case::begin;
 use case::change;
 use case::put_record;
-use entry::verdict::judge;
+use entry::judge::judge;
 use program_text::byte_at;
 use program_verdict::say_verdict;
 

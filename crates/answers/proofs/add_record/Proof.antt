@@ -15,73 +15,56 @@ Inv-loop entry₀ used line i₀ entry i =
 abbrev μ-loop : tie.MeasureT-loop
 μ-loop entry₀ used line i₀ entry i = 80 - i
 
--- src/main.rt:184:9
 returns : tie.Need-returns Inv-loop μ-loop
 returns c = tt
 
--- src/main.rt:187:9
 returns-2 : tie.Need-returns-2 Inv-loop μ-loop
 returns-2 c = tt
 
--- src/main.rt:189:8
 sub-if3 : tie.Need-sub-if3 Inv-loop μ-loop
 sub-if3 c = search needs
 
--- src/main.rt:190:9
 returns-3 : tie.Need-returns-3 Inv-loop μ-loop
 returns-3 c = tt
 
--- src/main.rt:193:5
 loop-holds : tie.Need-loop-holds Inv-loop μ-loop
 loop-holds c = (omega arith, omega arith, omega arith, refl)
 
--- src/main.rt:194:32
 add-entry : tie.Need-add-entry Inv-loop μ-loop
 add-entry c = search needs
 
--- src/main.rt:194:27
 shared-slice-read-entry : tie.Need-shared-slice-read-entry Inv-loop μ-loop
 shared-slice-read-entry c = search needs
 
--- src/main.rt:194:15
 add-entry-2 : tie.Need-add-entry-2 Inv-loop μ-loop
 add-entry-2 c = search needs
 
--- src/main.rt:194:9
 slice-write-entry : tie.Need-slice-write-entry Inv-loop μ-loop
 slice-write-entry c = search needs
 
--- src/main.rt:195:9
 add-i : tie.Need-add-i Inv-loop μ-loop
 add-i c = search needs
 
--- src/main.rt:193:5
 loop-less : tie.Need-loop-less Inv-loop μ-loop
 loop-less c = search needs
 
--- src/main.rt:193:5
 loop-again : tie.Need-loop-again Inv-loop μ-loop
 loop-again c =
     let inv = c .before .before .loop .inv in
     (omega arith, inv .1, inv .2, simp length-set (inv .3))
 
--- src/main.rt:197:11
 add-entry-3 : tie.Need-add-entry-3 Inv-loop μ-loop
 add-entry-3 c = search needs
 
--- src/main.rt:197:5
 slice-write-entry-2 : tie.Need-slice-write-entry-2 Inv-loop μ-loop
 slice-write-entry-2 c = search needs
 
--- src/main.rt:198:5
 add-result : tie.Need-add-result Inv-loop μ-loop
 add-result c = search needs
 
--- src/main.rt:182:1
 same-length : tie.Need-same-length Inv-loop μ-loop
 same-length c = simp length-set (c .before .loop .inv .3)
 
--- src/main.rt:182:1
 returns-4 : tie.Need-returns-4 Inv-loop μ-loop
 returns-4 c = tt
 

@@ -14,49 +14,38 @@ Inv-loop text entry₀ used₀ from₀ entry used from = length entry ≡ length
 abbrev μ-loop : tie.MeasureT-loop
 μ-loop text entry₀ used₀ from₀ entry used from = length text - from
 
--- src/main.rt:237:5
 loop-holds : tie.Need-loop-holds Inv-loop μ-loop
 loop-holds c = refl
 
--- src/main.rt:238:13
 find-requires : tie.Need-find-requires Inv-loop μ-loop
 find-requires c κs = search needs
 
--- src/main.rt:239:39
 sub-read-line : tie.Need-sub-read-line Inv-loop μ-loop
 sub-read-line c = search needs
 
--- src/main.rt:239:39
 part-read-line-start : tie.Need-part-read-line-start Inv-loop μ-loop
 part-read-line-start c = search needs
 
--- src/main.rt:239:39
 part-read-line-end : tie.Need-part-read-line-end Inv-loop μ-loop
 part-read-line-end c = search needs
 
--- src/main.rt:239:9
 read-line-requires : tie.Need-read-line-requires Inv-loop μ-loop
 read-line-requires c κs = search needs
 
--- src/main.rt:240:16
 add-from : tie.Need-add-from Inv-loop μ-loop
 add-from c = search needs
 
--- src/main.rt:237:5
 loop-less : tie.Need-loop-less Inv-loop μ-loop
 loop-less c = search needs
 
--- src/main.rt:237:5
 loop-again : tie.Need-loop-again Inv-loop μ-loop
 loop-again c =
     let turn = c .before .before .before .before .before .before .before .loop in
     c .before .before .read-line .kept .0 ∙ turn .inv
 
--- src/main.rt:234:1
 same-length : tie.Need-same-length Inv-loop μ-loop
 same-length c = search needs
 
--- src/main.rt:234:1
 returns : tie.Need-returns Inv-loop μ-loop
 returns c = tt
 

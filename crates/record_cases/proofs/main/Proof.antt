@@ -1,6 +1,6 @@
 use Prim.Native.Nat.{_-_}
 use Rattle.number.specs.Form.{Tables}
-use Rattle.columns.specs.Class.{ClassesLent}
+use Rattle.classes.specs.Class.{ClassesLent}
 use Rattle.record.specs.Identifier.{NamesLent}
 use borrow.Author.Needs.{needs}
 use lib.ListN.{length}
@@ -13,7 +13,7 @@ use Rattle.io.proofs.read_full.Reads as read-full-reads
 use Rattle.io.proofs.write_all.Reads as write-all-reads
 use Rattle.number.proofs.form.kinds.Reads as kinds-reads
 use Rattle.number.proofs.form.nexts.Reads as nexts-reads
-use Rattle.columns.proofs.class.classes.Reads as classes-reads
+use Rattle.classes.proofs.class.classes.Reads as classes-reads
 use Rattle.columns.proofs.fields.fields.Reads as fields-reads
 use Rattle.record.proofs.identifier.names.Reads as names-reads
 use Rattle.record_cases.proofs.say_classes.Reads as say-classes-reads
@@ -28,31 +28,24 @@ Inv-loop t n kinds nexts rec₀ number₀ t7 rec number =
 abbrev μ-loop : tie.MeasureT-loop
 μ-loop t n kinds nexts rec₀ number₀ t7 rec number = 250 - number
 
--- src/main.rt:168:5
 say-classes-requires : tie.Need-say-classes-requires Inv-loop μ-loop
 say-classes-requires c κs = search needs
 
--- src/main.rt:169:5
 say-places-requires : tie.Need-say-places-requires Inv-loop μ-loop
 say-places-requires c κs = search needs
 
--- src/main.rt:170:13
 classes-requires : tie.Need-classes-requires Inv-loop μ-loop
 classes-requires c κs = search needs
 
--- src/main.rt:171:13
 names-requires : tie.Need-names-requires Inv-loop μ-loop
 names-requires c κs = search needs
 
--- src/main.rt:172:17
 kinds-requires : tie.Need-kinds-requires Inv-loop μ-loop
 kinds-requires c κs = search needs
 
--- src/main.rt:173:17
 nexts-requires : tie.Need-nexts-requires Inv-loop μ-loop
 nexts-requires c κs = search needs
 
--- src/main.rt:176:5
 loop-holds : tie.Need-loop-holds Inv-loop μ-loop
 loop-holds c = (
   record { same = c .before .before .before .classes .ensures },
@@ -61,63 +54,48 @@ loop-holds c = (
   refl,
 )
 
--- src/main.rt:177:29
 slice-aggregate-read-full : tie.Need-slice-aggregate-read-full Inv-loop μ-loop
 slice-aggregate-read-full c = sym (c .before .before .loop .inv .3)
 
--- src/main.rt:177:12
 read-full-requires : tie.Need-read-full-requires Inv-loop μ-loop
 read-full-requires c κs = search needs
 
--- src/main.rt:178:13
 returns : tie.Need-returns Inv-loop μ-loop
 returns c = search needs
 
--- src/main.rt:180:28
 slice-aggregate-say-record : tie.Need-slice-aggregate-say-record Inv-loop μ-loop
 slice-aggregate-say-record c = search needs
 
--- src/main.rt:180:9
 say-record-requires : tie.Need-say-record-requires Inv-loop μ-loop
 say-record-requires c κs = search needs
 
--- src/main.rt:181:43
 slice-aggregate-fields : tie.Need-slice-aggregate-fields Inv-loop μ-loop
 slice-aggregate-fields c = search needs
 
--- src/main.rt:181:36
 fields-requires : tie.Need-fields-requires Inv-loop μ-loop
 fields-requires c κs = search needs
 
--- src/main.rt:181:51
 array-read-say-values : tie.Need-array-read-say-values Inv-loop μ-loop
 array-read-say-values c = search needs
 
--- src/main.rt:181:50
 cast-say-values : tie.Need-cast-say-values Inv-loop μ-loop
 cast-say-values c = search needs
 
--- src/main.rt:181:9
 say-values-requires : tie.Need-say-values-requires Inv-loop μ-loop
 say-values-requires c κs = search needs
 
--- src/main.rt:182:26
 slice-aggregate-write-all : tie.Need-slice-aggregate-write-all Inv-loop μ-loop
 slice-aggregate-write-all c = search needs
 
--- src/main.rt:182:9
 write-all-requires : tie.Need-write-all-requires Inv-loop μ-loop
 write-all-requires c κs = search needs
 
--- src/main.rt:183:9
 add-number : tie.Need-add-number Inv-loop μ-loop
 add-number c = search needs
 
--- src/main.rt:176:5
 loop-less : tie.Need-loop-less Inv-loop μ-loop
 loop-less c = search needs
 
--- src/main.rt:176:5
 loop-again : tie.Need-loop-again Inv-loop μ-loop
 loop-again c =
     let l = c .before .before .before .before .before .before .before .before .before .before .before .before .before
@@ -133,7 +111,6 @@ loop-again c =
           .before .before .before .loop .inv .3,
     )
 
--- src/main.rt:167:1
 returns-2 : tie.Need-returns-2 Inv-loop μ-loop
 returns-2 c = search needs
 

@@ -16,49 +16,38 @@ Inv-loop line column₀ t5 t6 t7 column = (1 ≤ line) × (line ≤ 2) × (1 ≤
 abbrev μ-loop : tie.MeasureT-loop
 μ-loop line column₀ t5 t6 t7 column = 8 - column
 
--- src/main.rt:91:5
 loop-holds : tie.Need-loop-holds Inv-loop μ-loop
 loop-holds c = (c .pre .0, c .pre .1, omega arith)
 
--- src/main.rt:92:13
 place-of-requires : tie.Need-place-of-requires Inv-loop μ-loop
 place-of-requires c κs =
     in-table _ _ _ _ 2 (c .before .loop .inv .0) (c .before .loop .inv .1) (c .before .loop .inv .2) (omega arith)
     (omega arith)
 
--- src/main.rt:94:13
 slice-aggregate-say : tie.Need-slice-aggregate-say Inv-loop μ-loop
 slice-aggregate-say c = search needs
 
--- src/main.rt:94:26
 cast-say : tie.Need-cast-say Inv-loop μ-loop
 cast-say c = search needs
 
--- src/main.rt:94:9
 say-requires : tie.Need-say-requires Inv-loop μ-loop
 say-requires c κs = search needs
 
--- src/main.rt:95:13
 slice-aggregate-say-2 : tie.Need-slice-aggregate-say-2 Inv-loop μ-loop
 slice-aggregate-say-2 c = search needs
 
--- src/main.rt:95:25
 cast-say-2 : tie.Need-cast-say-2 Inv-loop μ-loop
 cast-say-2 c = search needs
 
--- src/main.rt:95:9
 say-requires-2 : tie.Need-say-requires-2 Inv-loop μ-loop
 say-requires-2 c κs = search needs
 
--- src/main.rt:96:9
 add-column : tie.Need-add-column Inv-loop μ-loop
 add-column c = search needs
 
--- src/main.rt:91:5
 loop-less : tie.Need-loop-less Inv-loop μ-loop
 loop-less c = search needs
 
--- src/main.rt:91:5
 loop-again : tie.Need-loop-again Inv-loop μ-loop
 loop-again c = (
   c .before .before .before .before .before .before .before .before .before .loop .inv .0,
@@ -66,15 +55,12 @@ loop-again c = (
   omega arith,
 )
 
--- src/main.rt:98:22
 slice-aggregate-write-all : tie.Need-slice-aggregate-write-all Inv-loop μ-loop
 slice-aggregate-write-all c = search needs
 
--- src/main.rt:98:5
 write-all-requires : tie.Need-write-all-requires Inv-loop μ-loop
 write-all-requires c κs = search needs
 
--- src/main.rt:86:1
 returns : tie.Need-returns Inv-loop μ-loop
 returns c = search needs
 

@@ -15,55 +15,42 @@ Inv-loop columns₀ t2 t3 columns = 1 ≤ columns
 abbrev μ-loop : tie.MeasureT-loop
 μ-loop columns₀ t2 t3 columns = 19 - columns
 
--- src/main.rt:77:5
 loop-holds : tie.Need-loop-holds Inv-loop μ-loop
 loop-holds c = omega arith
 
--- src/main.rt:78:13
 slice-aggregate-say : tie.Need-slice-aggregate-say Inv-loop μ-loop
 slice-aggregate-say c = search needs
 
--- src/main.rt:78:19
 records-for-requires : tie.Need-records-for-requires Inv-loop μ-loop
 records-for-requires c κs = search needs
 
--- src/main.rt:78:19
 cast-say : tie.Need-cast-say Inv-loop μ-loop
 cast-say c = search needs
 
--- src/main.rt:78:9
 say-requires : tie.Need-say-requires Inv-loop μ-loop
 say-requires c κs = search needs
 
--- src/main.rt:79:9
 add-columns : tie.Need-add-columns Inv-loop μ-loop
 add-columns c = search needs
 
--- src/main.rt:77:5
 loop-less : tie.Need-loop-less Inv-loop μ-loop
 loop-less c = search needs
 
--- src/main.rt:77:5
 loop-again : tie.Need-loop-again Inv-loop μ-loop
 loop-again c = omega (arith, c .before .before .before .before .loop .inv)
 
--- src/main.rt:81:22
 slice-aggregate-write-all : tie.Need-slice-aggregate-write-all Inv-loop μ-loop
 slice-aggregate-write-all c = search needs
 
--- src/main.rt:81:5
 write-all-requires : tie.Need-write-all-requires Inv-loop μ-loop
 write-all-requires c κs = search needs
 
--- src/main.rt:82:5
 say-line-requires : tie.Need-say-line-requires Inv-loop μ-loop
 say-line-requires c κs = search needs
 
--- src/main.rt:83:5
 say-line-requires-2 : tie.Need-say-line-requires-2 Inv-loop μ-loop
 say-line-requires-2 c κs = search needs
 
--- src/main.rt:75:1
 returns : tie.Need-returns Inv-loop μ-loop
 returns c = search needs
 

@@ -13,27 +13,21 @@ Inv-loop coefficient most u₀ size₀ u size = size ≤ most
 abbrev μ-loop : tie.MeasureT-loop
 μ-loop coefficient most u₀ size₀ u size = most - size
 
--- src/main.rt:138:5
 loop-holds : tie.Need-loop-holds Inv-loop μ-loop
 loop-holds c = omega arith
 
--- src/main.rt:139:9
 both-requires : tie.Need-both-requires Inv-loop μ-loop
 both-requires c κs = search needs
 
--- src/main.rt:138:9
 add-size : tie.Need-add-size Inv-loop μ-loop
 add-size c = search needs
 
--- src/main.rt:138:5
 loop-less : tie.Need-loop-less Inv-loop μ-loop
 loop-less c = search needs
 
--- src/main.rt:138:5
 loop-again : tie.Need-loop-again Inv-loop μ-loop
 loop-again c = omega arith
 
--- src/main.rt:136:1
 returns : tie.Need-returns Inv-loop μ-loop
 returns c = tt
 

@@ -14,31 +14,24 @@ Inv-loop coefficient u₀ k₀ u k = k ≤ 9
 abbrev μ-loop : tie.MeasureT-loop
 μ-loop coefficient u₀ k₀ u k = 9 - k
 
--- src/main.rt:173:5
 loop-holds : tie.Need-loop-holds Inv-loop μ-loop
 loop-holds c = omega arith
 
--- src/main.rt:174:36
 before-ten-requires : tie.Need-before-ten-requires Inv-loop μ-loop
 before-ten-requires c κs = search needs
 
--- src/main.rt:174:9
 around-requires : tie.Need-around-requires Inv-loop μ-loop
 around-requires c κs = search needs
 
--- src/main.rt:173:9
 add-k : tie.Need-add-k Inv-loop μ-loop
 add-k c = search needs
 
--- src/main.rt:173:5
 loop-less : tie.Need-loop-less Inv-loop μ-loop
 loop-less c = search needs
 
--- src/main.rt:173:5
 loop-again : tie.Need-loop-again Inv-loop μ-loop
 loop-again c = omega arith
 
--- src/main.rt:171:1
 returns : tie.Need-returns Inv-loop μ-loop
 returns c = tt
 

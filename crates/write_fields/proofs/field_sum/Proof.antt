@@ -13,35 +13,27 @@ Inv-loop sum field s₀ i₀ s i = i ≤ 11
 abbrev μ-loop : tie.MeasureT-loop
 μ-loop sum field s₀ i₀ s i = 11 - i
 
--- src/main.rt:23:5
 loop-holds : tie.Need-loop-holds Inv-loop μ-loop
 loop-holds c = omega arith
 
--- src/main.rt:24:22
 array-read-mixed : tie.Need-array-read-mixed Inv-loop μ-loop
 array-read-mixed c = search needs
 
--- src/main.rt:24:22
 cast-mixed : tie.Need-cast-mixed Inv-loop μ-loop
 cast-mixed c = search needs
 
--- src/main.rt:24:9
 mixed-requires : tie.Need-mixed-requires Inv-loop μ-loop
 mixed-requires c κs = search needs
 
--- src/main.rt:23:9
 add-i : tie.Need-add-i Inv-loop μ-loop
 add-i c = search needs
 
--- src/main.rt:23:5
 loop-less : tie.Need-loop-less Inv-loop μ-loop
 loop-less c = search needs
 
--- src/main.rt:23:5
 loop-again : tie.Need-loop-again Inv-loop μ-loop
 loop-again c = omega arith
 
--- src/main.rt:21:1
 returns : tie.Need-returns Inv-loop μ-loop
 returns c = tt
 

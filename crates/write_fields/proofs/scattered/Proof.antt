@@ -16,55 +16,42 @@ Inv-loop u₀ x₀ i₀ u x i = i ≤ 20000
 abbrev μ-loop : tie.MeasureT-loop
 μ-loop u₀ x₀ i₀ u x i = 20000 - i
 
--- src/main.rt:198:5
 loop-holds : tie.Need-loop-holds Inv-loop μ-loop
 loop-holds c = omega arith
 
--- src/main.rt:199:13
 next-requires : tie.Need-next-requires Inv-loop μ-loop
 next-requires c κs = search needs
 
--- src/main.rt:200:9
 next-requires-2 : tie.Need-next-requires-2 Inv-loop μ-loop
 next-requires-2 c κs = search needs
 
--- src/main.rt:201:17
 shr-c : tie.Need-shr-c Inv-loop μ-loop
 shr-c c = search needs
 
--- src/main.rt:202:20
 cast-size : tie.Need-cast-size Inv-loop μ-loop
 cast-size c = search needs
 
--- src/main.rt:203:36
 power-requires : tie.Need-power-requires Inv-loop μ-loop
 power-requires c κs = search needs
 
--- src/main.rt:203:9
 once-requires : tie.Need-once-requires Inv-loop μ-loop
 once-requires c κs = search needs
 
--- src/main.rt:204:30
 cast-both : tie.Need-cast-both Inv-loop μ-loop
 cast-both c = search needs
 
--- src/main.rt:204:9
 both-requires : tie.Need-both-requires Inv-loop μ-loop
 both-requires c κs = search needs
 
--- src/main.rt:198:9
 add-i : tie.Need-add-i Inv-loop μ-loop
 add-i c = search needs
 
--- src/main.rt:198:5
 loop-less : tie.Need-loop-less Inv-loop μ-loop
 loop-less c = search needs
 
--- src/main.rt:198:5
 loop-again : tie.Need-loop-again Inv-loop μ-loop
 loop-again c = omega arith
 
--- src/main.rt:195:1
 returns : tie.Need-returns Inv-loop μ-loop
 returns c = tt
 

@@ -5,15 +5,12 @@ use Rattle.canonical.proofs.store.exponent_columns.Tie as tie
 use Rattle.canonical.proofs.store.exponent_columns.Reads as reads
 use Rattle.canonical.proofs.store.exponent_columns.Lts as lts
 
--- src/store.rt:53:17
 add-result : tie.Need-add-result
 add-result c = omega arith
 
--- src/store.rt:49:1
 returns : tie.Need-returns
 returns c = rw (c .if1 .taken) refl
 
--- src/store.rt:49:1
 returns-2 : tie.Need-returns-2
 returns-2 c = rw (c .if1 .left) refl
 

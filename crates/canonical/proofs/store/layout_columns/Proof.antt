@@ -11,15 +11,12 @@ use Rattle.canonical.proofs.store.layout_columns.Lts as lts
 use Rattle.canonical.proofs.store.exponent_columns.Reads as exponent-columns-reads
 use Rattle.canonical.proofs.store.sign_columns.Reads as sign-columns-reads
 
--- src/store.rt:63:9
 exponent-columns-requires : tie.Need-exponent-columns-requires
 exponent-columns-requires c κs = search needs
 
--- src/store.rt:64:5
 sign-columns-requires : tie.Need-sign-columns-requires
 sign-columns-requires c κs = search needs
 
--- src/store.rt:64:45
 add-result : tie.Need-add-result
 add-result c =
     omega (
@@ -29,7 +26,6 @@ add-result c =
           (1 + c .before .before .args .p .long),
     )
 
--- src/store.rt:64:40
 add-result-2 : tie.Need-add-result-2
 add-result-2 c =
     omega (
@@ -39,7 +35,6 @@ add-result-2 c =
           (1 + c .before .before .args .p .long),
     )
 
--- src/store.rt:64:31
 add-result-3 : tie.Need-add-result-3
 add-result-3 c =
     omega (
@@ -49,7 +44,6 @@ add-result-3 c =
           (1 + c .before .before .args .p .long),
     )
 
--- src/store.rt:64:5
 add-result-4 : tie.Need-add-result-4
 add-result-4 c =
     omega (
@@ -61,7 +55,6 @@ add-result-4 c =
       one-if (c .before .before .args .negative) 1,
     )
 
--- src/store.rt:57:1
 returns : tie.Need-returns
 unfolding layoutColumns
 returns c = rw (c .before .exponent-columns .ensures, c .sign-columns .ensures) refl

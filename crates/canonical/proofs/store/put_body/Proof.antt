@@ -13,35 +13,27 @@ use Rattle.canonical.proofs.store.put_body.Lts as lts
 use Rattle.canonical.proofs.store.put_byte.Reads as put-byte-reads
 use Rattle.canonical.proofs.store.put_digits.Reads as put-digits-reads
 
--- src/store.rt:87:35
 add-put-digits : tie.Need-add-put-digits
 add-put-digits c = search needs
 
--- src/store.rt:87:29
 add-put-digits-2 : tie.Need-add-put-digits-2
 add-put-digits-2 c = search needs
 
--- src/store.rt:87:9
 put-digits-requires : tie.Need-put-digits-requires
 put-digits-requires c κs = search needs
 
--- src/store.rt:88:19
 add-put-byte : tie.Need-add-put-byte
 add-put-byte c = search needs
 
--- src/store.rt:88:5
 put-byte-requires : tie.Need-put-byte-requires
 put-byte-requires c κs = search needs
 
--- src/store.rt:89:5
 put-digits-requires-2 : tie.Need-put-digits-requires-2
 put-digits-requires-2 c κs = search needs
 
--- src/store.rt:83:1
 same-length : tie.Need-same-length
 same-length c = search needs
 
--- src/store.rt:83:1
 returns : tie.Need-returns
 returns c =
     filled-body

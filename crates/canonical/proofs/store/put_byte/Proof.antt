@@ -6,15 +6,12 @@ use Rattle.canonical.proofs.store.put_byte.Tie as tie
 use Rattle.canonical.proofs.store.put_byte.Reads as reads
 use Rattle.canonical.proofs.store.put_byte.Lts as lts
 
--- src/store.rt:15:5
 slice-write-out : tie.Need-slice-write-out
 slice-write-out c = search needs
 
--- src/store.rt:11:1
 same-length : tie.Need-same-length
 same-length c = search needs
 
--- src/store.rt:11:1
 returns : tie.Need-returns
 returns c = put-one (c .args .out .now) (c .args .at) (c .args .b) (c .pre)
 

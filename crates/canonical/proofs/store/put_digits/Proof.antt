@@ -18,35 +18,27 @@ Inv-loop out₀ at n v w₀ k₀ out w k =
 abbrev μ-loop : tie.MeasureT-loop
 μ-loop out₀ at n v w₀ k₀ out w k = k
 
--- src/store.rt:34:5
 loop-holds : tie.Need-loop-holds Inv-loop μ-loop
 loop-holds c = (omega arith, (refl, (refl, refl)))
 
--- src/store.rt:35:9
 sub-k : tie.Need-sub-k Inv-loop μ-loop
 sub-k c = omega arith
 
--- src/store.rt:36:28
 cast-out : tie.Need-cast-out Inv-loop μ-loop
 cast-out c = omega arith
 
--- src/store.rt:36:23
 add-out : tie.Need-add-out Inv-loop μ-loop
 add-out c = omega arith
 
--- src/store.rt:36:13
 add-out-2 : tie.Need-add-out-2 Inv-loop μ-loop
 add-out-2 c = omega arith
 
--- src/store.rt:36:9
 slice-write-out : tie.Need-slice-write-out Inv-loop μ-loop
 slice-write-out c = omega arith
 
--- src/store.rt:34:5
 loop-less : tie.Need-loop-less Inv-loop μ-loop
 loop-less c = omega arith
 
--- src/store.rt:34:5
 loop-again : tie.Need-loop-again Inv-loop μ-loop
 loop-again c = (
   omega arith,
@@ -61,11 +53,9 @@ loop-again c = (
   ),
 )
 
--- src/store.rt:28:1
 same-length : tie.Need-same-length Inv-loop μ-loop
 same-length c = c .before .loop .inv .1 .0
 
--- src/store.rt:28:1
 returns : tie.Need-returns Inv-loop μ-loop
 returns c = (
   sym (c .before .loop .inv .1 .1 .1 ∙ shift-out (c .before .loop .k) (c .before .loop .w) (c .loop-test .left)),

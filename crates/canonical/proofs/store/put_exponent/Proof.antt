@@ -16,30 +16,24 @@ use Rattle.canonical.proofs.store.put_byte.Reads as put-byte-reads
 use Rattle.canonical.proofs.store.put_digits.Reads as put-digits-reads
 use Rattle.canonical.proofs.store.sign_byte.Reads as sign-byte-reads
 
--- src/store.rt:97:25
 add-put-digits : tie.Need-add-put-digits
 add-put-digits c = search needs
 
--- src/store.rt:97:9
 put-digits-requires : tie.Need-put-digits-requires
 put-digits-requires c κs = let h = rw (c .before .if1 .taken) at (c .before .before .before .pre) in omega arith
 
--- src/store.rt:98:27
 sign-byte-requires : tie.Need-sign-byte-requires
 sign-byte-requires c κs = search needs
 
--- src/store.rt:98:9
 put-byte-requires : tie.Need-put-byte-requires
 put-byte-requires c κs =
     let h = rw (c .before .before .before .before .before .before .if1 .taken) at
     (c .before .before .before .before .before .before .before .before .pre) in
     omega (arith, c .before .before .before .before .put-digits .kept)
 
--- src/store.rt:92:1
 same-length : tie.Need-same-length
 same-length c = search needs
 
--- src/store.rt:92:1
 returns : tie.Need-returns
 returns c =
     let h = rw (c .before .before .before .before .before .before .before .before .before .if1 .taken) at
@@ -59,7 +53,6 @@ returns c =
     (c .before .before .before .before .before .before .before .before .before .before .before .args .at) (s ∷ []))
     (c .before .before .before .sign-byte .ensures)) h)
 
--- src/store.rt:92:1
 returns-2 : tie.Need-returns-2
 returns-2 c = rw (c .if1 .left) (sym (put-nothing (c .before .before .args .out .now) (c .before .before .args .at)))
 

@@ -18,20 +18,16 @@ use Rattle.canonical.proofs.store.put_sign.Reads as put-sign-reads
 use Rattle.canonical.proofs.store.sign_columns.Reads as sign-columns-reads
 use Rattle.canonical.proofs.store.with_zeros.Reads as with-zeros-reads
 
--- src/store.rt:128:28
 layout-columns-requires : tie.Need-layout-columns-requires
 layout-columns-requires c κs =
     (c .before .pre .sound .whole, (c .before .pre .sound .part, c .before .pre .sound .long))
 
--- src/store.rt:128:16
 sub-lead : tie.Need-sub-lead
 sub-lead c = omega (arith, c .layout-columns .ensures, c .before .before .pre .fits)
 
--- src/store.rt:129:21
 sign-columns-requires : tie.Need-sign-columns-requires
 sign-columns-requires c κs = search needs
 
--- src/store.rt:129:14
 add-at : tie.Need-add-at
 add-at c =
     omega (
@@ -42,15 +38,12 @@ add-at c =
       column-parts (c .before .before .before .args .negative) (c .before .before .before .args .p),
     )
 
--- src/store.rt:130:9
 with-zeros-requires : tie.Need-with-zeros-requires
 with-zeros-requires c κs = (c .before .before .before .pre .sound .zeros, c .before .before .before .pre .small)
 
--- src/store.rt:131:38
 add-put-exponent : tie.Need-add-put-exponent
 add-put-exponent c = omega (arith, c .before .before .before .before .before .pre .sound .part)
 
--- src/store.rt:131:29
 add-put-exponent-2 : tie.Need-add-put-exponent-2
 add-put-exponent-2 c =
     omega (
@@ -59,7 +52,6 @@ add-put-exponent-2 c =
       c .before .before .before .before .before .pre .sound .whole,
     )
 
--- src/store.rt:131:23
 add-put-exponent-3 : tie.Need-add-put-exponent-3
 add-put-exponent-3 c =
     omega (
@@ -71,7 +63,6 @@ add-put-exponent-3 c =
           (c .before .before .before .before .before .args .p),
     )
 
--- src/store.rt:131:5
 put-exponent-requires : tie.Need-put-exponent-requires
 put-exponent-requires c κs =
     omega (
@@ -83,7 +74,6 @@ put-exponent-requires c κs =
           (c .before .before .before .before .before .args .p),
     )
 
--- src/store.rt:132:5
 put-body-requires : tie.Need-put-body-requires
 put-body-requires c κs =
     omega (
@@ -96,7 +86,6 @@ put-body-requires c κs =
       c .before .before .before .put-exponent .kept,
     )
 
--- src/store.rt:133:5
 put-sign-requires : tie.Need-put-sign-requires
 put-sign-requires c κs =
     omega (
@@ -115,7 +104,6 @@ put-sign-requires c κs =
       c .before .before .before .put-body .kept,
     )
 
--- src/store.rt:134:5
 put-blanks-requires : tie.Need-put-blanks-requires
 put-blanks-requires c κs =
     omega (
@@ -129,11 +117,9 @@ put-blanks-requires c κs =
       c .before .before .before .put-sign .kept,
     )
 
--- src/store.rt:117:1
 same-length : tie.Need-same-length
 same-length c = search needs
 
--- src/store.rt:117:1
 returns : tie.Need-returns
 returns c =
     let p = c .before .before .before .before .before .before .before .before .before .before .before .before .before

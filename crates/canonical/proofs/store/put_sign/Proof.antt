@@ -9,19 +9,15 @@ use Rattle.canonical.proofs.store.put_sign.Reads as reads
 use Rattle.canonical.proofs.store.put_sign.Lts as lts
 use Rattle.canonical.proofs.store.put_byte.Reads as put-byte-reads
 
--- src/store.rt:78:9
 put-byte-requires : tie.Need-put-byte-requires
 put-byte-requires c κs = let h = rw (c .before .if1 .taken) at (c .before .before .before .pre) in omega arith
 
--- src/store.rt:73:1
 same-length : tie.Need-same-length
 same-length c = search needs
 
--- src/store.rt:73:1
 returns : tie.Need-returns
 returns c = rw (c .before .before .before .before .if1 .taken) (c .before .before .put-byte .ensures)
 
--- src/store.rt:73:1
 returns-2 : tie.Need-returns-2
 returns-2 c = rw (c .if1 .left) (sym (put-nothing (c .before .before .args .out .now) (c .before .before .args .at)))
 

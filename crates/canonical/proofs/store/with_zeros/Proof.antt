@@ -8,25 +8,20 @@ use Rattle.canonical.proofs.store.with_zeros.Tie as tie
 use Rattle.canonical.proofs.store.with_zeros.Reads as reads
 use Rattle.canonical.proofs.store.with_zeros.Lts as lts
 
--- src/store.rt:108:9
 returns : tie.Need-returns
 returns c = rw (c .if1 .taken) (sym (mul-one (c .before .args .c)))
 
--- src/store.rt:111:16
 mul-result : tie.Need-mul-result
 mul-result c = omega (arith, rw (c .if2 .taken) at (c .before .before .pre .1))
 
--- src/store.rt:111:9
 returns-2 : tie.Need-returns-2
 returns-2 c = rw (c .if2 .taken) refl
 
--- src/store.rt:113:5
 mul-result-2 : tie.Need-mul-result-2
 mul-result-2 c =
     let e : c .before .before .args .zeros ≡ 2 = omega arith in
     omega (arith, rw e at (c .before .before .pre .1))
 
--- src/store.rt:103:1
 returns-3 : tie.Need-returns-3
 returns-3 c = let e : c .before .before .args .zeros ≡ 2 = omega arith in rw e refl
 

@@ -14,11 +14,9 @@ use Rattle.canonical_layout.proofs.layout.prepare.Reads as prepare-reads
 use Rattle.canonical.proofs.store.layout_columns.Reads as layout-columns-reads
 use Rattle.canonical.proofs.store.put_field.Reads as put-field-reads
 
--- src/write.rt:21:9
 prepare-requires : tie.Need-prepare-requires
 prepare-requires c κs = search needs
 
--- src/write.rt:25:20
 layout-columns-requires : tie.Need-layout-columns-requires
 layout-columns-requires c κs =
     let e = rw (flat-power (c .before .before .before .args .power)
@@ -28,7 +26,6 @@ layout-columns-requires c κs =
     (omega (arith, c .before .before .before .fits .power .sfits)) in
     (s .whole, (s .part, s .long))
 
--- src/write.rt:26:9
 returns : tie.Need-returns
 returns c =
     let e = rw (flat-power (c .before .before .before .before .before .args .power)
@@ -39,7 +36,6 @@ returns c =
     (c .before .before .before .before .before .args .power) (c .before .before .before .prepare .result) e
     (rw (c .before .layout-columns .ensures) at (c .if1 .taken))
 
--- src/write.rt:28:5
 put-field-requires : tie.Need-put-field-requires
 put-field-requires c κs =
     let e = rw (flat-power (c .before .before .before .before .before .before .args .power)
@@ -57,11 +53,9 @@ put-field-requires c κs =
     (c .before .before .before .before .prepare .result) e (omega arith)
     (omega (arith, c .before .before .before .before .before .before .fits .power .sfits)))
 
--- src/write.rt:17:1
 same-length : tie.Need-same-length
 same-length c = search needs
 
--- src/write.rt:17:1
 returns-2 : tie.Need-returns-2
 returns-2 c =
     let e = rw (flat-power (c .before .before .before .before .before .before .before .before .before .args .power)

@@ -10,7 +10,6 @@ use Rattle.canonical.proofs.write.write_number.Reads as reads
 use Rattle.canonical.proofs.write.write_number.Lts as lts
 use Rattle.canonical.proofs.write.write_columns.Reads as write-columns-reads
 
--- src/write.rt:38:9
 returns : tie.Need-returns
 returns c =
     let a = not-eleven (c .before .before .args .out .now)
@@ -25,15 +24,12 @@ returns c =
       ),
     )
 
--- src/write.rt:40:5
 write-columns-requires : tie.Need-write-columns-requires
 write-columns-requires c κs = search needs
 
--- src/write.rt:33:1
 same-length : tie.Need-same-length
 same-length c = search needs
 
--- src/write.rt:33:1
 returns-2 : tie.Need-returns-2
 returns-2 c =
     let a = in-eleven (c .before .before .before .before .before .before .args .out .now)

@@ -6,28 +6,22 @@ use Rattle.canonical_layout.proofs.layout.layout_down.Reads as reads
 use Rattle.canonical_layout.proofs.layout.layout_down.Lts as lts
 use Rattle.canonical_layout.proofs.layout.layout_raised.Reads as layout-raised-reads
 
--- src/layout.rt:175:20
 sub-t7 : tie.Need-sub-t7
 sub-t7 c = search needs
 
--- src/layout.rt:174:9
 returns : tie.Need-returns
 returns c = down-among (c .before .args .d) (c .before .args .t) (c .if1 .taken)
 
--- src/layout.rt:184:13
 add-if2 : tie.Need-add-if2
 add-if2 c = search needs
 
--- src/layout.rt:186:9
 returns-2 : tie.Need-returns-2
 returns-2 c =
     down-behind (c .before .before .args .d) (c .before .before .args .t) (c .before .if1 .left) (c .if2 .taken)
 
--- src/layout.rt:196:5
 layout-raised-requires : tie.Need-layout-raised-requires
 layout-raised-requires c κs = search needs
 
--- src/layout.rt:167:1
 returns-3 : tie.Need-returns-3
 returns-3 c = c .layout-raised .ensures
 

@@ -14,11 +14,9 @@ use Rattle.canonical_layout.proofs.layout.layout_down.Reads as layout-d
 use Rattle.canonical_layout.proofs.layout.layout_up.Reads as layout-up-reads
 use Rattle.canonical_layout.proofs.layout.size_of.Reads as size-of-reads
 
--- src/layout.rt:203:9
 size-of-requires : tie.Need-size-of-requires
 size-of-requires c κs = search needs
 
--- src/layout.rt:207:9
 layout-down-requires : tie.Need-layout-down-requires
 layout-down-requires c κs = (
   c .before .before .pre .0,
@@ -35,7 +33,6 @@ layout-down-requires c κs = (
       ),
 )
 
--- src/layout.rt:207:9
 returns : tie.Need-returns
 returns c =
     let e = rw (flat-power (c .before .before .before .args .p)
@@ -44,11 +41,9 @@ returns c =
     (c .before .before .before .args .p +ℤ pos (c .before .before .before .args .zeros))
     (c .before .before .size-of .result) e (c .before .if1 .taken)
 
--- src/layout.rt:209:5
 layout-up-requires : tie.Need-layout-up-requires
 layout-up-requires c κs = search needs
 
--- src/layout.rt:199:1
 returns-2 : tie.Need-returns-2
 returns-2 c =
     let e = rw (flat-power (c .before .before .before .args .p)

@@ -12,25 +12,20 @@ use Rattle.canonical_layout.proofs.layout.layout_raised.Reads as reads
 use Rattle.canonical_layout.proofs.layout.layout_raised.Lts as lts
 use Rattle.canonical_layout.proofs.layout.measured.Reads as measured-reads
 
--- src/layout.rt:139:22
 sub-measured : tie.Need-sub-measured
 sub-measured c = search needs
 
--- src/layout.rt:139:9
 measured-requires : tie.Need-measured-requires
 measured-requires c κs = search needs
 
--- src/layout.rt:142:16
 mul-most : tie.Need-mul-most
 mul-most c =
     let x = counts (c .before .args .t - c .before .args .d) (omega arith) in
     omega (arith, c .measured .ensures .1, least-of (c .before .args .t - c .before .args .d) (omega arith))
 
--- src/layout.rt:142:16
 sub-most : tie.Need-sub-most
 sub-most c = omega (arith, c .measured .ensures .1, ten-pos (count (c .before .args .t - c .before .args .d) - 1))
 
--- src/layout.rt:144:9
 returns : tie.Need-returns
 returns c =
     down-all (c .before .before .args .d) (c .before .before .args .t) (c .before .before .pre .1 .1)
@@ -38,11 +33,9 @@ returns c =
     (c .before .measured .ensures .0) (most-of (c .before .before .args .t - c .before .before .args .d)
     (c .before .measured .result .least) (c .before .measured .ensures .1)) (c .if1 .taken)
 
--- src/layout.rt:154:14
 sub-b : tie.Need-sub-b
 sub-b c = search needs
 
--- src/layout.rt:156:16
 sub-t11 : tie.Need-sub-t11
 sub-t11 c =
     few-behind (c .before .before .args .d) (c .before .before .args .t) (c .before .before .pre .1 .1)
@@ -50,7 +43,6 @@ sub-t11 c =
     (c .before .measured .ensures .0) (most-of (c .before .before .args .t - c .before .before .args .d)
     (c .before .measured .result .least) (c .before .measured .ensures .1))
 
--- src/layout.rt:135:1
 returns-2 : tie.Need-returns-2
 returns-2 c =
     down-some (c .before .before .args .d) (c .before .before .args .t) (c .before .before .pre .1 .1)

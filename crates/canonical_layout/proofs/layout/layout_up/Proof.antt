@@ -8,38 +8,30 @@ use Rattle.canonical_layout.proofs.layout.layout_up.Reads as reads
 use Rattle.canonical_layout.proofs.layout.layout_up.Lts as lts
 use Rattle.canonical_layout.proofs.layout.measured.Reads as measured-reads
 
--- src/layout.rt:100:20
 add-t8 : tie.Need-add-t8
 add-t8 c = search needs
 
--- src/layout.rt:99:9
 returns : tie.Need-returns
 returns c = up-plain (c .before .args .d) (c .before .args .p) (c .if1 .taken)
 
--- src/layout.rt:109:9
 measured-requires : tie.Need-measured-requires
 measured-requires c κs = search needs
 
--- src/layout.rt:114:20
 add-t9 : tie.Need-add-t9
 add-t9 c = search needs
 
--- src/layout.rt:119:19
 sub-t10 : tie.Need-sub-t10
 sub-t10 c = rw (c .before .measured .ensures .0) (count-pos (c .before .before .before .args .p))
 
--- src/layout.rt:120:23
 sub-t11 : tie.Need-sub-t11
 sub-t11 c = search needs
 
--- src/layout.rt:113:9
 returns-2 : tie.Need-returns-2
 returns-2 c =
     up-ten (c .before .before .before .args .d) (c .before .before .before .args .p) (c .before .before .if1 .left)
     (c .before .measured .result .digits) (c .before .measured .ensures .0)
     (c .if2 .taken ∙ c .before .measured .ensures .1)
 
--- src/layout.rt:93:1
 returns-3 : tie.Need-returns-3
 returns-3 c =
     up-one (c .before .before .before .args .d) (c .before .before .before .args .p) (c .before .before .if1 .left)

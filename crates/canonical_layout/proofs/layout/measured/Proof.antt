@@ -19,15 +19,12 @@ Inv-loop v least₀ i₀ least i = (i ≤ 19) × ((least ≡ 10 ^ i) × (0 < i �
 abbrev μ-loop : tie.MeasureT-loop
 μ-loop v least₀ i₀ least i = 19 - i
 
--- src/layout.rt:31:5
 loop-holds : tie.Need-loop-holds Inv-loop μ-loop
 loop-holds c = (omega arith, (refl, λ h. absurd (omega arith)))
 
--- src/layout.rt:34:25
 add-t6 : tie.Need-add-t6 Inv-loop μ-loop
 add-t6 c = omega arith
 
--- src/layout.rt:33:13
 returns : tie.Need-returns Inv-loop μ-loop
 returns c =
     let e = count-is (c .before .before .loop .i) (c .before .before .before .args .v)
@@ -41,20 +38,16 @@ returns c =
           (c .before .before .loop .inv .1 .0),
     )
 
--- src/layout.rt:38:17
 mul-least : tie.Need-mul-least Inv-loop μ-loop
 mul-least c =
     omega (arith, c .before .before .loop .inv .1 .0, ten-le {i = c .before .before .loop .i} {j = 18} (omega arith))
 
--- src/layout.rt:31:9
 add-i : tie.Need-add-i Inv-loop μ-loop
 add-i c = omega arith
 
--- src/layout.rt:31:5
 loop-less : tie.Need-loop-less Inv-loop μ-loop
 loop-less c = omega arith
 
--- src/layout.rt:31:5
 loop-again : tie.Need-loop-again Inv-loop μ-loop
 loop-again c =
     let t = ten-more (c .before .before .loop .i) in (
@@ -65,7 +58,6 @@ loop-again c =
       ),
     )
 
--- src/layout.rt:27:1
 returns-2 : tie.Need-returns-2 Inv-loop μ-loop
 returns-2 c =
     let f : c .before .loop .i ≡ 19 = omega arith in

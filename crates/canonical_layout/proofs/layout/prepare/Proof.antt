@@ -15,24 +15,19 @@ use Rattle.canonical_layout.proofs.layout.layout_of.Reads as layout-of-
 use Rattle.canonical_layout.proofs.layout.measured.Reads as measured-reads
 use Rattle.number.proofs.value.without_zeros.Reads as without-zeros-reads
 
--- src/layout.rt:232:9
 returns : tie.Need-returns
 returns c =
     zero-prepared (c .before .args .negative) (c .before .args .coefficient) (c .before .args .power) (c .if1 .taken)
 
--- src/layout.rt:238:9
 without-zeros-requires : tie.Need-without-zeros-requires
 without-zeros-requires c κs = search needs
 
--- src/layout.rt:240:9
 cast-z : tie.Need-cast-z
 cast-z c = search needs
 
--- src/layout.rt:241:9
 measured-requires : tie.Need-measured-requires
 measured-requires c κs = search needs
 
--- src/layout.rt:243:9
 layout-of-requires : tie.Need-layout-of-requires
 layout-of-requires c κs = (
   omega (
@@ -48,7 +43,6 @@ layout-of-requires c κs = (
   ),
 )
 
--- src/layout.rt:219:1
 returns-2 : tie.Need-returns-2
 returns-2 c =
     trim-prepared (c .before .before .before .before .before .args .negative)

@@ -9,36 +9,28 @@ use Rattle.canonical_layout.proofs.layout.size_of.Tie as tie
 use Rattle.canonical_layout.proofs.layout.size_of.Reads as reads
 use Rattle.canonical_layout.proofs.layout.size_of.Lts as lts
 
--- src/layout.rt:78:14
 cast-s : tie.Need-cast-s
 cast-s c = wide-power (c .args .p) (c .fits .p)
 
--- src/layout.rt:78:27
 cast-s-2 : tie.Need-cast-s-2
 cast-s-2 c = record { sfits = omega arith }
 
--- src/layout.rt:78:13
 add-s : tie.Need-add-s
 add-s c = sum-fits (c .args .p) (c .fits .p) (c .args .zeros) (omega (arith, c .pre))
 
--- src/layout.rt:80:17
 sub-n : tie.Need-sub-n
 sub-n c = rw (sum-flat (c .before .args .p) (c .before .fits .p) (c .before .args .zeros) (omega (arith, c .before .pre))) (sized-below (c .before .args .p +ℤ pos (c .before .args .zeros)) (sum-size (c .before .args .p) (c .before .fits .p) (c .before .args .zeros) (omega (arith, c .before .pre))) (rw (sum-flat (c .before .args .p) (c .before .fits .p) (c .before .args .zeros) (omega (arith, c .before .pre))) at (c .if1 .taken)) .fits)
 
--- src/layout.rt:83:19
 cast-t8 : tie.Need-cast-t8
 cast-t8 c = rw (sum-flat (c .before .args .p) (c .before .fits .p) (c .before .args .zeros) (omega (arith, c .before .pre))) (sized-below (c .before .args .p +ℤ pos (c .before .args .zeros)) (sum-size (c .before .args .p) (c .before .fits .p) (c .before .args .zeros) (omega (arith, c .before .pre))) (rw (sum-flat (c .before .args .p) (c .before .fits .p) (c .before .args .zeros) (omega (arith, c .before .pre))) at (c .if1 .taken)) .cast)
 
--- src/layout.rt:81:9
 returns : tie.Need-returns
 returns c = rw (sum-flat (c .before .args .p) (c .before .fits .p) (c .before .args .zeros) (omega (arith, c .before .pre))) (sized-below (c .before .args .p +ℤ pos (c .before .args .zeros)) (sum-size (c .before .args .p) (c .before .fits .p) (c .before .args .zeros) (omega (arith, c .before .pre))) (rw (sum-flat (c .before .args .p) (c .before .fits .p) (c .before .args .zeros) (omega (arith, c .before .pre))) at (c .if1 .taken)) .size)
 
--- src/layout.rt:88:15
 cast-t9 : tie.Need-cast-t9
 cast-t9 c = let g = sized-above (c .before .args .p +ℤ pos (c .before .args .zeros)) (sum-size (c .before .args .p) (c .before .fits .p) (c .before .args .zeros) (omega (arith, c .before .pre))) (rw (sum-flat (c .before .args .p) (c .before .fits .p) (c .before .args .zeros) (omega (arith, c .before .pre))) at (c .if1 .left)) in
     rw (sum-flat (c .before .args .p) (c .before .fits .p) (c .before .args .zeros) (omega (arith, c .before .pre))) (rw (toZ-ofZ w64 (c .before .args .p +ℤ pos (c .before .args .zeros)) (g .fits)) at (g .cast))
 
--- src/layout.rt:74:1
 returns-2 : tie.Need-returns-2
 returns-2 c = let g = sized-above (c .before .args .p +ℤ pos (c .before .args .zeros)) (sum-size (c .before .args .p) (c .before .fits .p) (c .before .args .zeros) (omega (arith, c .before .pre))) (rw (sum-flat (c .before .args .p) (c .before .fits .p) (c .before .args .zeros) (omega (arith, c .before .pre))) at (c .if1 .left)) in
     rw (sum-flat (c .before .args .p) (c .before .fits .p) (c .before .args .zeros) (omega (arith, c .before .pre))) (rw (toZ-ofZ w64 (c .before .args .p +ℤ pos (c .before .args .zeros)) (g .fits)) at (g .size))

@@ -1,3 +1,4 @@
+use mathlib.Core.Path.{refl}
 use Rattle.columns.specs.Columns.{placeOf}
 use borrow.Author.Needs.{needs}
 use native.Mathlib.Omega.{arith}
@@ -7,72 +8,57 @@ use Rattle.columns.proofs.columns.place_of.Reads as reads
 use Rattle.columns.proofs.columns.place_of.Lts as lts
 use Rattle.columns.proofs.columns.records_for.Reads as records-for-reads
 
--- src/columns.rt:53:1
 returns : tie.Need-returns
 unfolding placeOf
-returns c = rw (← c .before .before .records-for .ensures)
+returns c = rw (← c .before .before .records-for .ensures) refl
 
--- src/columns.rt:57:13
 records-for-requires : tie.Need-records-for-requires
 records-for-requires c κs = search needs
 
--- src/columns.rt:57:13
 cast-k : tie.Need-cast-k
 cast-k c = search needs
 
--- src/columns.rt:58:17
 cast-above : tie.Need-cast-above
 cast-above c = search needs
 
--- src/columns.rt:58:17
 sub-above : tie.Need-sub-above
 sub-above c = search needs
 
--- src/columns.rt:59:16
 sub-left : tie.Need-sub-left
 sub-left c = search needs
 
--- src/columns.rt:60:16
 cast-part : tie.Need-cast-part
 cast-part c = search needs
 
--- src/columns.rt:60:16
 add-part : tie.Need-add-part
 add-part c = search needs
 
--- src/columns.rt:61:17
 mul-lines : tie.Need-mul-lines
 unfolding placeOf
 mul-lines c = let h = rw (← c .before .records-for .ensures) at (c .before .before .pre .number) in omega (arith, h)
 
--- src/columns.rt:61:17
 add-lines : tie.Need-add-lines
 unfolding placeOf
 add-lines c = let h = rw (← c .before .records-for .ensures) at (c .before .before .pre .number) in omega (arith, h)
 
--- src/columns.rt:62:18
 cast-number : tie.Need-cast-number
 cast-number c = search needs
 
--- src/columns.rt:62:38
 mul-number : tie.Need-mul-number
 mul-number c = search needs
 
--- src/columns.rt:62:38
 add-number : tie.Need-add-number
 unfolding placeOf
 add-number c =
     let h = rw (← c .before .before .records-for .ensures) at (c .before .before .before .pre .number) in
     omega (arith, h)
 
--- src/columns.rt:62:18
 add-number-2 : tie.Need-add-number-2
 unfolding placeOf
 add-number-2 c =
     let h = rw (← c .before .before .records-for .ensures) at (c .before .before .before .pre .number) in
     omega (arith, h)
 
--- src/columns.rt:63:23
 cast-t13 : tie.Need-cast-t13
 unfolding placeOf
 cast-t13 c =

@@ -7,91 +7,69 @@ use Rattle.columns.proofs.fields.field.Tie as tie
 use Rattle.columns.proofs.fields.field.Reads as reads
 use Rattle.columns.proofs.fields.field.Lts as lts
 
--- src/fields.rt:13:9
 shared-slice-read-t4 : tie.Need-shared-slice-read-t4
 shared-slice-read-t4 c = search needs
 
--- src/fields.rt:14:14
 add-t5 : tie.Need-add-t5
 add-t5 c = search needs
 
--- src/fields.rt:14:9
 shared-slice-read-t7 : tie.Need-shared-slice-read-t7
 shared-slice-read-t7 c = search needs
 
--- src/fields.rt:15:14
 add-t8 : tie.Need-add-t8
 add-t8 c = search needs
 
--- src/fields.rt:15:9
 shared-slice-read-t10 : tie.Need-shared-slice-read-t10
 shared-slice-read-t10 c = search needs
 
--- src/fields.rt:16:14
 add-t11 : tie.Need-add-t11
 add-t11 c = search needs
 
--- src/fields.rt:16:9
 shared-slice-read-t13 : tie.Need-shared-slice-read-t13
 shared-slice-read-t13 c = search needs
 
--- src/fields.rt:17:14
 add-t14 : tie.Need-add-t14
 add-t14 c = search needs
 
--- src/fields.rt:17:9
 shared-slice-read-t16 : tie.Need-shared-slice-read-t16
 shared-slice-read-t16 c = search needs
 
--- src/fields.rt:18:14
 add-t17 : tie.Need-add-t17
 add-t17 c = search needs
 
--- src/fields.rt:18:9
 shared-slice-read-t19 : tie.Need-shared-slice-read-t19
 shared-slice-read-t19 c = search needs
 
--- src/fields.rt:19:14
 add-t20 : tie.Need-add-t20
 add-t20 c = search needs
 
--- src/fields.rt:19:9
 shared-slice-read-t22 : tie.Need-shared-slice-read-t22
 shared-slice-read-t22 c = search needs
 
--- src/fields.rt:20:14
 add-t23 : tie.Need-add-t23
 add-t23 c = search needs
 
--- src/fields.rt:20:9
 shared-slice-read-t25 : tie.Need-shared-slice-read-t25
 shared-slice-read-t25 c = search needs
 
--- src/fields.rt:21:14
 add-t26 : tie.Need-add-t26
 add-t26 c = search needs
 
--- src/fields.rt:21:9
 shared-slice-read-t28 : tie.Need-shared-slice-read-t28
 shared-slice-read-t28 c = search needs
 
--- src/fields.rt:22:14
 add-t29 : tie.Need-add-t29
 add-t29 c = search needs
 
--- src/fields.rt:22:9
 shared-slice-read-t31 : tie.Need-shared-slice-read-t31
 shared-slice-read-t31 c = search needs
 
--- src/fields.rt:23:14
 add-t32 : tie.Need-add-t32
 add-t32 c = search needs
 
--- src/fields.rt:23:9
 shared-slice-read-t34 : tie.Need-shared-slice-read-t34
 shared-slice-read-t34 c = search needs
 
--- src/fields.rt:8:1
 returns : tie.Need-returns
 returns c =
     rw (add-zero (c .before .before .before .before .before .before .before .before .before .before .before .args .at))

@@ -1,3 +1,4 @@
+use mathlib.Core.Path.{refl}
 use Rattle.columns.specs.Fields.{fieldsOf}
 use borrow.Author.Needs.{needs}
 use Rattle.columns.proofs.fields.fields.Statement.{statement}
@@ -6,31 +7,24 @@ use Rattle.columns.proofs.fields.fields.Reads as reads
 use Rattle.columns.proofs.fields.fields.Lts as lts
 use Rattle.columns.proofs.fields.field.Reads as field-reads
 
--- src/fields.rt:32:9
 field-requires : tie.Need-field-requires
 field-requires c κs = search needs
 
--- src/fields.rt:33:9
 field-requires-2 : tie.Need-field-requires-2
 field-requires-2 c κs = search needs
 
--- src/fields.rt:34:9
 field-requires-3 : tie.Need-field-requires-3
 field-requires-3 c κs = search needs
 
--- src/fields.rt:35:9
 field-requires-4 : tie.Need-field-requires-4
 field-requires-4 c κs = search needs
 
--- src/fields.rt:36:9
 field-requires-5 : tie.Need-field-requires-5
 field-requires-5 c κs = search needs
 
--- src/fields.rt:37:9
 field-requires-6 : tie.Need-field-requires-6
 field-requires-6 c κs = search needs
 
--- src/fields.rt:28:1
 returns : tie.Need-returns
 unfolding fieldsOf
 returns c =
@@ -42,6 +36,7 @@ returns c =
       c .before .field5 .ensures,
       c .field6 .ensures,
     )
+    refl
 
 pub fields-spec : {M : Type 1} → statement M
 fields-spec =

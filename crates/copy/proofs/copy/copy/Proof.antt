@@ -6,13 +6,11 @@ use Rattle.copy.proofs.copy.copy.Tie as tie
 use Rattle.copy.proofs.copy.copy.Reads as reads
 use Rattle.copy.proofs.copy.copy.Lts as lts
 use Rattle.copy.proofs.copy.copy_records.Reads as copy-records-reads
-use Rattle.entry.proofs.verdict.judge.Reads as judge-reads
+use Rattle.entry.proofs.judge.judge.Reads as judge-reads
 
--- src/copy.rt:156:9
 judge-requires : tie.Need-judge-requires
 judge-requires c κs = search needs
 
--- src/copy.rt:159:9
 answer-for-requires : tie.Need-answer-for-requires
 answer-for-requires c κs = search needs
 
@@ -23,11 +21,9 @@ returns c =
     (c .before .before .before .judge .ensures) (c .before .if1 .taken) in
     (c .answer-for .ensures ∙ p .0, p .1)
 
--- src/copy.rt:167:9
 answer-of-requires : tie.Need-answer-of-requires
 answer-of-requires c κs = search needs
 
--- src/copy.rt:167:9
 returns-2 : tie.Need-returns-2
 returns-2 c =
     let p = short-copied (c .before .before .before .before .before .before .before .args .entry .now)
@@ -36,7 +32,6 @@ returns-2 c =
     (c .before .before .if1 .left) (c .before .if2 .taken) in
     (c .answer-of .ensures ∙ p .0, p .1)
 
--- src/copy.rt:169:5
 copy-records-requires : tie.Need-copy-records-requires
 copy-records-requires c κs =
     made-room (c .before .before .before .before .before .before .before .args .entry .now)
@@ -44,15 +39,12 @@ copy-records-requires c κs =
     (c .before .before .before .before .judge .result) (c .before .before .before .before .judge .ensures)
     (c .before .before .if1 .left) (c .before .if2 .left)
 
--- src/copy.rt:170:5
 answer-of-requires-2 : tie.Need-answer-of-requires-2
 answer-of-requires-2 c κs = search needs
 
--- src/copy.rt:153:1
 same-length : tie.Need-same-length
 same-length c = search needs
 
--- src/copy.rt:153:1
 returns-3 : tie.Need-returns-3
 returns-3 c =
     let p = made-copied

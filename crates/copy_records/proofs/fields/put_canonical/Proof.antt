@@ -10,71 +10,58 @@ use Rattle.copy_records.proofs.fields.put_number.Reads as put-number-re
 use Rattle.copy_records.proofs.fields.put_plain.Reads as put-plain-reads
 use Rattle.number_reading.proofs.read.read_field.Reads as read-field-reads
 
--- src/fields.rt:41:9
 read-field-requires : tie.Need-read-field-requires
 read-field-requires c κs = search needs
 
--- src/fields.rt:43:37
 enum-told : tie.Need-enum-told
 enum-told c = search needs
 
--- src/fields.rt:43:27
 put-plain-requires : tie.Need-put-plain-requires
 put-plain-requires c κs = search needs
 
--- src/fields.rt:44:25
 enum-known-r : tie.Need-enum-known-r
 enum-known-r c = search needs
 
--- src/fields.rt:44:31
 put-number-requires : tie.Need-put-number-requires
 put-number-requires c κs = (
   search needs,
   written (c .before .before .before .before .before .before .args .f) _
       (c .before .before .before .before .before .before .good .1 .1 .0 .1 .0 .1)
-      (sym (c .before .before .before .before .read-field .ensures) ∙ c .before .before .r .given .1),
+      (sym (c .before .before .before .before .read-field .ensures .0) ∙ c .before .before .r .given .1),
 )
 
--- src/fields.rt:45:26
 enum-known-r-2 : tie.Need-enum-known-r-2
 enum-known-r-2 c = search needs
 
--- src/fields.rt:45:32
 put-plain-requires-2 : tie.Need-put-plain-requires-2
 put-plain-requires-2 c κs = search needs
 
--- src/fields.rt:37:1
 same-length : tie.Need-same-length
 same-length c = search needs
 
--- src/fields.rt:37:1
 returns : tie.Need-returns
 returns c =
-    rw (canonical-read _ _ (sym (c .before .before .before .before .before .before .read-field .ensures)
+    rw (canonical-read _ _ (sym (c .before .before .before .before .before .before .read-field .ensures .0)
     ∙ c .before .before .before .before .enum-told .given .1)) (c .before .before .put-plain .ensures)
 
--- src/fields.rt:37:1
 same-length-2 : tie.Need-same-length-2
 same-length-2 c = search needs
 
--- src/fields.rt:37:1
 returns-2 : tie.Need-returns-2
 returns-2 c =
     rw (
-      canonical-read _ _ (sym (c .before .before .before .before .before .before .before .read-field .ensures)
+      canonical-read _ _ (sym (c .before .before .before .before .before .before .before .read-field .ensures .0)
           ∙ c .before .before .before .before .before .r .given .1),
       c .before .before .before .before .before .before .before .before .before .good .1 .1 .0 .1 .0 .1,
     )
     (c .before .before .put-number .ensures)
 
--- src/fields.rt:37:1
 same-length-3 : tie.Need-same-length-3
 same-length-3 c = search needs
 
--- src/fields.rt:37:1
 returns-3 : tie.Need-returns-3
 returns-3 c =
-    rw (canonical-read _ _ (sym (c .before .before .before .before .before .before .before .read-field .ensures)
+    rw (canonical-read _ _ (sym (c .before .before .before .before .before .before .before .read-field .ensures .0)
     ∙ c .before .before .before .before .before .r2 .given .1)) (c .before .before .put-plain2 .ensures)
 
 pub put-canonical-spec : {M : Type 1} → statement M

@@ -6,27 +6,21 @@ use Rattle.copy_records.proofs.fields.put_field.Lts as lts
 use Rattle.copy_records.proofs.fields.put_canonical.Reads as put-canonical-reads
 use Rattle.copy_records.proofs.fields.put_plain.Reads as put-plain-reads
 
--- src/fields.rt:55:9
 put-canonical-requires : tie.Need-put-canonical-requires
 put-canonical-requires c κs = search needs
 
--- src/fields.rt:56:9
 same-length : tie.Need-same-length
 same-length c = search needs
 
--- src/fields.rt:56:9
 returns : tie.Need-returns
 returns c = rw (c .before .before .before .before .if1 .taken) (c .before .before .put-canonical .ensures)
 
--- src/fields.rt:58:5
 put-plain-requires : tie.Need-put-plain-requires
 put-plain-requires c κs = search needs
 
--- src/fields.rt:50:1
 same-length-2 : tie.Need-same-length-2
 same-length-2 c = search needs
 
--- src/fields.rt:50:1
 returns-2 : tie.Need-returns-2
 returns-2 c = rw (c .before .before .before .before .if1 .left) (c .before .before .put-plain .ensures)
 

@@ -9,31 +9,24 @@ use Rattle.copy_records.proofs.fields.put_number.Reads as reads
 use Rattle.copy_records.proofs.fields.put_number.Lts as lts
 use Rattle.canonical.proofs.write.write_number.Reads as write-number-reads
 
--- src/fields.rt:33:16
 add-past : tie.Need-add-past
 add-past c = search needs
 
--- src/fields.rt:34:54
 sub-write-number : tie.Need-sub-write-number
 sub-write-number c = search needs
 
--- src/fields.rt:34:54
 part-write-number-start : tie.Need-part-write-number-start
 part-write-number-start c = search needs
 
--- src/fields.rt:34:54
 part-write-number-end : tie.Need-part-write-number-end
 part-write-number-end c = search needs
 
--- src/fields.rt:34:5
 write-number-requires : tie.Need-write-number-requires
 write-number-requires c κs = search needs
 
--- src/fields.rt:29:1
 same-length : tie.Need-same-length
 same-length c = search needs
 
--- src/fields.rt:29:1
 returns : tie.Need-returns
 returns c = let p = toZ-ofZ w32 (c .before .before .before .before .before .before .args .v .power) (search needs) in
     number-pasted (c .before .before .before .before .before .before .args .out .now) _

@@ -17,33 +17,26 @@ Inv-loop out₀ at f i₀ out i = (i ≤ 11) × (length f ≡ 11) × (out ≡ pa
 abbrev μ-loop : tie.MeasureT-loop
 μ-loop out₀ at f i₀ out i = 11 - i
 
--- src/fields.rt:21:5
 loop-holds : tie.Need-loop-holds Inv-loop μ-loop
 loop-holds c =
     let a = c .args in
     (search needs, c .good .1 .1 .0 .1 .0 .1, paste-zero (a .out .now) (a .at) (a .t3), refl)
 
--- src/fields.rt:22:18
 add-to : tie.Need-add-to Inv-loop μ-loop
 add-to c = search needs
 
--- src/fields.rt:23:19
 array-read-out : tie.Need-array-read-out Inv-loop μ-loop
 array-read-out c = search needs
 
--- src/fields.rt:23:9
 slice-write-out : tie.Need-slice-write-out Inv-loop μ-loop
 slice-write-out c = search needs
 
--- src/fields.rt:24:9
 add-i : tie.Need-add-i Inv-loop μ-loop
 add-i c = search needs
 
--- src/fields.rt:21:5
 loop-less : tie.Need-loop-less Inv-loop μ-loop
 loop-less c = search needs
 
--- src/fields.rt:21:5
 loop-again : tie.Need-loop-again Inv-loop μ-loop
 loop-again c = let a = c .before .before .args in (
   search needs,
@@ -53,11 +46,9 @@ loop-again c = let a = c .before .before .args in (
   simp length-set (c .before .loop .inv .3),
 )
 
--- src/fields.rt:16:1
 same-length : tie.Need-same-length Inv-loop μ-loop
 same-length c = c .before .loop .inv .3
 
--- src/fields.rt:16:1
 returns : tie.Need-returns Inv-loop μ-loop
 returns c = let e : _≡_ (c .before .loop .i) 11 = omega arith in rw e at (c .before .loop .inv .2)
 

@@ -1,7 +1,8 @@
+use mathlib.Core.List.{List}
 use Rattle.copy_records.proofs.WholeRecords.{field-pasted}
-use Prim.Native.Nat.{_*_, _-_, _≤_}
+use Prim.Native.Nat.{ℕ, _+_, _*_, _-_, _≤_}
 use Rattle.copy_records.specs.Copy.{copyField, valueField}
-use Rattle.laws.specs.Replacing.{mask, replaced}
+use Rattle.copy_records.specs.Replaced.{mask, replaced}
 use lib.ListN.{length}
 use lib.Seq.{paste, paste-zero}
 use mathlib.Core.Path.{_∙_, _≡_, refl}
@@ -23,7 +24,6 @@ Inv-loop out₀ at t role rec k₀ out k =
 abbrev μ-loop : tie.MeasureT-loop
 μ-loop out₀ at t role rec k₀ out k = 6 - k
 
--- src/records.rt:30:5
 loop-holds : tie.Need-loop-holds Inv-loop μ-loop
 loop-holds c =
     let a = c .before .before .args in (
@@ -34,46 +34,42 @@ loop-holds c =
           (replaced copyField (mask (valueField (a .t) (a .role)) 0 6) (a .rec .now)),
     )
 
--- src/records.rt:31:22
 mul-column : tie.Need-mul-column Inv-loop μ-loop
 mul-column c = search needs
 
--- src/records.rt:32:13
 field-requires : tie.Need-field-requires Inv-loop μ-loop
 field-requires c κs = search needs
 
--- src/records.rt:33:21
 add-place : tie.Need-add-place Inv-loop μ-loop
 add-place c = search needs
 
--- src/records.rt:34:13
 is-value-field-requires : tie.Need-is-value-field-requires Inv-loop μ-loop
 is-value-field-requires c κs = search needs
 
--- src/records.rt:35:9
 put-field-requires : tie.Need-put-field-requires Inv-loop μ-loop
 put-field-requires c κs =
     let l = c .before .before .before .before .loop .inv .2 in
     let w = c .before .before .before .before .before .before .before .pre .0 in
     omega arith
 
--- src/records.rt:36:9
 add-k : tie.Need-add-k Inv-loop μ-loop
 add-k c = search needs
 
--- src/records.rt:30:5
 loop-less : tie.Need-loop-less Inv-loop μ-loop
 loop-less c = search needs
 
--- src/records.rt:30:5
 loop-again : tie.Need-loop-again Inv-loop μ-loop
 loop-again c =
     let a = c .before .before .before .before .before .before .before .before .before .before .args in
+    let number = c .before .before .before .before .is-value-field .result in
+    let f = c .before .before .before .before .before .field .result in
+    let at = a .at + c .before .before .before .before .before .before .before .loop .k * 11 in
+    let put : _≡_ {A = List ℕ} _ (paste _ at (copyField number f) 11) = c .before .before .put-field .ensures in
     let l = c .before .before .put-field .kept .0 in (
       omega arith,
       c .before .before .before .before .before .before .before .loop .inv .1,
       omega arith,
-      c .before .before .put-field .ensures
+      put
           ∙ (rw (
             c .before .before .before .before .before .before .before .loop .inv .3,
             c .before .before .before .before .is-value-field .ensures,
@@ -85,11 +81,9 @@ loop-again c =
           (c .before .before .before .before .before .before .before .before .before .before .pre .0) (omega arith))),
     )
 
--- src/records.rt:25:1
 same-length : tie.Need-same-length Inv-loop μ-loop
 same-length c = c .before .loop .inv .2
 
--- src/records.rt:25:1
 returns : tie.Need-returns Inv-loop μ-loop
 returns c = let e : _≡_ (c .before .loop .k) 6 = omega arith in rw e at (c .before .loop .inv .3)
 

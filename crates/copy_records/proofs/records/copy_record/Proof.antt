@@ -10,23 +10,18 @@ use Rattle.copy_records.proofs.records.copy_record.Lts as lts
 use Rattle.copy_records.proofs.records.copy_fields.Reads as copy-fields-reads
 use Rattle.copy_records.proofs.records.copy_rest.Reads as copy-rest-reads
 
--- src/records.rt:59:5
 copy-fields-requires : tie.Need-copy-fields-requires
 copy-fields-requires c κs = search needs
 
--- src/records.rt:60:16
 add-rest : tie.Need-add-rest
 add-rest c = search needs
 
--- src/records.rt:61:5
 copy-rest-requires : tie.Need-copy-rest-requires
 copy-rest-requires c κs = search needs
 
--- src/records.rt:55:1
 same-length : tie.Need-same-length
 same-length c = search needs
 
--- src/records.rt:55:1
 returns : tie.Need-returns
 returns c = let a = c .before .before .before .before .before .before .before .before .before .before .args in
     c .before .before .copy-rest .ensures ∙ rw (c .before .before .before .before .before .before .copy-fields .ensures)

@@ -17,37 +17,29 @@ Inv-loop out₀ at rec i₀ out i =
 abbrev μ-loop : tie.MeasureT-loop
 μ-loop out₀ at rec i₀ out i = 15 - i
 
--- src/records.rt:46:5
 loop-holds : tie.Need-loop-holds Inv-loop μ-loop
 loop-holds c =
     let a = c .args in
     (search needs, c .pre .1 .long, paste-zero (a .out .now) (a .at) (drop 66 (a .rec .now)), refl)
 
--- src/records.rt:47:20
 add-from : tie.Need-add-from Inv-loop μ-loop
 add-from c = search needs
 
--- src/records.rt:48:18
 add-to : tie.Need-add-to Inv-loop μ-loop
 add-to c = search needs
 
--- src/records.rt:49:19
 shared-slice-read-out : tie.Need-shared-slice-read-out Inv-loop μ-loop
 shared-slice-read-out c = search needs
 
--- src/records.rt:49:9
 slice-write-out : tie.Need-slice-write-out Inv-loop μ-loop
 slice-write-out c = let l = c .before .before .loop .inv .3 in let w = c .before .before .before .pre .0 in omega arith
 
--- src/records.rt:50:9
 add-i : tie.Need-add-i Inv-loop μ-loop
 add-i c = search needs
 
--- src/records.rt:46:5
 loop-less : tie.Need-loop-less Inv-loop μ-loop
 loop-less c = search needs
 
--- src/records.rt:46:5
 loop-again : tie.Need-loop-again Inv-loop μ-loop
 loop-again c = let a = c .before .before .before .args in let l = c .before .before .loop .inv .1 in (
   search needs,
@@ -58,11 +50,9 @@ loop-again c = let a = c .before .before .before .args in let l = c .before .bef
   simp length-set (c .before .before .loop .inv .3),
 )
 
--- src/records.rt:41:1
 same-length : tie.Need-same-length Inv-loop μ-loop
 same-length c = c .before .loop .inv .3
 
--- src/records.rt:41:1
 returns : tie.Need-returns Inv-loop μ-loop
 returns c = let e : _≡_ (c .before .loop .i) 15 = omega arith in rw e at (c .before .loop .inv .2)
 

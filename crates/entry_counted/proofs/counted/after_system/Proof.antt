@@ -5,51 +5,42 @@ use Rattle.entry_counted.proofs.counted.after_system.Statement.{stateme
 use Rattle.entry_counted.proofs.counted.after_system.Tie as tie
 use Rattle.entry_counted.proofs.counted.after_system.Reads as reads
 use Rattle.entry_counted.proofs.counted.after_system.Lts as lts
-use Rattle.entry_counted.proofs.counted.open_bib.Reads as open-bib-reads
-use Rattle.entry_counted.proofs.counted.open_subentry.Reads as open-subentry-reads
-use Rattle.entry_counted.proofs.counted.open_table.Reads as open-table-reads
-use Rattle.record.proofs.expected.accession.Reads as accession-reads
+use Rattle.entry_tally.proofs.tally.open_bib.Reads as open-bib-reads
+use Rattle.entry_tally.proofs.tally.open_subentry.Reads as open-subentry-reads
+use Rattle.entry_tally.proofs.tally.open_table.Reads as open-table-reads
+use Rattle.record_expected.proofs.expected.accession.Reads as accession-reads
 use Rattle.record.proofs.system.count_of.Reads as count-of-reads
 use Rattle.record.proofs.system.count_to.Reads as count-to-reads
 use Rattle.record.proofs.system.number_of.Reads as number-of-reads
 use Rattle.record.proofs.system.subentry_of.Reads as subentry-of-reads
-use Rattle.rules_state.proofs.role.opens_subentry.Reads as opens-subentry-reads
+use Rattle.rules_roles.proofs.roles.opens_subentry.Reads as opens-subentry-reads
 use Rattle.rules_state.proofs.state.Track.with_accession.Reads as with-accession-reads
 
--- src/next.rt:223:13
 array-copy-out-f : tie.Need-array-copy-out-f
 array-copy-out-f c = search needs
 
--- src/next.rt:224:13
 array-copy-out-g : tie.Need-array-copy-out-g
 array-copy-out-g c = search needs
 
--- src/next.rt:226:33
 accession-requires : tie.Need-accession-requires
 accession-requires c κs = search needs
 
--- src/next.rt:226:9
 with-accession-requires : tie.Need-with-accession-requires
 with-accession-requires c κs = search needs
 
--- src/next.rt:226:9
 returns : tie.Need-returns
 unfolding afterSystem
 returns c = rw (eq-eqb _ _ (c .before .before .if1 .taken), c .with-accession .ensures, c .before .accession .ensures)
 
--- src/next.rt:228:8
 opens-subentry-requires : tie.Need-opens-subentry-requires
 opens-subentry-requires c κs = search needs
 
--- src/next.rt:229:33
 subentry-of-requires : tie.Need-subentry-of-requires
 subentry-of-requires c κs = search needs
 
--- src/next.rt:229:9
 open-subentry-requires : tie.Need-open-subentry-requires
 open-subentry-requires c κs = search needs
 
--- src/next.rt:229:9
 returns-2 : tie.Need-returns-2
 unfolding afterSystem
 returns-2 c =
@@ -60,27 +51,21 @@ returns-2 c =
       ← c .before .subentry-of .ensures .0,
     ) (c .open-subentry .ensures)
 
--- src/next.rt:232:38
 count-of-requires : tie.Need-count-of-requires
 count-of-requires c κs = search needs
 
--- src/next.rt:232:28
 number-of-requires : tie.Need-number-of-requires
 number-of-requires c κs = search needs
 
--- src/next.rt:232:62
 count-of-requires-2 : tie.Need-count-of-requires-2
 count-of-requires-2 c κs = search needs
 
--- src/next.rt:232:52
 number-of-requires-2 : tie.Need-number-of-requires-2
 number-of-requires-2 c κs = search needs
 
--- src/next.rt:232:9
 open-bib-requires : tie.Need-open-bib-requires
 open-bib-requires c κs = search needs
 
--- src/next.rt:232:9
 returns-3 : tie.Need-returns-3
 unfolding afterSystem
 returns-3 c =
@@ -90,25 +75,21 @@ returns-3 c =
       c .before .before .before .before .before .before .if2 .left,
       eq-eqb _ _
           (c .before .before .before .before .before .if3 .taken),
-      ← c .before .before .before .before .count-of .ensures,
+      ← c .before .before .before .before .count-of .ensures .0,
       ← c .before .before .before .number-of .ensures,
-      ← c .before .before .count-of2 .ensures,
+      ← c .before .before .count-of2 .ensures .0,
       ← c .before .number-of2 .ensures,
     ) (c .open-bib .ensures)
 
--- src/counted.rt:126:32
 cast-count-to : tie.Need-cast-count-to
 cast-count-to c = search needs
 
--- src/counted.rt:126:23
 count-to-requires : tie.Need-count-to-requires
 count-to-requires c κs = search needs
 
--- src/next.rt:236:9
 open-table-requires : tie.Need-open-table-requires
 open-table-requires c κs = search needs
 
--- src/next.rt:236:9
 returns-4 : tie.Need-returns-4
 unfolding afterSystem
 returns-4 c =
@@ -121,27 +102,21 @@ returns-4 c =
       ← c .before .count-to .ensures .0,
     ) (c .open-table .ensures)
 
--- src/counted.rt:130:32
 cast-count-to-2 : tie.Need-cast-count-to-2
 cast-count-to-2 c = search needs
 
--- src/counted.rt:130:23
 count-to-requires-2 : tie.Need-count-to-requires-2
 count-to-requires-2 c κs = search needs
 
--- src/counted.rt:131:29
 cast-count-to-3 : tie.Need-cast-count-to-3
 cast-count-to-3 c = search needs
 
--- src/counted.rt:131:20
 count-to-requires-3 : tie.Need-count-to-requires-3
 count-to-requires-3 c κs = search needs
 
--- src/next.rt:241:9
 open-table-requires-2 : tie.Need-open-table-requires-2
 open-table-requires-2 c κs = search needs
 
--- src/next.rt:241:9
 returns-5 : tie.Need-returns-5
 unfolding afterSystem
 returns-5 c =
@@ -156,7 +131,6 @@ returns-5 c =
       ← c .before .count-to3 .ensures .0,
     ) (c .open-table2 .ensures)
 
--- src/next.rt:218:1
 returns-6 : tie.Need-returns-6
 unfolding afterSystem
 returns-6 c =

@@ -1,5 +1,5 @@
 use Rattle.entry_counted.proofs.Counting.{counted-follows}
-use Rattle.rules_section.proofs.ReadValues.{numbers-few}
+use Rattle.rules_values.proofs.ReadValues.{numbers-few}
 use Rattle.entry_counted.specs.Counted.{trackAfter}
 use borrow.Author.Needs.{needs}
 use Rattle.entry_counted.proofs.counted.track_after.Statement.{statement}
@@ -8,18 +8,15 @@ use Rattle.entry_counted.proofs.counted.track_after.Reads as reads
 use Rattle.entry_counted.proofs.counted.track_after.Lts as lts
 use Rattle.entry_counted.proofs.counted.after_inside.Reads as after-inside-reads
 use Rattle.entry_counted.proofs.counted.after_system.Reads as after-system-reads
-use Rattle.rules_state.proofs.role.is_system.Reads as is-system-reads
+use Rattle.rules_roles.proofs.roles.is_system.Reads as is-system-reads
 use Rattle.rules_state.proofs.state.Track.counted.Reads as counted-reads
 
--- src/next.rt:403:9
 counted-requires : tie.Need-counted-requires
 counted-requires c κs = search needs
 
--- src/next.rt:404:8
 is-system-requires : tie.Need-is-system-requires
 is-system-requires c κs = search needs
 
--- src/next.rt:405:9
 after-system-requires : tie.Need-after-system-requires
 after-system-requires c κs = (
   rw (c .before .before .counted .ensures) (counted-follows _ (c .before .before .before .before .pre .0)
@@ -27,14 +24,12 @@ after-system-requires c κs = (
   c .before .before .before .before .pre .1 .1 .0,
 )
 
--- src/next.rt:405:9
 returns : tie.Need-returns
 unfolding trackAfter
 returns c =
     rw (← c .before .before .is-system .ensures, c .before .if1 .taken, ← c .before .before .before .counted .ensures)
     (c .after-system .ensures)
 
--- src/next.rt:408:5
 after-inside-requires : tie.Need-after-inside-requires
 after-inside-requires c κs = (
   rw (c .before .before .counted .ensures) (counted-follows _ (c .before .before .before .before .pre .0)
@@ -43,7 +38,6 @@ after-inside-requires c κs = (
       (numbers-few _ _ _),
 )
 
--- src/next.rt:390:1
 returns-2 : tie.Need-returns-2
 unfolding trackAfter
 returns-2 c =

@@ -4,11 +4,9 @@ use Rattle.entry_next.proofs.due.is_either.Tie as tie
 use Rattle.entry_next.proofs.due.is_either.Reads as reads
 use Rattle.entry_next.proofs.due.is_either.Lts as lts
 
--- src/next.rt:74:9
 returns : tie.Need-returns
 returns c = rw (eq-eqb _ _ (c .if1 .taken))
 
--- src/next.rt:70:1
 returns-2 : tie.Need-returns-2
 returns-2 c = rw (ne-eqb _ _ (c .if1 .left))
 

@@ -6,19 +6,15 @@ use Rattle.entry_next.proofs.due.leads_to_common.Reads as reads
 use Rattle.entry_next.proofs.due.leads_to_common.Lts as lts
 use Rattle.entry_next.proofs.due.is_either.Reads as is-either-reads
 
--- src/next.rt:89:9
 returns : tie.Need-returns
 returns c = rw (eq-eqb _ _ (c .if1 .taken))
 
--- src/next.rt:92:9
 returns-2 : tie.Need-returns-2
 returns-2 c = rw (ne-eqb _ _ (c .before .if1 .left), eq-eqb _ _ (c .if2 .taken))
 
--- src/next.rt:94:5
 is-either-requires : tie.Need-is-either-requires
 is-either-requires c κs = search needs
 
--- src/next.rt:85:1
 returns-3 : tie.Need-returns-3
 returns-3 c = rw (ne-eqb _ _ (c .before .before .if1 .left), ne-eqb _ _ (c .before .if2 .left)) (c .is-either .ensures)
 

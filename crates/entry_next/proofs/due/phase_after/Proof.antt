@@ -10,21 +10,17 @@ use Rattle.entry_next.proofs.due.leads_to_bib.Reads as leads-to-bib-rea
 use Rattle.entry_next.proofs.due.leads_to_common.Reads as leads-to-common-reads
 use Rattle.entry_next.proofs.due.leads_to_data.Reads as leads-to-data-reads
 
--- src/next.rt:114:9
 returns : tie.Need-returns
 unfolding phaseAfter
 returns c = rw (eq-eqb _ _ (c .if1 .taken))
 
--- src/next.rt:117:9
 returns-2 : tie.Need-returns-2
 unfolding phaseAfter
 returns-2 c = rw (ne-eqb _ _ (c .before .if1 .left), eq-eqb _ _ (c .if2 .taken))
 
--- src/next.rt:119:8
 leads-to-bib-requires : tie.Need-leads-to-bib-requires
 leads-to-bib-requires c κs = search needs
 
--- src/next.rt:120:9
 returns-3 : tie.Need-returns-3
 unfolding phaseAfter
 returns-3 c =
@@ -36,11 +32,9 @@ returns-3 c =
       c .if3 .taken,
     )
 
--- src/next.rt:122:8
 is-either-requires : tie.Need-is-either-requires
 is-either-requires c κs = search needs
 
--- src/next.rt:123:9
 returns-4 : tie.Need-returns-4
 unfolding phaseAfter
 returns-4 c =
@@ -54,11 +48,9 @@ returns-4 c =
       c .if4 .taken,
     )
 
--- src/next.rt:125:8
 leads-to-common-requires : tie.Need-leads-to-common-requires
 leads-to-common-requires c κs = search needs
 
--- src/next.rt:126:9
 returns-5 : tie.Need-returns-5
 unfolding phaseAfter
 returns-5 c =
@@ -74,11 +66,9 @@ returns-5 c =
       c .if5 .taken,
     )
 
--- src/next.rt:128:8
 is-either-requires-2 : tie.Need-is-either-requires-2
 is-either-requires-2 c κs = search needs
 
--- src/next.rt:129:9
 returns-6 : tie.Need-returns-6
 unfolding phaseAfter
 returns-6 c =
@@ -96,11 +86,9 @@ returns-6 c =
       c .if6 .taken,
     )
 
--- src/next.rt:131:8
 leads-to-data-requires : tie.Need-leads-to-data-requires
 leads-to-data-requires c κs = search needs
 
--- src/next.rt:132:9
 returns-7 : tie.Need-returns-7
 unfolding phaseAfter
 returns-7 c =
@@ -121,11 +109,9 @@ returns-7 c =
       c .if7 .taken,
     )
 
--- src/next.rt:134:8
 is-either-requires-3 : tie.Need-is-either-requires-3
 is-either-requires-3 c κs = search needs
 
--- src/next.rt:135:9
 returns-8 : tie.Need-returns-8
 unfolding phaseAfter
 returns-8 c =
@@ -151,11 +137,9 @@ returns-8 c =
       c .if8 .taken,
     )
 
--- src/next.rt:137:8
 is-either-requires-4 : tie.Need-is-either-requires-4
 is-either-requires-4 c κs = search needs
 
--- src/next.rt:138:9
 returns-9 : tie.Need-returns-9
 unfolding phaseAfter
 returns-9 c =
@@ -183,7 +167,6 @@ returns-9 c =
       c .if9 .taken,
     )
 
--- src/next.rt:110:1
 returns-10 : tie.Need-returns-10
 unfolding phaseAfter
 returns-10 c =

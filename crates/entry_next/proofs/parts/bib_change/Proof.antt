@@ -7,21 +7,17 @@ use Rattle.entry_next.proofs.parts.bib_change.Reads as reads
 use Rattle.entry_next.proofs.parts.bib_change.Lts as lts
 use Rattle.entry_next.proofs.parts.empties_bib.Reads as empties-bib-reads
 
--- src/next.rt:438:8
 empties-bib-requires : tie.Need-empties-bib-requires
 empties-bib-requires c κs = search needs
 
--- src/next.rt:439:9
 returns : tie.Need-returns
 unfolding bibChange
 returns c = rw (← c .before .empties-bib .ensures, c .if1 .taken)
 
--- src/next.rt:442:9
 returns-2 : tie.Need-returns-2
 unfolding bibChange
 returns-2 c = rw (← c .before .before .empties-bib .ensures, c .before .if1 .left, eq-eqb _ _ (c .if2 .taken))
 
--- src/next.rt:435:1
 returns-3 : tie.Need-returns-3
 unfolding bibChange
 returns-3 c = rw (← c .before .before .empties-bib .ensures, c .before .if1 .left, ne-eqb _ _ (c .if2 .left))

@@ -6,27 +6,22 @@ use Rattle.entry_next.proofs.parts.common_after.Tie as tie
 use Rattle.entry_next.proofs.parts.common_after.Reads as reads
 use Rattle.entry_next.proofs.parts.common_after.Lts as lts
 use Rattle.entry_next.proofs.parts.range_after.Reads as range-after-reads
-use Rattle.rules_state.proofs.role.opens_subentry.Reads as opens-subentry-reads
+use Rattle.rules_roles.proofs.roles.opens_subentry.Reads as opens-subentry-reads
 
--- src/next.rt:480:8
 opens-subentry-requires : tie.Need-opens-subentry-requires
 opens-subentry-requires c κs = search needs
 
--- src/next.rt:481:9
 range-after-requires : tie.Need-range-after-requires
 range-after-requires c κs = search needs
 
--- src/next.rt:481:9
 returns : tie.Need-returns
 unfolding commonAfter
 returns c = rw (← c .before .before .opens-subentry .ensures, c .before .if1 .taken) (c .range-after .ensures)
 
--- src/next.rt:484:9
 returns-2 : tie.Need-returns-2
 unfolding commonAfter
 returns-2 c = rw (← c .before .before .opens-subentry .ensures, c .before .if1 .left, eq-eqb _ _ (c .if2 .taken))
 
--- src/next.rt:474:1
 returns-3 : tie.Need-returns-3
 unfolding commonAfter
 returns-3 c = rw (← c .before .before .opens-subentry .ensures, c .before .if1 .left, ne-eqb _ _ (c .if2 .left))

@@ -3,17 +3,14 @@ use Rattle.entry_next.proofs.parts.empties_bib.Statement.{statement}
 use Rattle.entry_next.proofs.parts.empties_bib.Tie as tie
 use Rattle.entry_next.proofs.parts.empties_bib.Reads as reads
 use Rattle.entry_next.proofs.parts.empties_bib.Lts as lts
-use Rattle.rules_state.proofs.role.opens_subentry.Reads as opens-subentry-reads
+use Rattle.rules_roles.proofs.roles.opens_subentry.Reads as opens-subentry-reads
 
--- src/next.rt:429:8
 opens-subentry-requires : tie.Need-opens-subentry-requires
 opens-subentry-requires c κs = search needs
 
--- src/next.rt:430:9
 returns : tie.Need-returns
 returns c = rw (← c .before .opens-subentry .ensures, c .if1 .taken)
 
--- src/next.rt:426:1
 returns-2 : tie.Need-returns-2
 returns-2 c = rw (← c .before .opens-subentry .ensures, c .if1 .left)
 

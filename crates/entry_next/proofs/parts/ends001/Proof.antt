@@ -4,11 +4,9 @@ use Rattle.entry_next.proofs.parts.ends001.Tie as tie
 use Rattle.entry_next.proofs.parts.ends001.Reads as reads
 use Rattle.entry_next.proofs.parts.ends001.Lts as lts
 
--- src/next.rt:493:9
 returns : tie.Need-returns
 returns c = rw (ne-eqb _ _ (c .if1 .taken))
 
--- src/next.rt:489:1
 returns-2 : tie.Need-returns-2
 returns-2 c = rw (eq-eqb _ _ (c .before .before .if1 .left))
 

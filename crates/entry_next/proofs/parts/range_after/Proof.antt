@@ -5,42 +5,33 @@ use Rattle.entry_next.proofs.parts.range_after.Tie as tie
 use Rattle.entry_next.proofs.parts.range_after.Reads as reads
 use Rattle.entry_next.proofs.parts.range_after.Lts as lts
 
--- src/next.rt:415:17
 add-after : tie.Need-add-after
 add-after c = search needs
 
--- src/next.rt:419:25
 enum-told : tie.Need-enum-told
 enum-told c = search needs
 
--- src/next.rt:420:28
 enum-told-2 : tie.Need-enum-told-2
 enum-told-2 c = search needs
 
--- src/next.rt:421:26
 enum-told-3 : tie.Need-enum-told-3
 enum-told-3 c = search needs
 
--- src/next.rt:422:27
 enum-told-4 : tie.Need-enum-told-4
 enum-told-4 c = search needs
 
--- src/next.rt:411:1
 returns : tie.Need-returns
 unfolding rangeAfter
 returns c = rw (c .enum-told .given .1)
 
--- src/next.rt:411:1
 returns-2 : tie.Need-returns-2
 unfolding rangeAfter
 returns-2 c = rw (c .enum-told2 .given .1)
 
--- src/next.rt:411:1
 returns-3 : tie.Need-returns-3
 unfolding rangeAfter
 returns-3 c = rw (c .enum-told3 .given .1)
 
--- src/next.rt:411:1
 returns-4 : tie.Need-returns-4
 unfolding rangeAfter
 returns-4 c = rw (c .enum-told4 .given .1)

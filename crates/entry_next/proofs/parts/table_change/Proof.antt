@@ -5,22 +5,18 @@ use Rattle.entry_next.proofs.parts.table_change.Tie as tie
 use Rattle.entry_next.proofs.parts.table_change.Reads as reads
 use Rattle.entry_next.proofs.parts.table_change.Lts as lts
 use Rattle.entry_next.proofs.due.is_either.Reads as is-either-reads
-use Rattle.rules_state.proofs.role.is_heading.Reads as is-heading-reads
+use Rattle.rules_roles.proofs.roles.is_heading.Reads as is-heading-reads
 
--- src/next.rt:465:8
 is-either-requires : tie.Need-is-either-requires
 is-either-requires c κs = search needs
 
--- src/next.rt:466:9
 returns : tie.Need-returns
 unfolding tableChange
 returns c = rw (← c .before .is-either .ensures, c .if1 .taken)
 
--- src/next.rt:468:8
 is-heading-requires : tie.Need-is-heading-requires
 is-heading-requires c κs = search needs
 
--- src/next.rt:469:9
 returns-2 : tie.Need-returns-2
 unfolding tableChange
 returns-2 c =
@@ -31,7 +27,6 @@ returns-2 c =
       c .if2 .taken,
     )
 
--- src/next.rt:462:1
 returns-3 : tie.Need-returns-3
 unfolding tableChange
 returns-3 c =

@@ -8,25 +8,20 @@ use Rattle.entry_next.proofs.parts.under_change.Lts as lts
 use Rattle.entry_next.proofs.parts.empties_bib.Reads as empties-bib-reads
 use Rattle.record_words.proofs.word.is_keyword_blank.Reads as is-keyword-blank-reads
 
--- src/next.rt:450:8
 empties-bib-requires : tie.Need-empties-bib-requires
 empties-bib-requires c κs = search needs
 
--- src/next.rt:451:9
 returns : tie.Need-returns
 unfolding underChange
 returns c = rw (← c .before .empties-bib .ensures, c .if1 .taken)
 
--- src/next.rt:454:9
 returns-2 : tie.Need-returns-2
 unfolding underChange
 returns-2 c = rw (← c .before .before .empties-bib .ensures, c .before .if1 .left, ne-eqb _ _ (c .if2 .taken))
 
--- src/next.rt:456:8
 is-keyword-blank-requires : tie.Need-is-keyword-blank-requires
 is-keyword-blank-requires c κs = search needs
 
--- src/next.rt:457:9
 returns-3 : tie.Need-returns-3
 unfolding underChange
 returns-3 c =
@@ -39,7 +34,6 @@ returns-3 c =
       c .if3 .taken,
     )
 
--- src/next.rt:447:1
 returns-4 : tie.Need-returns-4
 unfolding underChange
 returns-4 c =

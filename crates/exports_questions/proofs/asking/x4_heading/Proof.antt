@@ -1,3 +1,5 @@
+use mathlib.Core.Path.{_≡_}
+use Rattle.questions.specs.Ask.{headingAsked}
 use borrow.Author.Needs.{needs}
 use Rattle.exports_questions.proofs.asking.x4_heading.Statement.{statement}
 use Rattle.exports_questions.proofs.asking.x4_heading.Tie as tie
@@ -9,7 +11,12 @@ put-part-requires : tie.Need-put-part-requires
 put-part-requires c κs = search needs
 
 returns : tie.Need-returns
-returns c = rw (← c .before .before .heading .ensures) (c .put-part .ensures)
+returns c =
+    let d = c .before .before in
+    let a = d .before .before .args in
+    let e : d .heading .result ≡ headingAsked (a .entry .now) (a .subentry) (a .section) (a .column) =
+    d .heading .ensures in
+    rw (← e) (c .put-part .ensures)
 
 pub x4-heading-spec : {M : Type 1} → statement M
 x4-heading-spec = tie.close (tie.spec heading-requires put-part-requires returns)

@@ -1,3 +1,5 @@
+use mathlib.Core.Path.{_≡_}
+use Rattle.questions.specs.Ask.{passageAsked}
 use borrow.Author.Needs.{needs}
 use Rattle.exports_questions.proofs.asking.x4_passage.Statement.{statement}
 use Rattle.exports_questions.proofs.asking.x4_passage.Tie as tie
@@ -13,8 +15,11 @@ put-part-requires c κs = search needs
 
 returns : tie.Need-returns
 returns c =
-    let place = c .before .before .before .keyword-place .ensures in
-    rw (← place, ← c .before .before .passage .ensures) (c .put-part .ensures)
+    let d = c .before .before in
+    let a = d .before .before .before .before .args in
+    let place = d .before .keyword-place .result in
+    let e : d .passage .result ≡ passageAsked (a .entry .now) (a .subentry) place (a .pointer) = d .passage .ensures in
+    rw (← d .before .keyword-place .ensures, ← e) (c .put-part .ensures)
 
 pub x4-passage-spec : {M : Type 1} → statement M
 x4-passage-spec =

@@ -1,4 +1,6 @@
 use borrow.Author.Needs.{needs}
+use Rattle.laws.proofs.Promise.{said-too}
+use Rattle.number.specs.Reading.{answer}
 use Rattle.number_reading.proofs.read.read_field.Statement.{statement}
 use Rattle.number_reading.proofs.read.read_field.Tie as tie
 
@@ -9,7 +11,7 @@ read-columns-requires : tie.Need-read-columns-requires
 read-columns-requires c κs = search needs
 
 returns : tie.Need-returns
-returns c = c .read-columns .ensures
+returns c = said-too answer (c .read-columns .ensures)
 
 pub read-field-spec : {M : Type 1} → statement M
 read-field-spec = tie.close (tie.spec slice-aggregate-read-columns read-columns-requires returns)

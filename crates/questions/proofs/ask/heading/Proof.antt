@@ -5,18 +5,15 @@ use Rattle.questions.proofs.ask.heading.Statement.{statement}
 use Rattle.questions.proofs.ask.heading.Tie as tie
 use Rattle.questions.proofs.ask.heading.Reads as reads
 use Rattle.questions.proofs.ask.heading.Lts as lts
-use Rattle.questions.proofs.ask.heading_by.Reads as heading-by-reads
+use Rattle.questions_answers.proofs.answers.heading_by.Reads as heading-by-reads
 use Rattle.questions_rows.proofs.row.locate.Reads as locate-reads
 
--- src/ask.rt:334:9
 locate-requires : tie.Need-locate-requires
 locate-requires c κs = search needs
 
--- src/ask.rt:337:5
 heading-by-requires : tie.Need-heading-by-requires
 heading-by-requires c κs = search needs
 
--- src/ask.rt:331:1
 returns : tie.Need-returns
 unfolding headingAsked
 returns c = c .heading-by .ensures ∙ rw (c .before .before .before .locate .ensures .0)

@@ -1,5 +1,6 @@
-use Rattle.questions.proofs.Parts.{heading-lies}
-use Rattle.questions.specs.Ask.{bytesIn, headingAsked}
+use Rattle.questions_answers.proofs.Parts.{heading-lies}
+use Rattle.questions_answers.specs.Answers.{bytesIn}
+use Rattle.questions.specs.Ask.{headingAsked}
 use mathlib.Core.Path.{_∙_, ap}
 use borrow.Author.Needs.{needs}
 use Rattle.questions.proofs.ask.heading_part.Statement.{statement}
@@ -9,16 +10,13 @@ use Rattle.questions.proofs.ask.heading_part.Lts as lts
 use Rattle.questions.proofs.ask.heading.Reads as heading-reads
 use Rattle.questions.proofs.ask.part_of.Reads as part-of-reads
 
--- src/ask.rt:364:9
 heading-requires : tie.Need-heading-requires
 heading-requires c κs = search needs
 
--- src/ask.rt:365:5
 part-of-requires : tie.Need-part-of-requires
 unfolding headingAsked
 part-of-requires c κs = rw (c .heading .ensures) (heading-lies _ _ _ _ _)
 
--- src/ask.rt:361:1
 returns : tie.Need-returns
 returns c = (
   rw (← c .before .heading .ensures) (c .part-of .ensures .0),

@@ -1,5 +1,6 @@
-use Rattle.questions.proofs.Parts.{passage-lies}
-use Rattle.questions.specs.Ask.{bytesIn, passageAsked}
+use Rattle.questions_answers.proofs.Parts.{passage-lies}
+use Rattle.questions_answers.specs.Answers.{bytesIn}
+use Rattle.questions.specs.Ask.{passageAsked}
 use mathlib.Core.Path.{_∙_, ap}
 use borrow.Author.Needs.{needs}
 use Rattle.questions.proofs.ask.passage_part.Statement.{statement}
@@ -9,16 +10,13 @@ use Rattle.questions.proofs.ask.passage_part.Lts as lts
 use Rattle.questions.proofs.ask.part_of.Reads as part-of-reads
 use Rattle.questions.proofs.ask.passage.Reads as passage-reads
 
--- src/ask.rt:378:9
 passage-requires : tie.Need-passage-requires
 passage-requires c κs = search needs
 
--- src/ask.rt:379:5
 part-of-requires : tie.Need-part-of-requires
 unfolding passageAsked
 part-of-requires c κs = rw (c .passage .ensures) (passage-lies _ _ _ _ _)
 
--- src/ask.rt:375:1
 returns : tie.Need-returns
 returns c = (
   rw (← c .before .passage .ensures) (c .part-of .ensures .0),

@@ -5,18 +5,15 @@ use Rattle.questions.proofs.ask.unit.Statement.{statement}
 use Rattle.questions.proofs.ask.unit.Tie as tie
 use Rattle.questions.proofs.ask.unit.Reads as reads
 use Rattle.questions.proofs.ask.unit.Lts as lts
-use Rattle.questions.proofs.ask.unit_by.Reads as unit-by-reads
+use Rattle.questions_answers.proofs.answers.unit_by.Reads as unit-by-reads
 use Rattle.questions_rows.proofs.row.locate.Reads as locate-reads
 
--- src/ask.rt:344:9
 locate-requires : tie.Need-locate-requires
 locate-requires c κs = search needs
 
--- src/ask.rt:347:5
 unit-by-requires : tie.Need-unit-by-requires
 unit-by-requires c κs = search needs
 
--- src/ask.rt:341:1
 returns : tie.Need-returns
 unfolding unitAsked
 returns c = c .unit-by .ensures ∙ rw (c .before .before .before .locate .ensures .0)

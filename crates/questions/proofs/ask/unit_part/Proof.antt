@@ -1,5 +1,6 @@
-use Rattle.questions.proofs.Parts.{unit-lies}
-use Rattle.questions.specs.Ask.{bytesIn, unitAsked}
+use Rattle.questions_answers.proofs.Parts.{unit-lies}
+use Rattle.questions_answers.specs.Answers.{bytesIn}
+use Rattle.questions.specs.Ask.{unitAsked}
 use mathlib.Core.Path.{_∙_, ap}
 use borrow.Author.Needs.{needs}
 use Rattle.questions.proofs.ask.unit_part.Statement.{statement}
@@ -9,16 +10,13 @@ use Rattle.questions.proofs.ask.unit_part.Lts as lts
 use Rattle.questions.proofs.ask.part_of.Reads as part-of-reads
 use Rattle.questions.proofs.ask.unit.Reads as unit-reads
 
--- src/ask.rt:371:9
 unit-requires : tie.Need-unit-requires
 unit-requires c κs = search needs
 
--- src/ask.rt:372:5
 part-of-requires : tie.Need-part-of-requires
 unfolding unitAsked
 part-of-requires c κs = rw (c .unit .ensures) (unit-lies _ _ _ _ _)
 
--- src/ask.rt:368:1
 returns : tie.Need-returns
 returns c = (
   rw (← c .before .unit .ensures) (c .part-of .ensures .0),

@@ -1,22 +1,20 @@
 use mathlib.Core.Path.{_∙_, ap}
-use Rattle.questions.specs.Ask.{valueAsked, valueSaid}
+use Rattle.questions.specs.Ask.{valueAsked}
+use Rattle.questions_answers.specs.Answers.{valueSaid}
 use borrow.Author.Needs.{needs}
 use Rattle.questions.proofs.ask.value.Statement.{statement}
 use Rattle.questions.proofs.ask.value.Tie as tie
 use Rattle.questions.proofs.ask.value.Reads as reads
 use Rattle.questions.proofs.ask.value.Lts as lts
-use Rattle.questions.proofs.ask.value_by.Reads as value-by-reads
+use Rattle.questions_answers.proofs.answers.value_by.Reads as value-by-reads
 use Rattle.questions_rows.proofs.row.locate.Reads as locate-reads
 
--- src/ask.rt:324:9
 locate-requires : tie.Need-locate-requires
 locate-requires c κs = search needs
 
--- src/ask.rt:327:5
 value-by-requires : tie.Need-value-by-requires
 value-by-requires c κs = search needs
 
--- src/ask.rt:321:1
 returns : tie.Need-returns
 unfolding valueAsked
 returns c = (

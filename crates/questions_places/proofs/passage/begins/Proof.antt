@@ -6,19 +6,15 @@ use Rattle.questions_places.proofs.passage.begins.Reads as reads
 use Rattle.questions_places.proofs.passage.begins.Lts as lts
 use Rattle.record_words.proofs.word.is_keyword_blank.Reads as is-keyword-blank-reads
 
--- src/passage.rt:44:9
 is-keyword-blank-requires : tie.Need-is-keyword-blank-requires
 is-keyword-blank-requires c κs = search needs
 
--- src/passage.rt:45:9
 returns : tie.Need-returns
 returns c = rw (← c .before .is-keyword-blank .ensures, not-true (c .before .is-keyword-blank .result) (c .if1 .taken))
 
--- src/passage.rt:47:5
 array-read-result : tie.Need-array-read-result
 array-read-result c = search needs
 
--- src/passage.rt:41:1
 returns-2 : tie.Need-returns-2
 returns-2 c = rw (← c .before .is-keyword-blank .ensures, not-false (c .before .is-keyword-blank .result) (c .if1 .left))
 

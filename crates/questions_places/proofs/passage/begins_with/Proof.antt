@@ -6,19 +6,15 @@ use Rattle.questions_places.proofs.passage.begins_with.Reads as reads
 use Rattle.questions_places.proofs.passage.begins_with.Lts as lts
 use Rattle.questions_places.proofs.passage.begins.Reads as begins-reads
 
--- src/passage.rt:54:9
 begins-requires : tie.Need-begins-requires
 begins-requires c κs = search needs
 
--- src/passage.rt:55:9
 returns : tie.Need-returns
 returns c = rw (← c .before .begins .ensures, not-true (c .before .begins .result) (c .if1 .taken))
 
--- src/passage.rt:57:5
 array-read-result : tie.Need-array-read-result
 array-read-result c = search needs
 
--- src/passage.rt:51:1
 returns-2 : tie.Need-returns-2
 returns-2 c = rw (← c .before .begins .ensures, not-false (c .before .begins .result) (c .if1 .left))
 

@@ -18,35 +18,27 @@ Inv-loop entry bib what keyword pointer from past i₀ i = (from ≤ i) × Scan 
 abbrev μ-loop : tie.MeasureT-loop
 μ-loop entry bib what keyword pointer from past i₀ i = past - i
 
--- src/passage.rt:102:5
 loop-holds : tie.Need-loop-holds Inv-loop μ-loop
 loop-holds c = (omega arith, scan-upto (c .before .args .past) (omega arith))
 
--- src/passage.rt:103:13
 text-at-requires : tie.Need-text-at-requires Inv-loop μ-loop
 text-at-requires c κs = search needs
 
--- src/passage.rt:104:12
 is-sought-requires : tie.Need-is-sought-requires Inv-loop μ-loop
 is-sought-requires c κs = search needs
 
--- src/passage.rt:105:13
 returns : tie.Need-returns Inv-loop μ-loop
 returns c = (scan-found (c .before .before .before .before .loop .inv .1) (omega arith) (rw (← c .before .before .text-at .ensures) (sym (c .before .is-sought .ensures) ∙ c .if1 .taken)), (omega arith, omega arith))
 
--- src/passage.rt:107:9
 add-i : tie.Need-add-i Inv-loop μ-loop
 add-i c = search needs
 
--- src/passage.rt:102:5
 loop-less : tie.Need-loop-less Inv-loop μ-loop
 loop-less c = search needs
 
--- src/passage.rt:102:5
 loop-again : tie.Need-loop-again Inv-loop μ-loop
 loop-again c = (omega arith, scan-next (c .before .before .before .before .loop .inv .1) (omega arith) (rw (← c .before .before .text-at .ensures) (sym (c .before .is-sought .ensures) ∙ c .if1 .left)))
 
--- src/passage.rt:87:1
 returns-2 : tie.Need-returns-2 Inv-loop μ-loop
 returns-2 c = (scan-done (c .before .loop .inv .1) (omega arith), (omega arith, omega arith))
 

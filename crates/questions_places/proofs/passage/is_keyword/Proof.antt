@@ -8,59 +8,45 @@ use Rattle.questions_places.proofs.passage.is_keyword.Lts as lts
 use Rattle.record_words.proofs.word.is_keyword_blank.Reads as is-keyword-blank-reads
 use Rattle.record_words.proofs.word.same_keyword.Reads as same-keyword-reads
 
--- src/passage.rt:32:8
 is-keyword-blank-requires : tie.Need-is-keyword-blank-requires
 is-keyword-blank-requires c κs = search needs
 
--- src/passage.rt:33:9
 returns : tie.Need-returns
 returns c = rw (← c .before .is-keyword-blank .ensures, c .if1 .taken)
 
--- src/passage.rt:36:19
 array-read-t8 : tie.Need-array-read-t8
 array-read-t8 c = search needs
 
--- src/passage.rt:36:25
 array-read-t11 : tie.Need-array-read-t11
 array-read-t11 c = search needs
 
--- src/passage.rt:36:31
 array-read-t14 : tie.Need-array-read-t14
 array-read-t14 c = search needs
 
--- src/passage.rt:36:37
 array-read-t17 : tie.Need-array-read-t17
 array-read-t17 c = search needs
 
--- src/passage.rt:36:43
 array-read-t20 : tie.Need-array-read-t20
 array-read-t20 c = search needs
 
--- src/passage.rt:36:49
 array-read-t23 : tie.Need-array-read-t23
 array-read-t23 c = search needs
 
--- src/passage.rt:36:55
 array-read-t26 : tie.Need-array-read-t26
 array-read-t26 c = search needs
 
--- src/passage.rt:36:61
 array-read-t29 : tie.Need-array-read-t29
 array-read-t29 c = search needs
 
--- src/passage.rt:36:67
 array-read-t32 : tie.Need-array-read-t32
 array-read-t32 c = search needs
 
--- src/passage.rt:36:73
 array-read-t35 : tie.Need-array-read-t35
 array-read-t35 c = search needs
 
--- src/passage.rt:37:5
 same-keyword-requires : tie.Need-same-keyword-requires
 same-keyword-requires c κs = search needs
 
--- src/passage.rt:29:1
 returns-2 : tie.Need-returns-2
 returns-2 c =
     rw (← c .before .before .is-keyword-blank .ensures, c .before .if1 .left)

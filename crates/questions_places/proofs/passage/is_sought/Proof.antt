@@ -9,35 +9,27 @@ use Rattle.questions_places.proofs.passage.begins_with.Reads as begins-
 use Rattle.questions_places.proofs.passage.is_keyword.Reads as is-keyword-reads
 use Rattle.record_words.proofs.word.is_keyword_blank.Reads as is-keyword-blank-reads
 
--- src/passage.rt:64:9
 is-keyword-requires : tie.Need-is-keyword-requires
 is-keyword-requires c κs = search needs
 
--- src/passage.rt:64:9
 returns : tie.Need-returns
 returns c = rw (eq-eqb _ _ (c .before .if1 .taken)) (c .is-keyword .ensures)
 
--- src/passage.rt:67:17
 is-keyword-blank-requires : tie.Need-is-keyword-blank-requires
 is-keyword-blank-requires c κs = search needs
 
--- src/passage.rt:67:9
 returns-2 : tie.Need-returns-2
 returns-2 c = rw (ne-eqb _ _ (c .before .before .if1 .left), eq-eqb _ _ (c .before .if2 .taken), ← c .is-keyword-blank .ensures)
 
--- src/passage.rt:70:9
 begins-with-requires : tie.Need-begins-with-requires
 begins-with-requires c κs = search needs
 
--- src/passage.rt:70:9
 returns-3 : tie.Need-returns-3
 returns-3 c = rw (ne-eqb _ _ (c .before .before .before .if1 .left), ne-eqb _ _ (c .before .before .if2 .left), eq-eqb _ _ (c .before .if3 .taken)) (c .begins-with .ensures)
 
--- src/passage.rt:72:5
 begins-requires : tie.Need-begins-requires
 begins-requires c κs = search needs
 
--- src/passage.rt:60:1
 returns-4 : tie.Need-returns-4
 returns-4 c = rw (ne-eqb _ _ (c .before .before .before .if1 .left), ne-eqb _ _ (c .before .before .if2 .left), ne-eqb _ _ (c .before .if3 .left)) (c .begins .ensures)
 

@@ -10,32 +10,25 @@ use Rattle.questions_places.proofs.passage.passage_under.Reads as passa
 use Rattle.record.proofs.system.count_to.Reads as count-to-reads
 use Rattle.questions_places.proofs.place.fields_at.Reads as fields-at-reads
 
--- src/passage.rt:136:14
 fields-at-requires : tie.Need-fields-at-requires
 fields-at-requires c κs = search needs
 
--- src/passage.rt:137:14
 array-copy-out-n2 : tie.Need-array-copy-out-n2
 array-copy-out-n2 c = search needs
 
--- src/passage.rt:139:9
 count-to-requires : tie.Need-count-to-requires
 count-to-requires c κs = search needs
 
--- src/passage.rt:140:9
 first-text-requires : tie.Need-first-text-requires
 first-text-requires c κs = search needs
 
--- src/passage.rt:142:9
 passage-under-requires : tie.Need-passage-under-requires
 passage-under-requires c κs = search needs
 
--- src/passage.rt:142:9
 returns : tie.Need-returns
 unfolding passageOf textRecords
 returns c = rw (← c .before .before .before .before .before .fields-at .ensures, ← c .before .before .before .count-to .ensures .0, ← c .before .before .first-text .ensures .0, lt-ltb _ _ (c .before .if1 .taken)) (c .passage-under .ensures)
 
--- src/passage.rt:132:1
 returns-2 : tie.Need-returns-2
 unfolding passageOf textRecords
 returns-2 c = rw (← c .before .before .before .before .fields-at .ensures, ← c .before .before .count-to .ensures .0, ← c .before .first-text .ensures .0, le-ltb _ _ (c .if1 .left))

@@ -5,23 +5,18 @@ use Rattle.questions_places.proofs.passage.text_at.Reads as reads
 use Rattle.questions_places.proofs.passage.text_at.Lts as lts
 use Rattle.questions_places.proofs.place.fields_at.Reads as fields-at-reads
 
--- src/passage.rt:80:27
 add-number : tie.Need-add-number
 add-number c = search needs
 
--- src/passage.rt:80:18
 add-number-2 : tie.Need-add-number-2
 add-number-2 c = search needs
 
--- src/passage.rt:82:14
 fields-at-requires : tie.Need-fields-at-requires
 fields-at-requires c κs = search needs
 
--- src/passage.rt:83:5
 array-copy-out-result : tie.Need-array-copy-out-result
 array-copy-out-result c = search needs
 
--- src/passage.rt:76:1
 returns : tie.Need-returns
 returns c = rw (← c .before .fields-at .ensures)
 

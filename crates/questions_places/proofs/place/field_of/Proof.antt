@@ -5,23 +5,18 @@ use Rattle.questions_places.proofs.place.field_of.Reads as reads
 use Rattle.questions_places.proofs.place.field_of.Lts as lts
 use Rattle.questions_places.proofs.place.fields_at.Reads as fields-at-reads
 
--- src/place.rt:118:14
 fields-at-requires : tie.Need-fields-at-requires
 fields-at-requires c κs = search needs
 
--- src/place.rt:119:13
 cast-k : tie.Need-cast-k
 cast-k c = search needs
 
--- src/place.rt:120:5
 mul-result : tie.Need-mul-result
 mul-result c = search needs
 
--- src/place.rt:120:5
 array-copy-out-result : tie.Need-array-copy-out-result
 array-copy-out-result c = search needs
 
--- src/place.rt:113:1
 returns : tie.Need-returns
 returns c = rw (← c .before .before .fields-at .ensures)
 

@@ -13,48 +13,37 @@ use Rattle.questions_places.proofs.place.fields_at.Lts as lts
 use Rattle.questions_places.proofs.place.has_record.Reads as has-record-reads
 use Rattle.columns.proofs.fields.fields.Reads as fields-reads
 
--- src/place.rt:44:9
 has-record-requires : tie.Need-has-record-requires
 has-record-requires c κs = search needs
 
--- src/place.rt:46:9
 returns : tie.Need-returns
 unfolding fieldsAt
 returns c = rw (← c .before .has-record .ensures, not-true (c .before .has-record .result) (c .if1 .taken))
 
--- src/place.rt:48:18
 cast-before : tie.Need-cast-before
 cast-before c = search needs
 
--- src/place.rt:48:18
 sub-before : tie.Need-sub-before
 sub-before c = let h = record-there (c .before .before .before .before .args .entry .now) (c .before .before .before .before .args .at) (sym (c .before .before .has-record .ensures) ∙ not-false (c .before .before .has-record .result) (c .before .if1 .left)) in omega arith
 
--- src/place.rt:49:16
 mul-from : tie.Need-mul-from
 mul-from c = search needs
 
--- src/place.rt:50:16
 add-past : tie.Need-add-past
 add-past c = search needs
 
--- src/place.rt:51:12
 sub-fields : tie.Need-sub-fields
 sub-fields c = search needs
 
--- src/place.rt:51:12
 part-fields-start : tie.Need-part-fields-start
 part-fields-start c = search needs
 
--- src/place.rt:51:12
 part-fields-end : tie.Need-part-fields-end
 part-fields-end c = let h = record-there (c .before .before .before .before .args .entry .now) (c .before .before .before .before .args .at) (sym (c .before .before .has-record .ensures) ∙ not-false (c .before .before .has-record .result) (c .before .if1 .left)) in omega arith
 
--- src/place.rt:51:5
 fields-requires : tie.Need-fields-requires
 fields-requires c κs = search needs
 
--- src/place.rt:41:1
 returns-2 : tie.Need-returns-2
 unfolding fieldsAt
 returns-2 c = let h = rw add-sub-cancel-left at (c .fields .ensures) in

@@ -5,19 +5,15 @@ use Rattle.questions_places.proofs.place.has_record.Tie as tie
 use Rattle.questions_places.proofs.place.has_record.Reads as reads
 use Rattle.questions_places.proofs.place.has_record.Lts as lts
 
--- src/place.rt:34:9
 returns : tie.Need-returns
 returns c = rw (eq-eqb _ _ (c .if1 .taken))
 
--- src/place.rt:36:18
 cast-number : tie.Need-cast-number
 cast-number c = search needs
 
--- src/place.rt:37:5
 mul-result : tie.Need-mul-result
 mul-result c = search needs
 
--- src/place.rt:30:1
 returns-2 : tie.Need-returns-2
 returns-2 c = rw (ne-eqb _ _ (c .before .if1 .left))
 

@@ -9,40 +9,31 @@ use Rattle.questions_places.proofs.place.shape_of.Lts as lts
 use Rattle.record.proofs.system.count_to.Reads as count-to-reads
 use Rattle.questions_places.proofs.place.fields_at.Reads as fields-at-reads
 
--- src/place.rt:73:14
 fields-at-requires : tie.Need-fields-at-requires
 fields-at-requires c κs = search needs
 
--- src/place.rt:74:14
 array-copy-out-n1 : tie.Need-array-copy-out-n1
 array-copy-out-n1 c = search needs
 
--- src/place.rt:61:28
 cast-count-to : tie.Need-cast-count-to
 cast-count-to c = search needs
 
--- src/place.rt:61:19
 count-to-requires : tie.Need-count-to-requires
 count-to-requires c κs = search needs
 
--- src/place.rt:77:9
 returns : tie.Need-returns
 unfolding shapeOf
 returns c = (rw (← c .before .before .before .fields-at .ensures, eq-eqb _ _ (c .if1 .taken), ← c .before .count-to .ensures .0), (c .before .count-to .ensures .1, omega arith))
 
--- src/place.rt:79:14
 array-copy-out-n2 : tie.Need-array-copy-out-n2
 array-copy-out-n2 c = search needs
 
--- src/place.rt:66:26
 cast-count-to-2 : tie.Need-cast-count-to-2
 cast-count-to-2 c = search needs
 
--- src/place.rt:66:17
 count-to-requires-2 : tie.Need-count-to-requires-2
 count-to-requires-2 c κs = search needs
 
--- src/place.rt:68:1
 returns-2 : tie.Need-returns-2
 unfolding shapeOf
 returns-2 c = (rw (← c .before .before .before .before .before .fields-at .ensures, ne-eqb _ _ (c .before .before .if1 .left), ← c .before .before .before .count-to .ensures .0, ← c .count-to2 .ensures .0), (c .before .before .before .count-to .ensures .1, c .count-to2 .ensures .1))

@@ -7,27 +7,21 @@ use Rattle.questions_places.proofs.place.unit_place.Reads as reads
 use Rattle.questions_places.proofs.place.unit_place.Lts as lts
 use Rattle.columns.proofs.columns.records_for.Reads as records-for-reads
 
--- src/place.rt:104:9
 records-for-requires : tie.Need-records-for-requires
 records-for-requires c κs = search needs
 
--- src/place.rt:105:16
 sub-left : tie.Need-sub-left
 sub-left c = search needs
 
--- src/place.rt:106:36
 add-number : tie.Need-add-number
 add-number c = search needs
 
--- src/place.rt:106:31
 add-number-2 : tie.Need-add-number-2
 add-number-2 c = search needs
 
--- src/place.rt:106:18
 add-number-3 : tie.Need-add-number-3
 add-number-3 c = search needs
 
--- src/place.rt:98:1
 returns : tie.Need-returns
 unfolding unitPlace
 returns c = (rw (← c .before .records-for .ensures), omega arith)

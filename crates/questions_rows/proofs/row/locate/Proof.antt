@@ -1,5 +1,5 @@
-use Rattle.entry.proofs.Walking.{accepted-good}
-use Rattle.entry.specs.declared.verdict.Verdict.{Verdict}
+use Rattle.entry_step.proofs.Walking.{accepted-good}
+use Rattle.entry_verdict.specs.declared.verdict.Verdict.{Verdict}
 use Rattle.questions_rows.proofs.RowNoted.{found-row, refused-row}
 use Rattle.questions_rows.proofs.Rows.{met-empty}
 use mathlib.Core.Path.{_∙_, ap, sym}
@@ -8,19 +8,16 @@ use Rattle.questions_rows.proofs.row.locate.Statement.{statement}
 use Rattle.questions_rows.proofs.row.locate.Tie as tie
 use Rattle.questions_rows.proofs.row.locate.Reads as reads
 use Rattle.questions_rows.proofs.row.locate.Lts as lts
-use Rattle.entry.proofs.verdict.judge.Reads as judge-reads
-use Rattle.questions_rows.proofs.row.empty_row.Reads as empty-row-reads
+use Rattle.entry.proofs.judge.judge.Reads as judge-reads
+use Rattle.questions_noted.proofs.row.empty_row.Reads as empty-row-reads
 use Rattle.questions_rows.proofs.row.row_of.Reads as row-of-reads
 
--- src/row.rt:113:9
 judge-requires : tie.Need-judge-requires
 judge-requires c κs = search needs
 
--- src/row.rt:115:13
 empty-row-requires : tie.Need-empty-row-requires
 empty-row-requires c κs = search needs
 
--- src/row.rt:116:9
 returns : tie.Need-returns
 returns c =
     let judged = c .before .before .before .judge .ensures in
@@ -29,13 +26,11 @@ returns c =
       rw (c .empty-row .ensures) (met-empty _),
     )
 
--- src/row.rt:121:9
 row-of-requires : tie.Need-row-of-requires
 row-of-requires c κs =
     let judged = c .before .before .judge .ensures in
     accepted-good _ (ap (λ (v : Verdict). v .refusal) (sym judged) ∙ c .if1 .left)
 
--- src/row.rt:109:1
 returns-2 : tie.Need-returns-2
 returns-2 c =
     let judged = c .before .before .before .judge .ensures in

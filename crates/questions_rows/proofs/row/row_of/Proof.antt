@@ -1,7 +1,7 @@
 use Prim.Native.Nat.{_-_, _/_}
-use Rattle.entry.proofs.Numbered.{whole-records}
-use Rattle.entry.proofs.Walking.{walking-start, walking-bounded, walking-done}
-use Rattle.entry.specs.Pass.{Walking}
+use Rattle.entry_step.proofs.Numbered.{whole-records}
+use Rattle.entry_step.proofs.Walking.{walking-start, walking-bounded, walking-done}
+use Rattle.entry_step.specs.Pass.{Walking}
 use Rattle.questions_rows.proofs.RowNoted.{met-rows, row-passed, row-start}
 use Rattle.questions_rows.specs.Row.{rowAt}
 use lib.ListN.{length}
@@ -13,12 +13,12 @@ use Rattle.questions_rows.proofs.row.row_of.Tie as tie
 use Rattle.questions_rows.proofs.row.row_of.Reads as reads
 use Rattle.questions_rows.proofs.row.row_of.Lts as lts
 use Rattle.columns.proofs.columns.record_of.Reads as record-of-reads
-use Rattle.entry.proofs.step.Judge.new.Reads as new-reads
-use Rattle.entry.proofs.step.Judge.pass.Reads as pass-reads
+use Rattle.entry_step.proofs.step.Judge.new.Reads as new-reads
+use Rattle.entry_step.proofs.step.Judge.pass.Reads as pass-reads
 use Rattle.number.proofs.form.kinds.Reads as kinds-reads
 use Rattle.number.proofs.form.nexts.Reads as nexts-reads
-use Rattle.questions_rows.proofs.row.empty_row.Reads as empty-row-reads
-use Rattle.questions_rows.proofs.row.noted_in.Reads as noted-in-reads
+use Rattle.questions_noted.proofs.row.empty_row.Reads as empty-row-reads
+use Rattle.questions_noted.proofs.row.noted_in.Reads as noted-in-reads
 use Rattle.record.proofs.identifier.names.Reads as names-reads
 
 abbrev Inv-loop : tie.InvT-loop
@@ -28,27 +28,21 @@ Inv-loop entry number n names kinds nexts j₀ row₀ i₀ j row i =
 abbrev μ-loop : tie.MeasureT-loop
 μ-loop entry number n names kinds nexts j₀ row₀ i₀ j row i = n - i
 
--- src/row.rt:87:17
 names-requires : tie.Need-names-requires Inv-loop μ-loop
 names-requires c κs = search needs
 
--- src/row.rt:88:17
 kinds-requires : tie.Need-kinds-requires Inv-loop μ-loop
 kinds-requires c κs = search needs
 
--- src/row.rt:89:17
 nexts-requires : tie.Need-nexts-requires Inv-loop μ-loop
 nexts-requires c κs = search needs
 
--- src/row.rt:90:9
 new-requires : tie.Need-new-requires Inv-loop μ-loop
 new-requires c κs = search needs
 
--- src/row.rt:91:9
 empty-row-requires : tie.Need-empty-row-requires Inv-loop μ-loop
 empty-row-requires c κs = search needs
 
--- src/row.rt:93:5
 loop-holds : tie.Need-loop-holds Inv-loop μ-loop
 loop-holds c = (
   search needs,
@@ -56,11 +50,9 @@ loop-holds c = (
   rw (c .empty-row .ensures) (sym (row-start _ _)),
 )
 
--- src/row.rt:95:13
 record-of-requires : tie.Need-record-of-requires Inv-loop μ-loop
 record-of-requires c κs = let few = walking-bounded (c .before .before .loop .inv .1) .records in search needs
 
--- src/row.rt:96:13
 pass-requires : tie.Need-pass-requires Inv-loop μ-loop
 pass-requires c κs =
     let loop = c .before .before .before .before .before .before .loop .inv in
@@ -72,24 +64,20 @@ pass-requires c κs =
       ),
     )
 
--- src/row.rt:101:9
 noted-in-requires : tie.Need-noted-in-requires Inv-loop μ-loop
 noted-in-requires c κs = search needs
 
--- src/row.rt:103:9
 add-i : tie.Need-add-i Inv-loop μ-loop
 add-i c =
     let loop = c .before .before .before .before .before .before .before .before .before .before .before .loop .inv in
     let few = whole-records _ (loop .1 .good) in
     omega (arith, loop .0, c .before .before .before .before .before .before .before .before .before .before .loop-test .taken)
 
--- src/row.rt:93:5
 loop-less : tie.Need-loop-less Inv-loop μ-loop
 loop-less c =
     let more = c .before .before .before .before .before .before .before .before .before .before .loop-test .taken in
     omega (arith, more)
 
--- src/row.rt:93:5
 loop-again : tie.Need-loop-again Inv-loop μ-loop
 loop-again c =
     let loop = c .before .before .before .before .before .before .before .before .before .before .before .loop .inv in
@@ -97,7 +85,6 @@ loop-again c =
     let at = c .before .before .before .before .before .before .before .before .record-of .ensures in
     (loop .0, passed .walking, c .noted-in .ensures ∙ rw (loop .2, at) (row-passed (loop .1) passed _))
 
--- src/row.rt:81:1
 returns : tie.Need-returns Inv-loop μ-loop
 returns c =
     let loop = c .before .loop .inv in

@@ -16,30 +16,24 @@ Inv-loop t f k₀ k = (NamesLent t) × Scan (isName f) (identifierOf f) k OTHER
 abbrev μ-loop : tie.MeasureT-loop
 μ-loop t f k₀ k = OTHER - k
 
--- src/identifier.rt:68:5
 loop-holds : tie.Need-loop-holds Inv-loop μ-loop
 unfolding identifierOf
 loop-holds c = (c .pre, scan-all OTHER)
 
--- src/identifier.rt:69:12
 is-name-requires : tie.Need-is-name-requires Inv-loop μ-loop
 is-name-requires c κs = search needs
 
--- src/identifier.rt:70:13
 returns : tie.Need-returns Inv-loop μ-loop
 returns c =
     scan-found (c .before .before .before .loop .inv .1) (omega arith)
     (sym (c .before .is-name .ensures) ∙ c .if1 .taken)
 
--- src/identifier.rt:72:9
 add-k : tie.Need-add-k Inv-loop μ-loop
 add-k c = search needs
 
--- src/identifier.rt:68:5
 loop-less : tie.Need-loop-less Inv-loop μ-loop
 loop-less c = search needs
 
--- src/identifier.rt:68:5
 loop-again : tie.Need-loop-again Inv-loop μ-loop
 loop-again c = (
   c .before .before .before .loop .inv .0,
@@ -47,7 +41,6 @@ loop-again c = (
       (sym (c .before .is-name .ensures) ∙ c .if1 .left),
 )
 
--- src/identifier.rt:63:1
 returns-2 : tie.Need-returns-2 Inv-loop μ-loop
 returns-2 c = scan-done (c .before .loop .inv .1) (omega arith)
 

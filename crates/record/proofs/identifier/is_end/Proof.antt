@@ -10,19 +10,15 @@ use Rattle.record.proofs.identifier.is_end.Tie as tie
 use Rattle.record.proofs.identifier.is_end.Reads as reads
 use Rattle.record.proofs.identifier.is_end.Lts as lts
 
--- src/identifier.rt:83:9
 returns : tie.Need-returns
 returns c = sym (no-end _ (c .if1 .taken))
 
--- src/identifier.rt:85:14
 mul-at : tie.Need-mul-at
 mul-at c = search needs
 
--- src/identifier.rt:86:8
 element-copy-out-if2 : tie.Need-element-copy-out-if2
 element-copy-out-if2 c = search needs
 
--- src/identifier.rt:87:9
 returns-2 : tie.Need-returns-2
 returns-2 c =
     rw (
@@ -33,15 +29,12 @@ returns-2 c =
           ∙ e)),
     )
 
--- src/identifier.rt:89:10
 add-if3 : tie.Need-add-if3
 add-if3 c = search needs
 
--- src/identifier.rt:89:8
 element-copy-out-if3 : tie.Need-element-copy-out-if3
 element-copy-out-if3 c = search needs
 
--- src/identifier.rt:90:9
 returns-3 : tie.Need-returns-3
 returns-3 c =
     rw (
@@ -54,15 +47,12 @@ returns-3 c =
           (c .before .before .before .before .before .args .k) 1 (omega arith) (omega arith) ∙ e)),
     )
 
--- src/identifier.rt:92:7
 add-result : tie.Need-add-result
 add-result c = search needs
 
--- src/identifier.rt:92:5
 element-copy-out-result : tie.Need-element-copy-out-result
 element-copy-out-result c = search needs
 
--- src/identifier.rt:78:1
 returns-4 : tie.Need-returns-4
 returns-4 c =
     rw (

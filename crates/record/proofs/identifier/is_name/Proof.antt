@@ -20,27 +20,21 @@ Inv-loop t k f i₀ i =
 abbrev μ-loop : tie.MeasureT-loop
 μ-loop t k f i₀ i = 11 - i
 
--- src/identifier.rt:53:5
 loop-holds : tie.Need-loop-holds Inv-loop μ-loop
 loop-holds c = (c .pre .0, c .pre .1, scan-all 11)
 
--- src/identifier.rt:54:12
 array-read-if1 : tie.Need-array-read-if1 Inv-loop μ-loop
 array-read-if1 c = search needs
 
--- src/identifier.rt:54:22
 mul-if1 : tie.Need-mul-if1 Inv-loop μ-loop
 mul-if1 c = search needs
 
--- src/identifier.rt:54:22
 add-if1 : tie.Need-add-if1 Inv-loop μ-loop
 add-if1 c = search needs
 
--- src/identifier.rt:54:20
 element-copy-out-if1 : tie.Need-element-copy-out-if1 Inv-loop μ-loop
 element-copy-out-if1 c = search needs
 
--- src/identifier.rt:55:13
 returns : tie.Need-returns Inv-loop μ-loop
 unfolding isName equalTo
 returns c =
@@ -48,15 +42,12 @@ returns c =
     (rw (ne-eqb _ _ (λ e. c .if1 .taken (e ∙ sym (name-read (c .before .before .before .loop .inv .0) _ _ (omega arith)
     (omega arith))))))
 
--- src/identifier.rt:57:9
 add-i : tie.Need-add-i Inv-loop μ-loop
 add-i c = search needs
 
--- src/identifier.rt:53:5
 loop-less : tie.Need-loop-less Inv-loop μ-loop
 loop-less c = search needs
 
--- src/identifier.rt:53:5
 loop-again : tie.Need-loop-again Inv-loop μ-loop
 loop-again c = (
   c .before .before .before .loop .inv .0,
@@ -66,7 +57,6 @@ loop-again c = (
       (omega arith)))),
 )
 
--- src/identifier.rt:47:1
 returns-2 : tie.Need-returns-2 Inv-loop μ-loop
 unfolding isName equalTo
 returns-2 c = scan-passed (c .before .loop .inv .2) (omega arith)

@@ -6,7 +6,6 @@ use Rattle.record.proofs.identifier.names.Tie as tie
 use Rattle.record.proofs.identifier.names.Reads as reads
 use Rattle.record.proofs.identifier.names.Lts as lts
 
--- src/identifier.rt:40:1
 returns : tie.Need-returns
 unfolding nameTable joinOf
 returns c = refl

@@ -1,7 +1,8 @@
 use Prim.Native.Nat.{ℕ}
 use mathlib.Core.Path.{ap}
+use Rattle.laws.proofs.Promise.{said-too}
 use Rattle.record.specs.declared.system.Count.the-variants.{Number}
-use Rattle.record.specs.System.{integerOf}
+use Rattle.record.specs.System.{countAnswer, integerOf}
 use borrow.Author.Needs.{needs}
 use borrow.Author.Tests.{eq-eqb, ne-eqb, not-false, not-true}
 use Rattle.record.proofs.system.count_of.Statement.{statement}
@@ -12,51 +13,44 @@ use Rattle.record.proofs.system.digits_in.Reads as digits-in-reads
 use Rattle.record.proofs.system.number_in.Reads as number-in-reads
 use Rattle.record_words.proofs.word.filled_from.Reads as filled-from-reads
 
--- src/system.rt:85:9
 filled-from-requires : tie.Need-filled-from-requires
 filled-from-requires c κs = search needs
 
--- src/system.rt:87:9
 returns : tie.Need-returns
 unfolding integerOf
-returns c = rw (← c .before .filled-from .ensures .0, eq-eqb _ _ (c .if1 .taken))
+returns c = said-too countAnswer (rw (← c .before .filled-from .ensures .0, eq-eqb _ _ (c .if1 .taken)))
 
--- src/system.rt:89:13
 sub-n : tie.Need-sub-n
 sub-n c = search needs
 
--- src/system.rt:90:9
 digits-in-requires : tie.Need-digits-in-requires
 digits-in-requires c κs = search needs
 
--- src/system.rt:91:9
 returns-2 : tie.Need-returns-2
 unfolding integerOf
 returns-2 c =
-    rw (
+    said-too countAnswer (rw (
       ← c .before .before .before .filled-from .ensures .0,
       ne-eqb _ _
           (c .before .before .if1 .left),
       ← c .before .digits-in .ensures,
       not-true (c .before .digits-in .result)
           (c .if2 .taken),
-    )
+    ))
 
--- src/system.rt:93:9
 number-in-requires : tie.Need-number-in-requires
 number-in-requires c κs = search needs
 
--- src/system.rt:82:1
 returns-3 : tie.Need-returns-3
 unfolding integerOf
 returns-3 c =
-    rw (
+    said-too countAnswer (rw (
       ← c .before .before .before .before .filled-from .ensures .0,
       ne-eqb _ _
           (c .before .before .before .if1 .left),
       ← c .before .before .digits-in .ensures,
       not-false (c .before .before .digits-in .result) (c .before .if2 .left),
-    ) (ap (λ (n : ℕ). Number n) (c .number-in .ensures .0))
+    ) (ap (λ (n : ℕ). Number n) (c .number-in .ensures .0)))
 
 pub count-of-spec : {M : Type 1} → statement M
 count-of-spec =

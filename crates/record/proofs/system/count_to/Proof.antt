@@ -8,29 +8,24 @@ use Rattle.record.proofs.system.count_to.Lts as lts
 use Rattle.record.proofs.system.count_of.Reads as count-of-reads
 use Rattle.record.proofs.system.number_of.Reads as number-of-reads
 
--- src/system.rt:104:23
 count-of-requires : tie.Need-count-of-requires
 count-of-requires c κs = search needs
 
--- src/system.rt:104:9
 number-of-requires : tie.Need-number-of-requires
 number-of-requires c κs = search needs
 
--- src/system.rt:107:16
 cast-result : tie.Need-cast-result
 cast-result c = search needs
 
--- src/system.rt:107:9
 returns : tie.Need-returns
 returns c = (
-  rw (← c .before .before .count-of .ensures, ← c .before .number-of .ensures, le-leb _ _ (c .if1 .taken)),
+  rw (← c .before .before .count-of .ensures .0, ← c .before .number-of .ensures, le-leb _ _ (c .if1 .taken)),
   c .if1 .taken,
 )
 
--- src/system.rt:100:1
 returns-2 : tie.Need-returns-2
 returns-2 c = (
-  rw (← c .before .before .count-of .ensures, ← c .before .number-of .ensures, lt-leb _ _ (c .if1 .left)),
+  rw (← c .before .before .count-of .ensures .0, ← c .before .number-of .ensures, lt-leb _ _ (c .if1 .left)),
   omega arith,
 )
 

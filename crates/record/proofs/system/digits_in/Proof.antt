@@ -18,38 +18,30 @@ Inv-loop from n f end i₀ i = (end ≤ 11) × Scan (noDigitAt f) (first (noDigi
 abbrev μ-loop : tie.MeasureT-loop
 μ-loop from n f end i₀ i = end - i
 
--- src/system.rt:56:15
 add-end : tie.Need-add-end Inv-loop μ-loop
 add-end c = search needs
 
--- src/system.rt:58:5
 loop-holds : tie.Need-loop-holds Inv-loop μ-loop
 loop-holds c = (search needs, scan-run _)
 
--- src/system.rt:59:35
 array-read-is-from : tie.Need-array-read-is-from Inv-loop μ-loop
 array-read-is-from c = search needs
 
--- src/system.rt:59:13
 is-from-requires : tie.Need-is-from-requires Inv-loop μ-loop
 is-from-requires c κs = search needs
 
--- src/system.rt:60:13
 returns : tie.Need-returns Inv-loop μ-loop
 unfolding digitsIn
 returns c =
     scan-stopped (c .before .before .before .loop .inv .1) (omega arith)
     (ap not (sym (c .before .is-from .ensures)) ∙ c .if1 .taken)
 
--- src/system.rt:62:9
 add-i : tie.Need-add-i Inv-loop μ-loop
 add-i c = search needs
 
--- src/system.rt:58:5
 loop-less : tie.Need-loop-less Inv-loop μ-loop
 loop-less c = search needs
 
--- src/system.rt:58:5
 loop-again : tie.Need-loop-again Inv-loop μ-loop
 loop-again c = (
   search needs,
@@ -57,7 +49,6 @@ loop-again c = (
       (ap not (sym (c .before .is-from .ensures)) ∙ c .if1 .left),
 )
 
--- src/system.rt:52:1
 returns-2 : tie.Need-returns-2 Inv-loop μ-loop
 unfolding digitsIn
 returns-2 c = scan-passed (c .before .loop .inv .1) (omega arith)

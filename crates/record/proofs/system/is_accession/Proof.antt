@@ -8,29 +8,23 @@ use Rattle.record.proofs.system.is_accession.Lts as lts
 use Rattle.record.proofs.system.digits_in.Reads as digits-in-reads
 use Rattle.record.proofs.system.is_capital_or_digit.Reads as is-capital-or-digit-reads
 
--- src/system.rt:144:29
 array-read-is-capital-or-digit : tie.Need-array-read-is-capital-or-digit
 array-read-is-capital-or-digit c = search needs
 
--- src/system.rt:144:9
 is-capital-or-digit-requires : tie.Need-is-capital-or-digit-requires
 is-capital-or-digit-requires c κs = search needs
 
--- src/system.rt:145:9
 returns : tie.Need-returns
 unfolding isAccession
 returns c =
     rw (← c .before .is-capital-or-digit .ensures, not-true (c .before .is-capital-or-digit .result) (c .if1 .taken))
 
--- src/system.rt:147:18
 add-digits-in : tie.Need-add-digits-in
 add-digits-in c = search needs
 
--- src/system.rt:147:5
 digits-in-requires : tie.Need-digits-in-requires
 digits-in-requires c κs = search needs
 
--- src/system.rt:140:1
 returns-2 : tie.Need-returns-2
 unfolding isAccession
 returns-2 c =

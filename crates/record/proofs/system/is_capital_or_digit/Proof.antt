@@ -5,19 +5,15 @@ use Rattle.record.proofs.system.is_capital_or_digit.Reads as reads
 use Rattle.record.proofs.system.is_capital_or_digit.Lts as lts
 use Rattle.record_words.proofs.word.is_from.Reads as is-from-reads
 
--- src/system.rt:154:8
 is-from-requires : tie.Need-is-from-requires
 is-from-requires c κs = search needs
 
--- src/system.rt:155:9
 returns : tie.Need-returns
 returns c = rw (← c .before .is-from .ensures, c .if1 .taken)
 
--- src/system.rt:157:5
 is-from-requires-2 : tie.Need-is-from-requires-2
 is-from-requires-2 c κs = search needs
 
--- src/system.rt:151:1
 returns-2 : tie.Need-returns-2
 returns-2 c = rw (← c .before .before .is-from .ensures, c .before .if1 .left) (c .is-from2 .ensures)
 

@@ -1,9 +1,9 @@
 use Rattle.columns.specs.Text.{within}
-use Rattle.record.specs.System.{isDate}
+use Rattle.record.specs.System.{isDate, numberIn}
 use borrow.Author.Needs.{needs}
 use borrow.Author.Tests.{not-false, not-true}
-use mathlib.Core.Bool.{false}
-use mathlib.Core.Path.{_≡_, _∙_, sym}
+use mathlib.Core.Bool.{Bool, _&&_}
+use mathlib.Core.Path.{_∙_, ap, sym}
 use Rattle.record.proofs.system.is_date.Statement.{statement}
 use Rattle.record.proofs.system.is_date.Tie as tie
 use Rattle.record.proofs.system.is_date.Reads as reads
@@ -13,20 +13,16 @@ use Rattle.record_words.proofs.word.is_within.Reads as is-within-reads
 use Rattle.record.proofs.system.number_in.Reads as number-in-reads
 use Rattle.record_words.proofs.word.blank_to.Reads as blank-to-reads
 
--- src/system.rt:125:9
 blank-to-requires : tie.Need-blank-to-requires
 blank-to-requires c κs = search needs
 
--- src/system.rt:126:9
 returns : tie.Need-returns
 unfolding isDate
 returns c = rw (← c .before .blank-to .ensures, not-true (c .before .blank-to .result) (c .if1 .taken))
 
--- src/system.rt:128:9
 digits-in-requires : tie.Need-digits-in-requires
 digits-in-requires c κs = search needs
 
--- src/system.rt:129:9
 returns-2 : tie.Need-returns-2
 unfolding isDate
 returns-2 c =
@@ -39,20 +35,17 @@ returns-2 c =
           (c .if2 .taken),
     )
 
--- src/system.rt:131:9
 number-in-requires : tie.Need-number-in-requires
 number-in-requires c κs = search needs
 
--- src/system.rt:132:9
 is-within-requires : tie.Need-is-within-requires
 is-within-requires c κs = search needs
 
--- src/system.rt:133:9
 returns-3 : tie.Need-returns-3
 unfolding isDate
 returns-3 c =
-    let e : within 1 12 (c .before .before .number-in .result) ≡ false
-    = sym (c .before .is-within .ensures) ∙ not-true (c .before .is-within .result) (c .if3 .taken) in
+    let day = within 1 31 (numberIn (c .before .before .before .before .before .before .before .args .f) 9 2) in
+    let e = sym (not-true (c .before .is-within .result) (c .if3 .taken)) ∙ c .before .is-within .ensures in
     rw (
       ← c .before .before .before .before .before .before .blank-to .ensures,
       not-false (c .before .before .before .before .before .before .blank-to .result)
@@ -61,18 +54,15 @@ returns-3 c =
       not-false (c .before .before .before .before .digits-in .result)
           (c .before .before .before .if2 .left),
       ← c .before .before .number-in .ensures .0,
-      e,
     )
+    (ap (λ (x : Bool). x && day) e)
 
--- src/system.rt:135:9
 number-in-requires-2 : tie.Need-number-in-requires-2
 number-in-requires-2 c κs = search needs
 
--- src/system.rt:136:5
 is-within-requires-2 : tie.Need-is-within-requires-2
 is-within-requires-2 c κs = search needs
 
--- src/system.rt:122:1
 returns-4 : tie.Need-returns-4
 unfolding isDate
 returns-4 c =

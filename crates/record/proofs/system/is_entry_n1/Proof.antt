@@ -8,20 +8,16 @@ use Rattle.record.proofs.system.is_entry_n1.Lts as lts
 use Rattle.record.proofs.system.is_accession.Reads as is-accession-reads
 use Rattle.record_words.proofs.word.blank_to.Reads as blank-to-reads
 
--- src/system.rt:164:9
 blank-to-requires : tie.Need-blank-to-requires
 blank-to-requires c κs = search needs
 
--- src/system.rt:165:9
 returns : tie.Need-returns
 unfolding isEntryN1
 returns c = rw (← c .before .blank-to .ensures, not-true (c .before .blank-to .result) (c .if1 .taken))
 
--- src/system.rt:167:5
 is-accession-requires : tie.Need-is-accession-requires
 is-accession-requires c κs = search needs
 
--- src/system.rt:161:1
 returns-2 : tie.Need-returns-2
 unfolding isEntryN1
 returns-2 c =

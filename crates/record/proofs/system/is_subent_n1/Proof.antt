@@ -9,20 +9,16 @@ use Rattle.record.proofs.system.digits_in.Reads as digits-in-reads
 use Rattle.record.proofs.system.is_accession.Reads as is-accession-reads
 use Rattle.record_words.proofs.word.blank_to.Reads as blank-to-reads
 
--- src/system.rt:174:9
 blank-to-requires : tie.Need-blank-to-requires
 blank-to-requires c κs = search needs
 
--- src/system.rt:175:9
 returns : tie.Need-returns
 unfolding isSubentN1
 returns c = rw (← c .before .blank-to .ensures, not-true (c .before .blank-to .result) (c .if1 .taken))
 
--- src/system.rt:177:9
 is-accession-requires : tie.Need-is-accession-requires
 is-accession-requires c κs = search needs
 
--- src/system.rt:178:9
 returns-2 : tie.Need-returns-2
 unfolding isSubentN1
 returns-2 c =
@@ -35,11 +31,9 @@ returns-2 c =
           (c .if2 .taken),
     )
 
--- src/system.rt:180:5
 digits-in-requires : tie.Need-digits-in-requires
 digits-in-requires c κs = search needs
 
--- src/system.rt:171:1
 returns-3 : tie.Need-returns-3
 unfolding isSubentN1
 returns-3 c =

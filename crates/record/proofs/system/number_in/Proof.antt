@@ -18,40 +18,31 @@ Inv-loop from n f number₀ i₀ number i =
 abbrev μ-loop : tie.MeasureT-loop
 μ-loop from n f number₀ i₀ number i = n - i
 
--- src/system.rt:87:5
 loop-holds : tie.Need-loop-holds Inv-loop μ-loop
 unfolding numberIn
 loop-holds c = (c .pre, search needs, refl, omega arith)
 
--- src/system.rt:88:28
 add-digit-of : tie.Need-add-digit-of Inv-loop μ-loop
 add-digit-of c = search needs
 
--- src/system.rt:88:26
 array-read-digit-of : tie.Need-array-read-digit-of Inv-loop μ-loop
 array-read-digit-of c = search needs
 
--- src/system.rt:88:13
 digit-of-requires : tie.Need-digit-of-requires Inv-loop μ-loop
 digit-of-requires c κs = search needs
 
--- src/system.rt:89:18
 mul-number : tie.Need-mul-number Inv-loop μ-loop
 mul-number c = omega (arith, eleven-below _ _ (c .before .before .loop .inv .3) (omega arith))
 
--- src/system.rt:89:18
 add-number : tie.Need-add-number Inv-loop μ-loop
 add-number c = omega (arith, eleven-below _ _ (c .before .before .loop .inv .3) (omega arith), c .digit-of .ensures .1)
 
--- src/system.rt:90:9
 add-i : tie.Need-add-i Inv-loop μ-loop
 add-i c = search needs
 
--- src/system.rt:87:5
 loop-less : tie.Need-loop-less Inv-loop μ-loop
 loop-less c = search needs
 
--- src/system.rt:87:5
 loop-again : tie.Need-loop-again Inv-loop μ-loop
 unfolding numberIn
 loop-again c = (
@@ -62,7 +53,6 @@ loop-again c = (
       (c .before .before .loop .inv .3) (c .digit-of .ensures .1),
 )
 
--- src/system.rt:80:1
 returns : tie.Need-returns Inv-loop μ-loop
 returns c =
     let e : c .before .loop .i ≡ c .before .before .args .n = omega arith in

@@ -7,15 +7,12 @@ use Rattle.record.proofs.system.subentry_of.Reads as reads
 use Rattle.record.proofs.system.subentry_of.Lts as lts
 use Rattle.record.proofs.system.number_in.Reads as number-in-reads
 
--- src/system.rt:188:9
 number-in-requires : tie.Need-number-in-requires
 number-in-requires c κs = search needs
 
--- src/system.rt:189:5
 cast-result : tie.Need-cast-result
 cast-result c = search needs
 
--- src/system.rt:184:1
 returns : tie.Need-returns
 unfolding subentryOf
 returns c = (c .number-in .ensures .0, omega (arith, c .number-in .ensures .1))

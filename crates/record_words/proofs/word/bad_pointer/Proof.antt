@@ -7,20 +7,16 @@ use Rattle.record_words.proofs.word.bad_pointer.Reads as reads
 use Rattle.record_words.proofs.word.bad_pointer.Lts as lts
 use Rattle.record_words.proofs.word.is_pointer.Reads as is-pointer-reads
 
--- src/word.rt:133:13
 array-read-b : tie.Need-array-read-b
 array-read-b c = search needs
 
--- src/word.rt:135:9
 returns : tie.Need-returns
 unfolding badPointer
 returns c = rw (eq-eqb _ _ (c .if1 .taken))
 
--- src/word.rt:137:6
 is-pointer-requires : tie.Need-is-pointer-requires
 is-pointer-requires c κs = search needs
 
--- src/word.rt:130:1
 returns-2 : tie.Need-returns-2
 unfolding badPointer
 returns-2 c = rw (ne-eqb _ _ (c .before .if1 .left), ← c .is-pointer .ensures)

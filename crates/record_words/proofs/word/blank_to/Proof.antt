@@ -6,11 +6,9 @@ use Rattle.record_words.proofs.word.blank_to.Reads as reads
 use Rattle.record_words.proofs.word.blank_to.Lts as lts
 use Rattle.record_words.proofs.word.filled_from.Reads as filled-from-reads
 
--- src/word.rt:31:5
 filled-from-requires : tie.Need-filled-from-requires
 filled-from-requires c κs = search needs
 
--- src/word.rt:27:1
 returns : tie.Need-returns
 unfolding blankTo
 returns c = rw (← c .filled-from .ensures .0)

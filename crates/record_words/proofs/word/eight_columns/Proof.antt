@@ -6,27 +6,21 @@ use Rattle.record_words.proofs.word.eight_columns.Reads as reads
 use Rattle.record_words.proofs.word.eight_columns.Lts as lts
 use Rattle.record_words.proofs.word.four.Reads as four-reads
 
--- src/word.rt:102:9
 four-requires : tie.Need-four-requires
 four-requires c κs = search needs
 
--- src/word.rt:103:26
 add-four : tie.Need-add-four
 add-four c = search needs
 
--- src/word.rt:103:9
 four-requires-2 : tie.Need-four-requires-2
 four-requires-2 c κs = search needs
 
--- src/word.rt:104:5
 mul-result : tie.Need-mul-result
 mul-result c = search needs
 
--- src/word.rt:104:5
 add-result : tie.Need-add-result
 add-result c = search needs
 
--- src/word.rt:98:1
 returns : tie.Need-returns
 unfolding eightAt
 returns c = search needs

@@ -17,33 +17,26 @@ Inv-loop a b w i₀ i = (w ≤ length a) × (w ≤ length b) × Scan (differAt a
 abbrev μ-loop : tie.MeasureT-loop
 μ-loop a b w i₀ i = w - i
 
--- src/word.rt:45:5
 loop-holds : tie.Need-loop-holds Inv-loop μ-loop
 loop-holds c = (c .pre .0, c .pre .1, scan-all _)
 
--- src/word.rt:46:12
 shared-slice-read-if1 : tie.Need-shared-slice-read-if1 Inv-loop μ-loop
 shared-slice-read-if1 c = search needs
 
--- src/word.rt:46:20
 shared-slice-read-if1-2 : tie.Need-shared-slice-read-if1-2 Inv-loop μ-loop
 shared-slice-read-if1-2 c = search needs
 
--- src/word.rt:47:13
 returns : tie.Need-returns Inv-loop μ-loop
 unfolding equalTo
 returns c =
     scan-stopped (c .before .before .before .before .loop .inv .2) (omega arith) (rw (ne-eqb _ _ (c .if1 .taken)))
 
--- src/word.rt:49:9
 add-i : tie.Need-add-i Inv-loop μ-loop
 add-i c = search needs
 
--- src/word.rt:45:5
 loop-less : tie.Need-loop-less Inv-loop μ-loop
 loop-less c = search needs
 
--- src/word.rt:45:5
 loop-again : tie.Need-loop-again Inv-loop μ-loop
 loop-again c = (
   c .before .before .before .before .loop .inv .0,
@@ -51,7 +44,6 @@ loop-again c = (
   scan-next (c .before .before .before .before .loop .inv .2) (omega arith) (rw (eq-eqb _ _ (c .if1 .left))),
 )
 
--- src/word.rt:39:1
 returns-2 : tie.Need-returns-2 Inv-loop μ-loop
 unfolding equalTo
 returns-2 c = scan-passed (c .before .loop .inv .2) (omega arith)

@@ -15,27 +15,21 @@ Inv-loop from w f i₀ i = (w ≤ 11) × Scan (filledAt f) (filledFrom w f from)
 abbrev μ-loop : tie.MeasureT-loop
 μ-loop from w f i₀ i = w - i
 
--- src/word.rt:17:5
 loop-holds : tie.Need-loop-holds Inv-loop μ-loop
 loop-holds c = (c .pre .1, scan-upto _ (c .pre .0))
 
--- src/word.rt:18:12
 array-read-if1 : tie.Need-array-read-if1 Inv-loop μ-loop
 array-read-if1 c = search needs
 
--- src/word.rt:19:13
 returns : tie.Need-returns Inv-loop μ-loop
 returns c = (scan-found (c .before .before .loop .inv .1) (omega arith) (rw (ne-eqb _ _ (c .if1 .taken))), omega arith)
 
--- src/word.rt:21:9
 add-i : tie.Need-add-i Inv-loop μ-loop
 add-i c = search needs
 
--- src/word.rt:17:5
 loop-less : tie.Need-loop-less Inv-loop μ-loop
 loop-less c = search needs
 
--- src/word.rt:17:5
 loop-again : tie.Need-loop-again Inv-loop μ-loop
 loop-again c = (
   c .before .before .loop .inv .0,
@@ -43,7 +37,6 @@ loop-again c = (
       (rw (eq-eqb _ _ (c .if1 .left))),
 )
 
--- src/word.rt:10:1
 returns-2 : tie.Need-returns-2 Inv-loop μ-loop
 returns-2 c = (scan-done (c .before .loop .inv .1) (omega arith), omega arith)
 

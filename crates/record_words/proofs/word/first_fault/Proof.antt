@@ -17,43 +17,34 @@ Inv-loop what used fields k₀ k = Scan (inField (faultIn what used) fields) (fi
 abbrev μ-loop : tie.MeasureT-loop
 μ-loop what used fields k₀ k = 6 - k
 
--- src/word.rt:185:5
 loop-holds : tie.Need-loop-holds Inv-loop μ-loop
 loop-holds c = scan-all 6
 
--- src/word.rt:186:17
 mul-f : tie.Need-mul-f Inv-loop μ-loop
 mul-f c = search needs
 
--- src/word.rt:186:17
 array-copy-out-f : tie.Need-array-copy-out-f Inv-loop μ-loop
 array-copy-out-f c = search needs
 
--- src/word.rt:187:12
 is-fault-requires : tie.Need-is-fault-requires Inv-loop μ-loop
 is-fault-requires c κs = search needs
 
--- src/word.rt:188:13
 returns : tie.Need-returns Inv-loop μ-loop
 returns c =
     scan-found (c .before .before .before .before .loop .inv) (omega arith)
     (sym (c .before .is-fault .ensures) ∙ c .if1 .taken)
 
--- src/word.rt:190:9
 add-k : tie.Need-add-k Inv-loop μ-loop
 add-k c = search needs
 
--- src/word.rt:185:5
 loop-less : tie.Need-loop-less Inv-loop μ-loop
 loop-less c = search needs
 
--- src/word.rt:185:5
 loop-again : tie.Need-loop-again Inv-loop μ-loop
 loop-again c =
     scan-next (c .before .before .before .before .loop .inv) (omega arith)
     (sym (c .before .is-fault .ensures) ∙ c .if1 .left)
 
--- src/word.rt:181:1
 returns-2 : tie.Need-returns-2 Inv-loop μ-loop
 returns-2 c = scan-done (c .before .loop .inv) (omega arith)
 

@@ -8,28 +8,22 @@ use Rattle.record_words.proofs.word.is_heading_fault.Reads as is-headin
 use Rattle.record_words.proofs.word.is_pointer_fault.Reads as is-pointer-fault-reads
 use Rattle.record_words.proofs.word.is_unit_fault.Reads as is-unit-fault-reads
 
--- src/word.rt:227:9
 is-pointer-fault-requires : tie.Need-is-pointer-fault-requires
 is-pointer-fault-requires c κs = search needs
 
--- src/word.rt:227:9
 returns : tie.Need-returns
 returns c = rw (eq-eqb _ _ (c .before .if1 .taken)) (c .is-pointer-fault .ensures)
 
--- src/word.rt:230:9
 is-heading-fault-requires : tie.Need-is-heading-fault-requires
 is-heading-fault-requires c κs = search needs
 
--- src/word.rt:230:9
 returns-2 : tie.Need-returns-2
 returns-2 c =
     rw (ne-eqb _ _ (c .before .before .if1 .left), eq-eqb _ _ (c .before .if2 .taken)) (c .is-heading-fault .ensures)
 
--- src/word.rt:232:5
 is-unit-fault-requires : tie.Need-is-unit-fault-requires
 is-unit-fault-requires c κs = search needs
 
--- src/word.rt:223:1
 returns-3 : tie.Need-returns-3
 returns-3 c =
     rw (ne-eqb _ _ (c .before .before .if1 .left), ne-eqb _ _ (c .before .if2 .left)) (c .is-unit-fault .ensures)

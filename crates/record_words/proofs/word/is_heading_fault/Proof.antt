@@ -8,20 +8,16 @@ use Rattle.record_words.proofs.word.is_heading_fault.Lts as lts
 use Rattle.record_words.proofs.word.is_blank.Reads as is-blank-reads
 use Rattle.record_words.proofs.word.is_word.Reads as is-word-reads
 
--- src/word.rt:165:17
 is-word-requires : tie.Need-is-word-requires
 is-word-requires c κs = search needs
 
--- src/word.rt:165:9
 returns : tie.Need-returns
 unfolding headingFault
 returns c = rw (lt-ltb _ _ (c .before .if1 .taken), ← c .is-word .ensures)
 
--- src/word.rt:167:6
 is-blank-requires : tie.Need-is-blank-requires
 is-blank-requires c κs = search needs
 
--- src/word.rt:161:1
 returns-2 : tie.Need-returns-2
 unfolding headingFault
 returns-2 c = rw (le-ltb _ _ (c .before .if1 .left), ← c .is-blank .ensures)

@@ -8,21 +8,17 @@ use Rattle.record_words.proofs.word.is_pointer.Reads as reads
 use Rattle.record_words.proofs.word.is_pointer.Lts as lts
 use Rattle.record_words.proofs.word.is_from.Reads as is-from-reads
 
--- src/word.rt:123:8
 is-from-requires : tie.Need-is-from-requires
 is-from-requires c κs = search needs
 
--- src/word.rt:124:9
 returns : tie.Need-returns
 returns c =
     let e : isFrom "1" "9" (c .before .before .args .b) ≡ true = sym (c .before .is-from .ensures) ∙ c .if1 .taken in
     rw e
 
--- src/word.rt:126:5
 is-from-requires-2 : tie.Need-is-from-requires-2
 is-from-requires-2 c κs = search needs
 
--- src/word.rt:120:1
 returns-2 : tie.Need-returns-2
 returns-2 c = rw (← c .before .before .is-from .ensures, c .before .if1 .left) (c .is-from2 .ensures)
 

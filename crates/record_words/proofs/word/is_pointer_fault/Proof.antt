@@ -7,16 +7,13 @@ use Rattle.record_words.proofs.word.is_pointer_fault.Reads as reads
 use Rattle.record_words.proofs.word.is_pointer_fault.Lts as lts
 use Rattle.record_words.proofs.word.bad_pointer.Reads as bad-pointer-reads
 
--- src/word.rt:155:9
 bad-pointer-requires : tie.Need-bad-pointer-requires
 bad-pointer-requires c κs = search needs
 
--- src/word.rt:155:9
 returns : tie.Need-returns
 unfolding pointerFault
 returns c = rw (lt-ltb _ _ (c .before .if1 .taken)) (c .bad-pointer .ensures)
 
--- src/word.rt:151:1
 returns-2 : tie.Need-returns-2
 unfolding pointerFault
 returns-2 c = rw (le-ltb _ _ (c .if1 .left))

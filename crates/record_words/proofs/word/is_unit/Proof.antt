@@ -7,20 +7,16 @@ use Rattle.record_words.proofs.word.is_unit.Reads as reads
 use Rattle.record_words.proofs.word.is_unit.Lts as lts
 use Rattle.record_words.proofs.word.is_word.Reads as is-word-reads
 
--- src/word.rt:144:9
 is-word-requires : tie.Need-is-word-requires
 is-word-requires c κs = search needs
 
--- src/word.rt:145:9
 returns : tie.Need-returns
 unfolding isUnitWord
 returns c = rw (← c .before .is-word .ensures, not-true (c .before .is-word .result) (c .if1 .taken))
 
--- src/word.rt:147:5
 array-read-result : tie.Need-array-read-result
 array-read-result c = search needs
 
--- src/word.rt:141:1
 returns-2 : tie.Need-returns-2
 unfolding isUnitWord
 returns-2 c = rw (← c .before .is-word .ensures, not-false (c .before .is-word .result) (c .if1 .left))

@@ -8,20 +8,16 @@ use Rattle.record_words.proofs.word.is_unit_fault.Lts as lts
 use Rattle.record_words.proofs.word.is_blank.Reads as is-blank-reads
 use Rattle.record_words.proofs.word.is_unit.Reads as is-unit-reads
 
--- src/word.rt:175:17
 is-unit-requires : tie.Need-is-unit-requires
 is-unit-requires c κs = search needs
 
--- src/word.rt:175:9
 returns : tie.Need-returns
 unfolding unitFault
 returns c = rw (lt-ltb _ _ (c .before .if1 .taken), ← c .is-unit .ensures)
 
--- src/word.rt:177:6
 is-blank-requires : tie.Need-is-blank-requires
 is-blank-requires c κs = search needs
 
--- src/word.rt:171:1
 returns-2 : tie.Need-returns-2
 unfolding unitFault
 returns-2 c = rw (le-ltb _ _ (c .before .if1 .left), ← c .is-blank .ensures)

@@ -4,11 +4,9 @@ use Rattle.record_words.proofs.word.is_within.Tie as tie
 use Rattle.record_words.proofs.word.is_within.Reads as reads
 use Rattle.record_words.proofs.word.is_within.Lts as lts
 
--- src/word.rt:114:9
 returns : tie.Need-returns
 returns c = rw (le-leb _ _ (c .if1 .taken))
 
--- src/word.rt:110:1
 returns-2 : tie.Need-returns-2
 returns-2 c = rw (lt-leb _ _ (c .if1 .left))
 

@@ -11,20 +11,16 @@ use Rattle.record_words.proofs.word.is_word.Lts as lts
 use Rattle.record_words.proofs.word.filled_from.Reads as filled-from-reads
 use Rattle.record_words.proofs.word.word_end.Reads as word-end-reads
 
--- src/word.rt:97:9
 word-end-requires : tie.Need-word-end-requires
 word-end-requires c κs = search needs
 
--- src/word.rt:99:9
 returns : tie.Need-returns
 unfolding isWord
 returns c = rw (← c .before .word-end .ensures .0, eq-eqb _ _ (c .if1 .taken))
 
--- src/word.rt:101:5
 filled-from-requires : tie.Need-filled-from-requires
 filled-from-requires c κs = search needs
 
--- src/word.rt:94:1
 returns-2 : tie.Need-returns-2
 unfolding isWord
 returns-2 c =

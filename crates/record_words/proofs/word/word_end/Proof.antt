@@ -15,31 +15,24 @@ Inv-loop f i₀ i = Scan (blankAt f) (wordEnd 10 f) i 10
 abbrev μ-loop : tie.MeasureT-loop
 μ-loop f i₀ i = 10 - i
 
--- src/word.rt:74:5
 loop-holds : tie.Need-loop-holds Inv-loop μ-loop
 loop-holds c = scan-all 10
 
--- src/word.rt:75:12
 array-read-if1 : tie.Need-array-read-if1 Inv-loop μ-loop
 array-read-if1 c = search needs
 
--- src/word.rt:76:13
 returns : tie.Need-returns Inv-loop μ-loop
 returns c = (scan-found (c .before .before .loop .inv) (omega arith) (eq-eqb _ _ (c .if1 .taken)), omega arith)
 
--- src/word.rt:78:9
 add-i : tie.Need-add-i Inv-loop μ-loop
 add-i c = search needs
 
--- src/word.rt:74:5
 loop-less : tie.Need-loop-less Inv-loop μ-loop
 loop-less c = search needs
 
--- src/word.rt:74:5
 loop-again : tie.Need-loop-again Inv-loop μ-loop
 loop-again c = scan-next (c .before .before .loop .inv) (omega arith) (ne-eqb _ _ (c .if1 .left))
 
--- src/word.rt:69:1
 returns-2 : tie.Need-returns-2 Inv-loop μ-loop
 returns-2 c = (scan-done (c .before .loop .inv) (omega arith), omega arith)
 

@@ -1,4 +1,6 @@
-use Rattle.rules_state.specs.Fault.{firstFault}
+use mathlib.Core.Path.{refl}
+use Rattle.laws.proofs.Promise.{said-too}
+use Rattle.rules_roles.specs.Fault.{faultAnswer, firstFault}
 use Rattle.rules.specs.Order.{faultOf}
 use borrow.Author.Tests.{eq-eqb, ne-eqb}
 use Rattle.rules.proofs.order.fault.Statement.{statement}
@@ -9,33 +11,28 @@ use Rattle.rules_every.proofs.every.rule2.Reads as rule2-reads
 use Rattle.rules_every.proofs.every.rule3.Reads as rule3-reads
 use Rattle.rules.proofs.order.record_fault.Reads as record-fault-reads
 
--- src/order.rt:130:13
 rule2-requires : tie.Need-rule2-requires
 rule2-requires c κs = c .before .before .pre .1 .1 .1 .whole
 
--- src/order.rt:132:13
 returns : tie.Need-returns
 unfolding faultOf firstFault
-returns c = rw (← c .before .rule2 .ensures, ne-eqb _ _ (c .if1 .taken))
+returns c = said-too faultAnswer (rw (← c .before .rule2 .ensures, ne-eqb _ _ (c .if1 .taken)) refl)
 
--- src/order.rt:134:13
 rule3-requires : tie.Need-rule3-requires
 rule3-requires c κs =
     (c .before .before .before .before .pre .0, c .before .before .before .before .pre .1 .1 .1 .whole)
 
--- src/order.rt:136:13
 returns-2 : tie.Need-returns-2
 unfolding faultOf firstFault
 returns-2 c =
-    rw (
+    said-too faultAnswer (rw (
       ← c .before .before .before .rule2 .ensures,
       eq-eqb _ _
           (c .before .before .if1 .left),
       ← c .before .rule3 .ensures,
       ne-eqb _ _ (c .if2 .taken),
-    )
+    ) refl)
 
--- src/order.rt:138:9
 record-fault-requires : tie.Need-record-fault-requires
 record-fault-requires c κs = (
   c .before .before .before .before .before .before .pre .1 .0,
@@ -45,18 +42,17 @@ record-fault-requires c κs = (
   ),
 )
 
--- src/order.rt:111:5
 returns-3 : tie.Need-returns-3
 unfolding faultOf firstFault
 returns-3 c =
-    rw (
+    said-too faultAnswer (rw (
       ← c .before .before .before .before .rule2 .ensures,
       eq-eqb _ _
           (c .before .before .before .if1 .left),
       ← c .before .before .rule3 .ensures,
       eq-eqb _ _ (c .before .if2 .left),
     )
-    (c .record-fault .ensures)
+    (c .record-fault .ensures))
 
 pub fault-spec : {M : Type 1} → statement M
 fault-spec =

@@ -1,4 +1,4 @@
-use Rattle.rules_state.specs.Fault.{firstFault}
+use Rattle.rules_roles.specs.Fault.{firstFault}
 use borrow.Author.Tests.{eq-eqb, ne-eqb}
 use borrow.Author.Needs.{needs}
 use Rattle.rules.proofs.order.record_fault.Statement.{statement}
@@ -8,25 +8,21 @@ use Rattle.rules.proofs.order.record_fault.Lts as lts
 use Rattle.rules_every.proofs.every.rule4.Reads as rule4-reads
 use Rattle.rules_every.proofs.every.rule5.Reads as rule5-reads
 use Rattle.rules_every.proofs.every.rule6.Reads as rule6-reads
-use Rattle.rules_system.proofs.system.rule8.Reads as rule8-reads
+use Rattle.rules_counts.proofs.counts.rule8.Reads as rule8-reads
 use Rattle.rules_system.proofs.system.rule9.Reads as rule9-reads
 use Rattle.rules.proofs.order.section_fault.Reads as section-fault-reads
 use Rattle.rules_system.proofs.system.rule7.Reads as rule7-reads
 
--- src/order.rt:83:13
 rule4-requires : tie.Need-rule4-requires
 rule4-requires c κs = search needs
 
--- src/order.rt:85:13
 returns : tie.Need-returns
 unfolding firstFault
 returns c = rw (← c .before .rule4 .ensures, ne-eqb _ _ (c .if1 .taken))
 
--- src/order.rt:87:13
 rule5-requires : tie.Need-rule5-requires
 rule5-requires c κs = c .before .before .before .before .pre .1 .1 .whole
 
--- src/order.rt:89:13
 returns-2 : tie.Need-returns-2
 unfolding firstFault
 returns-2 c =
@@ -38,14 +34,12 @@ returns-2 c =
       ne-eqb _ _ (c .if2 .taken),
     )
 
--- src/order.rt:91:13
 rule6-requires : tie.Need-rule6-requires
 rule6-requires c κs = (
   c .before .before .before .before .before .before .pre .1 .1 .whole,
   c .before .before .before .before .before .before .pre .1 .1 .stands .bounded,
 )
 
--- src/order.rt:93:13
 returns-3 : tie.Need-returns-3
 unfolding firstFault
 returns-3 c =
@@ -60,11 +54,9 @@ returns-3 c =
       ne-eqb _ _ (c .if3 .taken),
     )
 
--- src/order.rt:95:13
 rule7-requires : tie.Need-rule7-requires
 rule7-requires c κs = c .before .before .before .before .before .before .before .before .pre .0
 
--- src/order.rt:97:13
 returns-4 : tie.Need-returns-4
 unfolding firstFault
 returns-4 c =
@@ -82,11 +74,9 @@ returns-4 c =
       ne-eqb _ _ (c .if4 .taken),
     )
 
--- src/order.rt:99:13
 rule8-requires : tie.Need-rule8-requires
 rule8-requires c κs = c .before .before .before .before .before .before .before .before .before .before .pre .0
 
--- src/order.rt:101:13
 returns-5 : tie.Need-returns-5
 unfolding firstFault
 returns-5 c =
@@ -107,11 +97,9 @@ returns-5 c =
       ne-eqb _ _ (c .if5 .taken),
     )
 
--- src/order.rt:103:13
 rule9-requires : tie.Need-rule9-requires
 rule9-requires c κs = search needs
 
--- src/order.rt:105:13
 returns-6 : tie.Need-returns-6
 unfolding firstFault
 returns-6 c =
@@ -134,7 +122,6 @@ returns-6 c =
       ne-eqb _ _ (c .if6 .taken),
     )
 
--- src/order.rt:107:9
 section-fault-requires : tie.Need-section-fault-requires
 section-fault-requires c κs = (
   c .before .before .before .before .before .before .before .before .before .before .before .before .before .before
@@ -143,7 +130,6 @@ section-fault-requires c κs = (
       .pre .1 .1,
 )
 
--- src/order.rt:66:5
 returns-7 : tie.Need-returns-7
 unfolding firstFault
 returns-7 c =

@@ -7,19 +7,15 @@ use Rattle.rules.proofs.order.rule11.Lts as lts
 use Rattle.rules_text.proofs.text.rule11_text.Reads as rule11-text-reads
 use Rattle.rules_section.proofs.headings.rule11_heading.Reads as rule11-heading-reads
 
--- src/order.rt:48:16
 rule11-text-requires : tie.Need-rule11-text-requires
 rule11-text-requires c κs = search needs
 
--- src/order.rt:48:9
 returns : tie.Need-returns
 returns c = rw (eq-eqb _ _ (c .before .if1 .taken)) (c .rule11-text .ensures)
 
--- src/order.rt:50:5
 rule11-heading-requires : tie.Need-rule11-heading-requires
 rule11-heading-requires c κs = search needs
 
--- src/order.rt:50:5
 returns-2 : tie.Need-returns-2
 returns-2 c = rw (ne-eqb _ _ (c .before .if1 .left)) (c .rule11-heading .ensures)
 

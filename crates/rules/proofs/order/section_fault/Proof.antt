@@ -1,4 +1,5 @@
-use Rattle.rules_state.specs.Fault.{firstFault}
+use mathlib.Core.Path.{refl}
+use Rattle.rules_roles.specs.Fault.{firstFault}
 use borrow.Author.Tests.{eq-eqb, ne-eqb}
 use borrow.Author.Needs.{needs}
 use Rattle.rules.proofs.order.section_fault.Statement.{statement}
@@ -9,23 +10,19 @@ use Rattle.rules_text.proofs.text.rule10.Reads as rule10-reads
 use Rattle.rules.proofs.order.rule11.Reads as rule11-reads
 use Rattle.rules_section.proofs.headings.rule12.Reads as rule12-reads
 use Rattle.rules_section.proofs.headings.rule13.Reads as rule13-reads
-use Rattle.rules_section.proofs.headings.rule14.Reads as rule14-reads
-use Rattle.rules_section.proofs.values.rule15.Reads as rule15-reads
+use Rattle.rules_pointers.proofs.pointers.rule14.Reads as rule14-reads
+use Rattle.rules_values.proofs.values.rule15.Reads as rule15-reads
 
--- src/order.rt:38:13
 rule10-requires : tie.Need-rule10-requires
 rule10-requires c κs = c .before .before .pre .1 .stands
 
--- src/order.rt:40:13
 returns : tie.Need-returns
 unfolding firstFault
 returns c = rw (← c .before .rule10 .ensures, ne-eqb _ _ (c .if1 .taken))
 
--- src/order.rt:42:13
 rule11-requires : tie.Need-rule11-requires
 rule11-requires c κs = c .before .before .before .before .pre .1 .stands
 
--- src/order.rt:44:13
 returns-2 : tie.Need-returns-2
 unfolding firstFault
 returns-2 c =
@@ -36,12 +33,11 @@ returns-2 c =
       ← c .before .rule11 .ensures,
       ne-eqb _ _ (c .if2 .taken),
     )
+    refl
 
--- src/order.rt:46:13
 rule12-requires : tie.Need-rule12-requires
 rule12-requires c κs = search needs
 
--- src/order.rt:48:13
 returns-3 : tie.Need-returns-3
 unfolding firstFault
 returns-3 c =
@@ -56,14 +52,12 @@ returns-3 c =
       ne-eqb _ _ (c .if3 .taken),
     )
 
--- src/order.rt:50:13
 rule13-requires : tie.Need-rule13-requires
 rule13-requires c κs = (
   c .before .before .before .before .before .before .before .before .pre .1 .stands,
   c .before .before .before .before .before .before .before .before .pre .1 .whole,
 )
 
--- src/order.rt:52:13
 returns-4 : tie.Need-returns-4
 unfolding firstFault
 returns-4 c =
@@ -81,11 +75,9 @@ returns-4 c =
       ne-eqb _ _ (c .if4 .taken),
     )
 
--- src/order.rt:54:13
 rule14-requires : tie.Need-rule14-requires
 rule14-requires c κs = c .before .before .before .before .before .before .before .before .before .before .pre .1 .stands
 
--- src/order.rt:56:13
 returns-5 : tie.Need-returns-5
 unfolding firstFault
 returns-5 c =
@@ -106,14 +98,12 @@ returns-5 c =
       ne-eqb _ _ (c .if5 .taken),
     )
 
--- src/order.rt:58:13
 rule15-requires : tie.Need-rule15-requires
 rule15-requires c κs = (
   c .before .before .before .before .before .before .before .before .before .before .before .before .pre .0,
   c .before .before .before .before .before .before .before .before .before .before .before .before .pre .1 .read,
 )
 
--- src/order.rt:60:13
 returns-6 : tie.Need-returns-6
 unfolding firstFault
 returns-6 c =
@@ -136,7 +126,6 @@ returns-6 c =
       ne-eqb _ _ (c .if6 .taken),
     )
 
--- src/order.rt:23:5
 returns-7 : tie.Need-returns-7
 unfolding firstFault
 returns-7 c =

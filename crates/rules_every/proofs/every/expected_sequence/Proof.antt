@@ -5,23 +5,19 @@ use Rattle.rules_every.proofs.every.expected_sequence.Statement.{statem
 use Rattle.rules_every.proofs.every.expected_sequence.Tie as tie
 use Rattle.rules_every.proofs.every.expected_sequence.Reads as reads
 use Rattle.rules_every.proofs.every.expected_sequence.Lts as lts
-use Rattle.rules_state.proofs.role.opens_subentry.Reads as opens-subentry-reads
+use Rattle.rules_roles.proofs.roles.opens_subentry.Reads as opens-subentry-reads
 
--- src/every.rt:98:13
 returns : tie.Need-returns
 unfolding expectedSequence
 returns c = rw (eq-eqb _ _ (c .if1 .taken))
 
--- src/every.rt:100:12
 opens-subentry-requires : tie.Need-opens-subentry-requires
 opens-subentry-requires c κs = search needs
 
--- src/every.rt:101:13
 returns-2 : tie.Need-returns-2
 unfolding expectedSequence
 returns-2 c = rw (ne-eqb _ _ (c .before .before .if1 .left), ← c .before .opens-subentry .ensures, c .if2 .taken)
 
--- src/every.rt:104:13
 returns-3 : tie.Need-returns-3
 unfolding expectedSequence
 returns-3 c =
@@ -32,7 +28,6 @@ returns-3 c =
       eq-eqb _ _ (c .if3 .taken),
     )
 
--- src/every.rt:107:13
 returns-4 : tie.Need-returns-4
 unfolding expectedSequence
 returns-4 c =
@@ -44,11 +39,9 @@ returns-4 c =
       eq-eqb _ _ (c .if4 .taken),
     )
 
--- src/every.rt:110:9
 add-result : tie.Need-add-result
 add-result c = search needs
 
--- src/every.rt:93:5
 returns-5 : tie.Need-returns-5
 unfolding expectedSequence
 returns-5 c =

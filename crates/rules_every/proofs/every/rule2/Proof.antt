@@ -1,3 +1,4 @@
+use mathlib.Core.Path.{refl}
 use Rattle.rules_every.specs.Every.{rule2}
 use borrow.Author.Needs.{needs}
 use Rattle.rules_every.proofs.every.rule2.Statement.{statement}
@@ -6,19 +7,16 @@ use Rattle.rules_every.proofs.every.rule2.Reads as reads
 use Rattle.rules_every.proofs.every.rule2.Lts as lts
 use Rattle.columns.proofs.columns.has_line_feed.Reads as has-line-feed-reads
 
--- src/every.rt:31:8
 has-line-feed-requires : tie.Need-has-line-feed-requires
 has-line-feed-requires c κs = search needs
 
--- src/every.rt:32:9
 returns : tie.Need-returns
 unfolding rule2
 returns c = rw (← c .before .has-line-feed .ensures, c .if1 .taken)
 
--- src/every.rt:27:1
 returns-2 : tie.Need-returns-2
 unfolding rule2
-returns-2 c = rw (← c .before .has-line-feed .ensures, c .if1 .left)
+returns-2 c = rw (← c .before .has-line-feed .ensures, c .if1 .left) refl
 
 pub rule2-spec : {M : Type 1} → statement M
 rule2-spec = tie.close (tie.spec has-line-feed-requires returns returns-2)

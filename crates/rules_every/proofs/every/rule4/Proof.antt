@@ -5,12 +5,10 @@ use Rattle.rules_every.proofs.every.rule4.Tie as tie
 use Rattle.rules_every.proofs.every.rule4.Reads as reads
 use Rattle.rules_every.proofs.every.rule4.Lts as lts
 
--- src/every.rt:54:9
 returns : tie.Need-returns
 unfolding rule4
 returns c = rw (eq-eqb _ _ (c .if1 .taken))
 
--- src/every.rt:50:1
 returns-2 : tie.Need-returns-2
 unfolding rule4
 returns-2 c = rw (ne-eqb _ _ (c .if1 .left))

@@ -4,23 +4,19 @@ use Rattle.rules_every.proofs.every.rule5.Statement.{statement}
 use Rattle.rules_every.proofs.every.rule5.Tie as tie
 use Rattle.rules_every.proofs.every.rule5.Reads as reads
 use Rattle.rules_every.proofs.every.rule5.Lts as lts
-use Rattle.record.proofs.expected.identification.Reads as identification-reads
-use Rattle.record.proofs.expected.same_identification.Reads as same-identification-reads
+use Rattle.record_expected.proofs.expected.identification.Reads as identification-reads
+use Rattle.record_expected.proofs.expected.same_identification.Reads as same-identification-reads
 use Rattle.rules_every.proofs.every.expected_identification.Reads as expected-identification-reads
 
--- src/every.rt:84:13
 identification-requires : tie.Need-identification-requires
 identification-requires c κs = search needs
 
--- src/every.rt:85:13
 expected-identification-requires : tie.Need-expected-identification-requires
 expected-identification-requires c κs = search needs
 
--- src/every.rt:86:12
 same-identification-requires : tie.Need-same-identification-requires
 same-identification-requires c κs = search needs
 
--- src/every.rt:87:13
 returns : tie.Need-returns
 unfolding rule5
 returns c =
@@ -31,7 +27,6 @@ returns c =
       c .if1 .taken,
     )
 
--- src/every.rt:80:5
 returns-2 : tie.Need-returns-2
 unfolding rule5
 returns-2 c =

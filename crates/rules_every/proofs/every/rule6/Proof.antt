@@ -4,28 +4,23 @@ use Rattle.rules_every.proofs.every.rule6.Statement.{statement}
 use Rattle.rules_every.proofs.every.rule6.Tie as tie
 use Rattle.rules_every.proofs.every.rule6.Reads as reads
 use Rattle.rules_every.proofs.every.rule6.Lts as lts
-use Rattle.record.proofs.expected.five_digits.Reads as five-digits-reads
-use Rattle.record.proofs.expected.same_five.Reads as same-five-reads
-use Rattle.record.proofs.expected.sequence.Reads as sequence-reads
+use Rattle.record_expected.proofs.expected.five_digits.Reads as five-digits-reads
+use Rattle.record_expected.proofs.expected.same_five.Reads as same-five-reads
+use Rattle.record_expected.proofs.expected.sequence.Reads as sequence-reads
 use Rattle.rules_every.proofs.every.expected_sequence.Reads as expected-sequence-reads
 
--- src/every.rt:118:13
 sequence-requires : tie.Need-sequence-requires
 sequence-requires c κs = search needs
 
--- src/every.rt:119:31
 expected-sequence-requires : tie.Need-expected-sequence-requires
 expected-sequence-requires c κs = search needs
 
--- src/every.rt:119:13
 five-digits-requires : tie.Need-five-digits-requires
 five-digits-requires c κs = search needs
 
--- src/every.rt:120:12
 same-five-requires : tie.Need-same-five-requires
 same-five-requires c κs = search needs
 
--- src/every.rt:121:13
 returns : tie.Need-returns
 unfolding rule6
 returns c =
@@ -37,7 +32,6 @@ returns c =
       c .if1 .taken,
     )
 
--- src/every.rt:113:5
 returns-2 : tie.Need-returns-2
 unfolding rule6
 returns-2 c =

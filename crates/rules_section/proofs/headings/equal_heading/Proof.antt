@@ -34,63 +34,49 @@ Inv-sections common001 common table here left f before found₀ s₀ found s =
 abbrev μ-sections : tie.MeasureT-sections
 μ-sections common001 common table here left f before found₀ s₀ found s = 4 - s
 
--- src/headings.rt:130:9
 headings-in-requires : tie.Need-headings-in-requires Inv-loop μ-loop Inv-sections μ-sections
 headings-in-requires c κs = search needs
 
--- src/headings.rt:133:5
 sections-holds : tie.Need-sections-holds Inv-loop μ-loop Inv-sections μ-sections
 unfolding equalHeading
 sections-holds c = (refl, run-all 4)
 
--- src/headings.rt:134:13
 part-of-requires : tie.Need-part-of-requires Inv-loop μ-loop Inv-sections μ-sections
 part-of-requires c κs = search needs
 
--- src/headings.rt:135:13
 headings-of-requires : tie.Need-headings-of-requires Inv-loop μ-loop Inv-sections μ-sections
 headings-of-requires c κs =
     left-fits _ _ _ _ _ _ _ (c .part-of .ensures)
     (c .before .before .before .before .before .before .before .before .pre .0 .long)
     (c .before .before .before .before .before .before .before .before .pre .1)
 
--- src/headings.rt:137:9
 loop-holds : tie.Need-loop-holds Inv-loop μ-loop Inv-sections μ-sections
 loop-holds c = (c .before .before .before .sections .inv .0, scan-all _)
 
--- src/headings.rt:138:22
 mul-at : tie.Need-mul-at Inv-loop μ-loop Inv-sections μ-sections
 mul-at c = search needs
 
--- src/headings.rt:138:35
 mul-at-2 : tie.Need-mul-at-2 Inv-loop μ-loop Inv-sections μ-sections
 mul-at-2 c = search needs
 
--- src/headings.rt:138:22
 add-at : tie.Need-add-at Inv-loop μ-loop Inv-sections μ-sections
 add-at c = search needs
 
--- src/headings.rt:139:17
 field-requires : tie.Need-field-requires Inv-loop μ-loop Inv-sections μ-sections
 field-requires c κs = search needs
 
--- src/headings.rt:140:16
 same-heading-requires : tie.Need-same-heading-requires Inv-loop μ-loop Inv-sections μ-sections
 same-heading-requires c κs = search needs
 
--- src/headings.rt:141:17
 place-of-requires : tie.Need-place-of-requires Inv-loop μ-loop Inv-sections μ-sections
 place-of-requires c κs = search needs
 
--- src/headings.rt:144:13
 add-m : tie.Need-add-m Inv-loop μ-loop Inv-sections μ-sections
 add-m c = search needs
 
--- src/headings.rt:137:9
 loop-less : tie.Need-loop-less Inv-loop μ-loop Inv-sections μ-sections
 loop-less c = search needs
 
--- src/headings.rt:137:9
 loop-again : tie.Need-loop-again Inv-loop μ-loop Inv-sections μ-sections
 loop-again c = (
   c .before .before .before .before .loop .inv .0,
@@ -98,15 +84,12 @@ loop-again c = (
       (omega arith) (rw (← c .before .before .field .ensures) (sym (c .before .same-heading .ensures) ∙ c .if1 .left)),
 )
 
--- src/headings.rt:146:9
 add-s : tie.Need-add-s Inv-loop μ-loop Inv-sections μ-sections
 add-s c = search needs
 
--- src/headings.rt:133:5
 sections-less : tie.Need-sections-less Inv-loop μ-loop Inv-sections μ-sections
 sections-less c = search needs
 
--- src/headings.rt:133:5
 sections-again : tie.Need-sections-again Inv-loop μ-loop Inv-sections μ-sections
 sections-again c = (
   c .before .loop .inv .0,
@@ -121,11 +104,9 @@ sections-again c = (
       )),
 )
 
--- src/headings.rt:118:1
 returns : tie.Need-returns Inv-loop μ-loop Inv-sections μ-sections
 returns c = rw (c .before .sections .inv .0) (run-done (c .before .sections .inv .1) (omega arith))
 
--- src/headings.rt:118:1
 returns-2 : tie.Need-returns-2 Inv-loop μ-loop Inv-sections μ-sections
 returns-2 c =
     let w = scan-found (c .before .before .before .before .before .loop .inv .1) (omega arith)

@@ -7,11 +7,9 @@ use Rattle.rules_section.proofs.headings.headings_of.Reads as reads
 use Rattle.rules_section.proofs.headings.headings_of.Lts as lts
 use Rattle.rules_section.proofs.headings.headings_in.Reads as headings-in-reads
 
--- src/headings.rt:96:9
 headings-in-requires : tie.Need-headings-in-requires
 headings-in-requires c κs = search needs
 
--- src/headings.rt:98:9
 returns : tie.Need-returns
 returns c =
     let h = c .before .before .before .pre .few (c .if1 .taken) in
@@ -19,7 +17,6 @@ returns c =
     let f = c .before .headings-in .ensures .1 in
     (rw (eq-eqb _ _ (c .if1 .taken)), (h, omega arith))
 
--- src/headings.rt:90:1
 returns-2 : tie.Need-returns-2
 returns-2 c =
     let e = c .before .headings-in .ensures .0 in (

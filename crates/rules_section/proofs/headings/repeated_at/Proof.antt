@@ -20,41 +20,32 @@ Inv-loop common001 common table here n fs k₀ k =
 abbrev μ-loop : tie.MeasureT-loop
 μ-loop common001 common table here n fs k₀ k = n - k
 
--- src/headings.rt:174:5
 loop-holds : tie.Need-loop-holds Inv-loop μ-loop
 loop-holds c = (c .before .before .before .before .pre .1, scan-all _)
 
--- src/headings.rt:175:17
 mul-f : tie.Need-mul-f Inv-loop μ-loop
 mul-f c = search needs
 
--- src/headings.rt:175:17
 array-copy-out-f : tie.Need-array-copy-out-f Inv-loop μ-loop
 array-copy-out-f c = search needs
 
--- src/headings.rt:176:13
 equal-heading-requires : tie.Need-equal-heading-requires Inv-loop μ-loop
 equal-heading-requires c κs = (c .before .before .before .before .before .before .before .pre .0, omega arith)
 
--- src/headings.rt:177:12
 is-found-requires : tie.Need-is-found-requires Inv-loop μ-loop
 is-found-requires c κs = search needs
 
--- src/headings.rt:178:13
 returns : tie.Need-returns Inv-loop μ-loop
 returns c =
     scan-found (c .before .before .before .before .before .loop .inv .1) (omega arith)
     (rw (← c .before .before .equal-heading .ensures) (sym (c .before .is-found .ensures) ∙ c .if1 .taken))
 
--- src/headings.rt:180:9
 add-k : tie.Need-add-k Inv-loop μ-loop
 add-k c = search needs
 
--- src/headings.rt:174:5
 loop-less : tie.Need-loop-less Inv-loop μ-loop
 loop-less c = search needs
 
--- src/headings.rt:174:5
 loop-again : tie.Need-loop-again Inv-loop μ-loop
 loop-again c = (
   c .before .before .before .before .before .loop .inv .0,
@@ -62,7 +53,6 @@ loop-again c = (
       (rw (← c .before .before .equal-heading .ensures) (sym (c .before .is-found .ensures) ∙ c .if1 .left)),
 )
 
--- src/headings.rt:161:1
 returns-2 : tie.Need-returns-2 Inv-loop μ-loop
 returns-2 c = scan-done (c .before .loop .inv .1) (omega arith)
 

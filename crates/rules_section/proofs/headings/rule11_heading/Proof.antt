@@ -1,4 +1,4 @@
-use Rattle.rules_state.proofs.Leftmost.{leftmost-where}
+use Rattle.rules_roles.proofs.Leftmost.{leftmost-where}
 use Rattle.rules_section.specs.Headings.{rule11Heading}
 use borrow.Author.Tests.{not-false, not-true}
 use borrow.Author.Needs.{needs}
@@ -7,15 +7,13 @@ use Rattle.rules_section.proofs.headings.rule11_heading.Tie as tie
 use Rattle.rules_section.proofs.headings.rule11_heading.Reads as reads
 use Rattle.rules_section.proofs.headings.rule11_heading.Lts as lts
 use Rattle.record_words.proofs.word.pointer_fault.Reads as pointer-fault-reads
-use Rattle.rules_state.proofs.fault.pointer_column.Reads as pointer-column-reads
-use Rattle.rules_state.proofs.role.is_heading.Reads as is-heading-reads
+use Rattle.rules_roles.proofs.fault.pointer_column.Reads as pointer-column-reads
+use Rattle.rules_roles.proofs.roles.is_heading.Reads as is-heading-reads
 use Rattle.rules_state.proofs.state.Track.used.Reads as used-reads
 
--- src/headings.rt:229:9
 is-heading-requires : tie.Need-is-heading-requires
 is-heading-requires c κs = search needs
 
--- src/headings.rt:230:9
 returns : tie.Need-returns
 returns c =
     rw (
@@ -23,19 +21,15 @@ returns c =
       not-true (c .before .is-heading .result) (c .if1 .taken),
     )
 
--- src/headings.rt:232:31
 used-requires : tie.Need-used-requires
 used-requires c κs = search needs
 
--- src/headings.rt:232:13
 pointer-fault-requires : tie.Need-pointer-fault-requires
 pointer-fault-requires c κs = search needs
 
--- src/headings.rt:233:5
 pointer-column-requires : tie.Need-pointer-column-requires
 pointer-column-requires c κs = search needs
 
--- src/headings.rt:226:1
 returns-2 : tie.Need-returns-2
 unfolding rule11Heading
 returns-2 c =

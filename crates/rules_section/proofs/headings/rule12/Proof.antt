@@ -1,4 +1,4 @@
-use Rattle.rules_state.proofs.Leftmost.{leftmost-where}
+use Rattle.rules_roles.proofs.Leftmost.{leftmost-where}
 use Rattle.rules_section.specs.Headings.{rule12Heading, rule12Unit}
 use borrow.Author.Needs.{needs}
 use Rattle.rules_section.proofs.headings.rule12.Statement.{statement}
@@ -7,28 +7,23 @@ use Rattle.rules_section.proofs.headings.rule12.Reads as reads
 use Rattle.rules_section.proofs.headings.rule12.Lts as lts
 use Rattle.record_words.proofs.word.heading_fault.Reads as heading-fault-reads
 use Rattle.record_words.proofs.word.unit_fault.Reads as unit-fault-reads
-use Rattle.rules_state.proofs.fault.field_column.Reads as field-column-reads
-use Rattle.rules_state.proofs.role.is_heading.Reads as is-heading-reads
-use Rattle.rules_state.proofs.role.is_unit.Reads as is-unit-reads
+use Rattle.rules_roles.proofs.fault.field_column.Reads as field-column-reads
+use Rattle.rules_roles.proofs.roles.is_heading.Reads as is-heading-reads
+use Rattle.rules_roles.proofs.roles.is_unit.Reads as is-unit-reads
 use Rattle.rules_state.proofs.state.Track.used.Reads as used-reads
 
--- src/headings.rt:270:12
 is-heading-requires : tie.Need-is-heading-requires
 is-heading-requires c κs = search needs
 
--- src/headings.rt:271:39
 used-requires : tie.Need-used-requires
 used-requires c κs = search needs
 
--- src/headings.rt:271:17
 heading-fault-requires : tie.Need-heading-fault-requires
 heading-fault-requires c κs = search needs
 
--- src/headings.rt:272:13
 field-column-requires : tie.Need-field-column-requires
 field-column-requires c κs = search needs
 
--- src/headings.rt:272:13
 returns : tie.Need-returns
 unfolding rule12Heading
 returns c =
@@ -40,23 +35,18 @@ returns c =
       ← c .before .heading-fault .ensures,
     ) (c .field-column .ensures)
 
--- src/headings.rt:274:12
 is-unit-requires : tie.Need-is-unit-requires
 is-unit-requires c κs = search needs
 
--- src/headings.rt:275:36
 used-requires-2 : tie.Need-used-requires-2
 used-requires-2 c κs = search needs
 
--- src/headings.rt:275:17
 unit-fault-requires : tie.Need-unit-fault-requires
 unit-fault-requires c κs = search needs
 
--- src/headings.rt:276:13
 field-column-requires-2 : tie.Need-field-column-requires-2
 field-column-requires-2 c κs = search needs
 
--- src/headings.rt:276:13
 returns-2 : tie.Need-returns-2
 unfolding rule12Unit
 returns-2 c =
@@ -70,7 +60,6 @@ returns-2 c =
       ← c .before .unit-fault .ensures,
     ) (c .field-column2 .ensures)
 
--- src/headings.rt:267:5
 returns-3 : tie.Need-returns-3
 returns-3 c =
     rw (

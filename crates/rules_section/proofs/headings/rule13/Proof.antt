@@ -1,4 +1,4 @@
-use Rattle.rules_state.proofs.Leftmost.{leftmost-where}
+use Rattle.rules_roles.proofs.Leftmost.{leftmost-where}
 use Rattle.rules_section.specs.Headings.{rule13}
 use borrow.Author.Tests.{not-false, not-true}
 use borrow.Author.Needs.{needs}
@@ -6,48 +6,39 @@ use Rattle.rules_section.proofs.headings.rule13.Statement.{statement}
 use Rattle.rules_section.proofs.headings.rule13.Tie as tie
 use Rattle.rules_section.proofs.headings.rule13.Reads as reads
 use Rattle.rules_section.proofs.headings.rule13.Lts as lts
-use Rattle.rules_state.proofs.fault.field_column.Reads as field-column-reads
+use Rattle.rules_roles.proofs.fault.field_column.Reads as field-column-reads
 use Rattle.rules_section.proofs.headings.repeated_at.Reads as repeated-at-reads
-use Rattle.rules_state.proofs.role.is_heading.Reads as is-heading-reads
+use Rattle.rules_roles.proofs.roles.is_heading.Reads as is-heading-reads
 use Rattle.rules_state.proofs.state.Track.used.Reads as used-reads
-use Rattle.rules_state.proofs.ranging.part.Reads as part-reads
+use Rattle.rules_roles.proofs.ranging.part.Reads as part-reads
 
--- src/headings.rt:293:13
 is-heading-requires : tie.Need-is-heading-requires
 is-heading-requires c κs = search needs
 
--- src/headings.rt:294:13
 returns : tie.Need-returns
 returns c = rw (← c .before .is-heading .ensures, not-true (c .before .is-heading .result) (c .if1 .taken))
 
--- src/headings.rt:299:13
 used-requires : tie.Need-used-requires
 used-requires c κs = search needs
 
--- src/headings.rt:301:13
 part-requires : tie.Need-part-requires
 part-requires c κs = search needs
 
--- src/headings.rt:302:13
 part-requires-2 : tie.Need-part-requires-2
 part-requires-2 c κs = search needs
 
--- src/headings.rt:303:13
 part-requires-3 : tie.Need-part-requires-3
 part-requires-3 c κs = search needs
 
--- src/headings.rt:300:13
 repeated-at-requires : tie.Need-repeated-at-requires
 repeated-at-requires c κs = (
   c .before .before .before .before .before .before .before .before .before .before .before .pre .1,
   c .before .before .before .used .ensures .1,
 )
 
--- src/headings.rt:308:9
 field-column-requires : tie.Need-field-column-requires
 field-column-requires c κs = search needs
 
--- src/headings.rt:281:5
 returns-2 : tie.Need-returns-2
 unfolding rule13
 returns-2 c =

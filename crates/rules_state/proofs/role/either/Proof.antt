@@ -6,15 +6,12 @@ use Rattle.rules_state.proofs.role.either.Reads as reads
 use Rattle.rules_state.proofs.role.either.Lts as lts
 use Rattle.rules_state.proofs.role.only.Reads as only-reads
 
--- src/role.rt:115:9
 returns : tie.Need-returns
 returns c = rw (eq-eqb _ _ (c .if1 .taken))
 
--- src/role.rt:117:5
 only-requires : tie.Need-only-requires
 only-requires c κs = search needs
 
--- src/role.rt:111:1
 returns-2 : tie.Need-returns-2
 returns-2 c = rw (ne-eqb _ _ (c .before .if1 .left)) (c .only .ensures)
 

@@ -6,15 +6,12 @@ use Rattle.rules_state.proofs.role.next_role.Reads as reads
 use Rattle.rules_state.proofs.role.next_role.Lts as lts
 use Rattle.rules_state.proofs.role.either.Reads as either-reads
 
--- src/role.rt:179:9
 returns : tie.Need-returns
 returns c = rw (eq-eqb _ _ (c .if1 .taken))
 
--- src/role.rt:181:5
 either-requires : tie.Need-either-requires
 either-requires c κs = search needs
 
--- src/role.rt:175:1
 returns-2 : tie.Need-returns-2
 returns-2 c = rw (ne-eqb _ _ (c .before .if1 .left)) (c .either .ensures)
 

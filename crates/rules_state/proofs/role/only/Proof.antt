@@ -4,11 +4,9 @@ use Rattle.rules_state.proofs.role.only.Tie as tie
 use Rattle.rules_state.proofs.role.only.Reads as reads
 use Rattle.rules_state.proofs.role.only.Lts as lts
 
--- src/role.rt:106:9
 returns : tie.Need-returns
 returns c = rw (eq-eqb _ _ (c .if1 .taken))
 
--- src/role.rt:102:1
 returns-2 : tie.Need-returns-2
 returns-2 c = rw (ne-eqb _ _ (c .if1 .left))
 

@@ -6,28 +6,23 @@ use Rattle.rules_system.proofs.system.form_n1.Tie as tie
 use Rattle.rules_system.proofs.system.form_n1.Reads as reads
 use Rattle.rules_system.proofs.system.form_n1.Lts as lts
 use Rattle.record.proofs.identifier.is_end.Reads as is-end-reads
-use Rattle.rules_state.proofs.role.opens_section.Reads as opens-section-reads
-use Rattle.rules_state.proofs.role.opens_subentry.Reads as opens-subentry-reads
+use Rattle.rules_roles.proofs.roles.opens_section.Reads as opens-section-reads
+use Rattle.rules_roles.proofs.roles.opens_subentry.Reads as opens-subentry-reads
 
--- src/system.rt:56:9
 returns : tie.Need-returns
 unfolding formN1
 returns c = rw (eq-eqb _ _ (c .if1 .taken))
 
--- src/system.rt:58:8
 opens-subentry-requires : tie.Need-opens-subentry-requires
 opens-subentry-requires c κs = search needs
 
--- src/system.rt:59:9
 returns-2 : tie.Need-returns-2
 unfolding formN1
 returns-2 c = rw (ne-eqb _ _ (c .before .before .if1 .left), ← c .before .opens-subentry .ensures, c .if2 .taken)
 
--- src/system.rt:61:8
 opens-section-requires : tie.Need-opens-section-requires
 opens-section-requires c κs = search needs
 
--- src/system.rt:62:9
 returns-3 : tie.Need-returns-3
 unfolding formN1
 returns-3 c =
@@ -39,11 +34,9 @@ returns-3 c =
       c .if3 .taken,
     )
 
--- src/system.rt:64:8
 is-end-requires : tie.Need-is-end-requires
 is-end-requires c κs = search needs
 
--- src/system.rt:65:9
 returns-4 : tie.Need-returns-4
 unfolding formN1
 returns-4 c =
@@ -57,7 +50,6 @@ returns-4 c =
       c .if4 .taken,
     )
 
--- src/system.rt:51:1
 returns-5 : tie.Need-returns-5
 unfolding formN1
 returns-5 c =

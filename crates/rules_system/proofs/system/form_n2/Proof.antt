@@ -5,28 +5,23 @@ use Rattle.rules_system.proofs.system.form_n2.Statement.{statement}
 use Rattle.rules_system.proofs.system.form_n2.Tie as tie
 use Rattle.rules_system.proofs.system.form_n2.Reads as reads
 use Rattle.rules_system.proofs.system.form_n2.Lts as lts
-use Rattle.rules_state.proofs.role.opens_section.Reads as opens-section-reads
-use Rattle.rules_state.proofs.role.opens_subentry.Reads as opens-subentry-reads
+use Rattle.rules_roles.proofs.roles.opens_section.Reads as opens-section-reads
+use Rattle.rules_roles.proofs.roles.opens_subentry.Reads as opens-subentry-reads
 
--- src/system.rt:74:9
 returns : tie.Need-returns
 unfolding formN2
 returns c = rw (eq-eqb _ _ (c .if1 .taken))
 
--- src/system.rt:76:8
 opens-subentry-requires : tie.Need-opens-subentry-requires
 opens-subentry-requires c κs = search needs
 
--- src/system.rt:77:9
 returns-2 : tie.Need-returns-2
 unfolding formN2
 returns-2 c = rw (ne-eqb _ _ (c .before .before .if1 .left), ← c .before .opens-subentry .ensures, c .if2 .taken)
 
--- src/system.rt:79:8
 opens-section-requires : tie.Need-opens-section-requires
 opens-section-requires c κs = search needs
 
--- src/system.rt:80:9
 returns-3 : tie.Need-returns-3
 unfolding formN2
 returns-3 c =
@@ -38,7 +33,6 @@ returns-3 c =
       c .if3 .taken,
     )
 
--- src/system.rt:70:1
 returns-4 : tie.Need-returns-4
 unfolding formN2
 returns-4 c =

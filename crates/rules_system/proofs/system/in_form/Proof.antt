@@ -11,30 +11,24 @@ use Rattle.record.proofs.system.is_date.Reads as is-date-reads
 use Rattle.record.proofs.system.is_entry_n1.Reads as is-entry-n1-reads
 use Rattle.record.proofs.system.is_subent_n1.Reads as is-subent-n1-reads
 
--- src/system.rt:89:9
 is-entry-n1-requires : tie.Need-is-entry-n1-requires
 is-entry-n1-requires c κs = search needs
 
--- src/system.rt:89:9
 returns : tie.Need-returns
 unfolding inForm
 returns c = rw (eq-eqb _ _ (c .before .if1 .taken)) (c .is-entry-n1 .ensures)
 
--- src/system.rt:92:9
 is-subent-n1-requires : tie.Need-is-subent-n1-requires
 is-subent-n1-requires c κs = search needs
 
--- src/system.rt:92:9
 returns-2 : tie.Need-returns-2
 unfolding inForm
 returns-2 c =
     rw (ne-eqb _ _ (c .before .before .if1 .left), eq-eqb _ _ (c .before .if2 .taken)) (c .is-subent-n1 .ensures)
 
--- src/system.rt:95:9
 is-date-requires : tie.Need-is-date-requires
 is-date-requires c κs = search needs
 
--- src/system.rt:95:9
 returns-3 : tie.Need-returns-3
 unfolding inForm
 returns-3 c =
@@ -45,15 +39,12 @@ returns-3 c =
           (c .before .if3 .taken),
     ) (c .is-date .ensures)
 
--- src/system.rt:98:25
 count-of-requires : tie.Need-count-of-requires
 count-of-requires c κs = search needs
 
--- src/system.rt:98:9
 is-count-requires : tie.Need-is-count-requires
 is-count-requires c κs = search needs
 
--- src/system.rt:98:9
 returns-4 : tie.Need-returns-4
 unfolding inForm
 returns-4 c =
@@ -64,10 +55,9 @@ returns-4 c =
       ne-eqb _ _ (c .before .before .before .if3 .left),
       eq-eqb _ _
           (c .before .before .if4 .taken),
-      ← c .before .count-of .ensures,
+      ← c .before .count-of .ensures .0,
     ) (c .is-count .ensures)
 
--- src/system.rt:85:1
 returns-5 : tie.Need-returns-5
 unfolding inForm
 returns-5 c =

@@ -1,18 +1,16 @@
+use mathlib.Core.Path.{refl}
 use borrow.Author.Tests.{eq-eqb, le-ltb, lt-ltb, ne-eqb}
 use Rattle.rules_system.proofs.system.number_due.Statement.{statement}
 use Rattle.rules_system.proofs.system.number_due.Tie as tie
 use Rattle.rules_system.proofs.system.number_due.Reads as reads
 use Rattle.rules_system.proofs.system.number_due.Lts as lts
 
--- src/system.rt:244:13
 returns : tie.Need-returns
-returns c = rw (eq-eqb _ _ (c .if1 .taken))
+returns c = rw (eq-eqb _ _ (c .if1 .taken)) refl
 
--- src/system.rt:247:13
 returns-2 : tie.Need-returns-2
 returns-2 c = rw (ne-eqb _ _ (c .before .before .if1 .left), lt-ltb _ _ (c .if2 .taken))
 
--- src/system.rt:238:5
 returns-3 : tie.Need-returns-3
 returns-3 c = rw (ne-eqb _ _ (c .before .before .if1 .left), le-ltb _ _ (c .if2 .left))
 

@@ -1,3 +1,4 @@
+use mathlib.Core.Path.{refl}
 use Rattle.rules_system.specs.System.{rule7}
 use borrow.Author.Tests.{not-false, not-true}
 use borrow.Author.Needs.{needs}
@@ -5,36 +6,29 @@ use Rattle.rules_system.proofs.system.rule7.Statement.{statement}
 use Rattle.rules_system.proofs.system.rule7.Tie as tie
 use Rattle.rules_system.proofs.system.rule7.Reads as reads
 use Rattle.rules_system.proofs.system.rule7.Lts as lts
-use Rattle.rules_state.proofs.role.is_system.Reads as is-system-reads
+use Rattle.rules_roles.proofs.roles.is_system.Reads as is-system-reads
 use Rattle.rules_system.proofs.system.form_n1.Reads as form-n1-reads
 use Rattle.rules_system.proofs.system.form_n2.Reads as form-n2-reads
 use Rattle.rules_system.proofs.system.in_form.Reads as in-form-reads
 
--- src/system.rt:107:9
 is-system-requires : tie.Need-is-system-requires
 is-system-requires c κs = search needs
 
--- src/system.rt:108:9
 returns : tie.Need-returns
 returns c = rw (← c .before .is-system .ensures, not-true (c .before .is-system .result) (c .if1 .taken))
 
--- src/system.rt:110:13
 array-copy-out-f : tie.Need-array-copy-out-f
 array-copy-out-f c = search needs
 
--- src/system.rt:111:13
 array-copy-out-g : tie.Need-array-copy-out-g
 array-copy-out-g c = search needs
 
--- src/system.rt:112:17
 form-n1-requires : tie.Need-form-n1-requires
 form-n1-requires c κs = search needs
 
--- src/system.rt:112:9
 in-form-requires : tie.Need-in-form-requires
 in-form-requires c κs = search needs
 
--- src/system.rt:113:9
 returns-2 : tie.Need-returns-2
 unfolding rule7
 returns-2 c =
@@ -46,16 +40,14 @@ returns-2 c =
       ← c .before .in-form .ensures,
       not-true (c .before .in-form .result) (c .if2 .taken),
     )
+    refl
 
--- src/system.rt:115:17
 form-n2-requires : tie.Need-form-n2-requires
 form-n2-requires c κs = search needs
 
--- src/system.rt:115:9
 in-form-requires-2 : tie.Need-in-form-requires-2
 in-form-requires-2 c κs = search needs
 
--- src/system.rt:116:9
 returns-3 : tie.Need-returns-3
 unfolding rule7
 returns-3 c =
@@ -72,7 +64,6 @@ returns-3 c =
       not-true (c .before .in-form2 .result) (c .if3 .taken),
     )
 
--- src/system.rt:103:1
 returns-4 : tie.Need-returns-4
 unfolding rule7
 returns-4 c =

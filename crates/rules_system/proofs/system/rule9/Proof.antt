@@ -5,33 +5,27 @@ use Rattle.rules_system.proofs.system.rule9.Statement.{statement}
 use Rattle.rules_system.proofs.system.rule9.Tie as tie
 use Rattle.rules_system.proofs.system.rule9.Reads as reads
 use Rattle.rules_system.proofs.system.rule9.Lts as lts
-use Rattle.record.proofs.expected.same_five.Reads as same-five-reads
+use Rattle.record_expected.proofs.expected.same_five.Reads as same-five-reads
 use Rattle.record.proofs.system.subentry_of.Reads as subentry-of-reads
-use Rattle.rules_state.proofs.role.opens_subentry.Reads as opens-subentry-reads
+use Rattle.rules_roles.proofs.roles.opens_subentry.Reads as opens-subentry-reads
 use Rattle.rules_system.proofs.system.number_due.Reads as number-due-reads
-use Rattle.record.proofs.expected.subent_accession.Reads as subent-accession-reads
+use Rattle.record_expected.proofs.expected.subent_accession.Reads as subent-accession-reads
 
--- src/system.rt:263:13
 opens-subentry-requires : tie.Need-opens-subentry-requires
 opens-subentry-requires c κs = search needs
 
--- src/system.rt:264:13
 returns : tie.Need-returns
 returns c = rw (← c .before .opens-subentry .ensures, not-true (c .before .opens-subentry .result) (c .if1 .taken))
 
--- src/system.rt:266:17
 array-copy-out-f : tie.Need-array-copy-out-f
 array-copy-out-f c = search needs
 
--- src/system.rt:267:13
 subent-accession-requires : tie.Need-subent-accession-requires
 subent-accession-requires c κs = search needs
 
--- src/system.rt:269:13
 same-five-requires : tie.Need-same-five-requires
 same-five-requires c κs = search needs
 
--- src/system.rt:270:13
 returns-2 : tie.Need-returns-2
 unfolding rule9
 returns-2 c =
@@ -44,15 +38,12 @@ returns-2 c =
       not-true (c .before .same-five .result) (c .if2 .taken),
     )
 
--- src/system.rt:272:28
 subentry-of-requires : tie.Need-subentry-of-requires
 subentry-of-requires c κs = search needs
 
--- src/system.rt:272:12
 number-due-requires : tie.Need-number-due-requires
 number-due-requires c κs = search needs
 
--- src/system.rt:273:13
 returns-3 : tie.Need-returns-3
 unfolding rule9
 returns-3 c =
@@ -69,7 +60,6 @@ returns-3 c =
       c .if3 .taken,
     )
 
--- src/system.rt:260:5
 returns-4 : tie.Need-returns-4
 unfolding rule9
 returns-4 c =

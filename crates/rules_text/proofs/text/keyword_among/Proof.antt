@@ -22,38 +22,30 @@ Inv-loop part f n i₀ i =
 abbrev μ-loop : tie.MeasureT-loop
 μ-loop part f n i₀ i = n - i
 
--- src/text.rt:28:5
 loop-holds : tie.Need-loop-holds Inv-loop μ-loop
 unfolding placesOf
 loop-holds c = (search needs, look-all _)
 
--- src/text.rt:29:18
 mul-at : tie.Need-mul-at Inv-loop μ-loop
 mul-at c = search needs
 
--- src/text.rt:30:13
 field-requires : tie.Need-field-requires Inv-loop μ-loop
 field-requires c κs = search needs
 
--- src/text.rt:31:12
 same-keyword-requires : tie.Need-same-keyword-requires Inv-loop μ-loop
 same-keyword-requires c κs = search needs
 
--- src/text.rt:32:13
 returns : tie.Need-returns Inv-loop μ-loop
 returns c =
     look-found (c .before .before .before .before .loop .inv .1) (omega arith)
     (rw (← c .before .before .field .ensures) (sym (c .before .same-keyword .ensures) ∙ c .if1 .taken))
 
--- src/text.rt:34:9
 add-i : tie.Need-add-i Inv-loop μ-loop
 add-i c = search needs
 
--- src/text.rt:28:5
 loop-less : tie.Need-loop-less Inv-loop μ-loop
 loop-less c = search needs
 
--- src/text.rt:28:5
 loop-again : tie.Need-loop-again Inv-loop μ-loop
 loop-again c = (
   search needs,
@@ -61,7 +53,6 @@ loop-again c = (
       (rw (← c .before .before .field .ensures) (sym (c .before .same-keyword .ensures) ∙ c .if1 .left)),
 )
 
--- src/text.rt:23:1
 returns-2 : tie.Need-returns-2 Inv-loop μ-loop
 returns-2 c = look-done (c .before .loop .inv .1) (omega arith)
 

@@ -1,3 +1,4 @@
+use mathlib.Core.Path.{refl}
 use borrow.Author.Tests.{not-false, not-true}
 use borrow.Author.Needs.{needs}
 use Rattle.rules_text.proofs.text.keyword_fault.Statement.{statement}
@@ -8,19 +9,15 @@ use Rattle.record_words.proofs.word.is_keyword_blank.Reads as is-keyword-blank-
 use Rattle.record_words.proofs.word.is_word.Reads as is-word-reads
 use Rattle.rules_text.proofs.text.keyword_in.Reads as keyword-in-reads
 
--- src/text.rt:60:12
 is-keyword-blank-requires : tie.Need-is-keyword-blank-requires
 is-keyword-blank-requires c κs = search needs
 
--- src/text.rt:61:13
 returns : tie.Need-returns
-returns c = rw (← c .before .before .is-keyword-blank .ensures, c .before .if1 .taken)
+returns c = rw (← c .before .before .is-keyword-blank .ensures, c .before .if1 .taken) refl
 
--- src/text.rt:63:13
 is-word-requires : tie.Need-is-word-requires
 is-word-requires c κs = search needs
 
--- src/text.rt:64:13
 returns-2 : tie.Need-returns-2
 returns-2 c =
     rw (
@@ -30,11 +27,9 @@ returns-2 c =
       not-true (c .before .is-word .result) (c .if2 .taken),
     )
 
--- src/text.rt:66:9
 keyword-in-requires : tie.Need-keyword-in-requires
 keyword-in-requires c κs = search needs
 
--- src/text.rt:57:5
 returns-3 : tie.Need-returns-3
 returns-3 c =
     rw (

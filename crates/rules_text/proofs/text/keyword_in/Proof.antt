@@ -19,23 +19,18 @@ use Rattle.record_words.proofs.word.eight_columns.Reads as eight-columns-reads
 use Rattle.rules_text.proofs.text.eight_in.Reads as eight-in-reads
 use Rattle.rules_text.proofs.text.keyword_among.Reads as keyword-among-reads
 
--- src/text.rt:63:32
 slice-aggregate-eight-columns : tie.Need-slice-aggregate-eight-columns
 slice-aggregate-eight-columns c = search needs
 
--- src/text.rt:63:9
 eight-columns-requires : tie.Need-eight-columns-requires
 eight-columns-requires c κs = search needs
 
--- src/text.rt:64:8
 eight-in-requires : tie.Need-eight-in-requires
 eight-in-requires c κs = search needs
 
--- src/text.rt:65:9
 keyword-among-requires : tie.Need-keyword-among-requires
 keyword-among-requires c κs = search needs
 
--- src/text.rt:65:9
 returns : tie.Need-returns
 returns c = search needs
 
@@ -49,7 +44,6 @@ nowhere part f number w e =
     (λ i h. eq-eqb number (eightAt part (i * 81 + 2)) (w ∙ eight-equal f part (i * 81) h))
     0 (length part / 81) e)
 
--- src/text.rt:60:1
 returns-2 : tie.Need-returns-2
 returns-2 c =
     nowhere _ _ _ (c .before .before .eight-columns .ensures) (sym (c .before .eight-in .ensures) ∙ c .if1 .left)

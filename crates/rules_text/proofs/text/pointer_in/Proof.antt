@@ -21,41 +21,32 @@ Inv-loop part pointer n i₀ i =
 abbrev μ-loop : tie.MeasureT-loop
 μ-loop part pointer n i₀ i = n - i
 
--- src/text.rt:45:5
 loop-holds : tie.Need-loop-holds Inv-loop μ-loop
 unfolding pointersOf
 loop-holds c = (search needs, look-all _)
 
--- src/text.rt:46:18
 mul-at : tie.Need-mul-at Inv-loop μ-loop
 mul-at c = search needs
 
--- src/text.rt:46:18
 add-at : tie.Need-add-at Inv-loop μ-loop
 add-at c = search needs
 
--- src/text.rt:47:17
 shared-slice-read-p : tie.Need-shared-slice-read-p Inv-loop μ-loop
 shared-slice-read-p c = search needs
 
--- src/text.rt:49:13
 returns : tie.Need-returns Inv-loop μ-loop
 returns c = look-found (c .before .before .before .loop .inv .1) (omega arith) (eq-eqb _ _ (c .if1 .taken))
 
--- src/text.rt:51:9
 add-i : tie.Need-add-i Inv-loop μ-loop
 add-i c = search needs
 
--- src/text.rt:45:5
 loop-less : tie.Need-loop-less Inv-loop μ-loop
 loop-less c = search needs
 
--- src/text.rt:45:5
 loop-again : tie.Need-loop-again Inv-loop μ-loop
 loop-again c =
     (search needs, look-next (c .before .before .before .loop .inv .1) (omega arith) (ne-eqb _ _ (c .if1 .left)))
 
--- src/text.rt:40:1
 returns-2 : tie.Need-returns-2 Inv-loop μ-loop
 returns-2 c = look-done (c .before .loop .inv .1) (omega arith)
 

@@ -7,19 +7,15 @@ use Rattle.rules_text.proofs.text.pointer_repeated.Lts as lts
 use Rattle.record_words.proofs.word.is_keyword_blank.Reads as is-keyword-blank-reads
 use Rattle.rules_text.proofs.text.pointer_in.Reads as pointer-in-reads
 
--- src/text.rt:73:13
 array-read-p : tie.Need-array-read-p
 array-read-p c = search needs
 
--- src/text.rt:75:9
 returns : tie.Need-returns
 returns c = rw (eq-eqb _ _ (c .if1 .taken))
 
--- src/text.rt:77:9
 is-keyword-blank-requires : tie.Need-is-keyword-blank-requires
 is-keyword-blank-requires c κs = search needs
 
--- src/text.rt:78:9
 returns-2 : tie.Need-returns-2
 returns-2 c =
     rw (
@@ -28,11 +24,9 @@ returns-2 c =
       not-true (c .before .is-keyword-blank .result) (c .if2 .taken),
     )
 
--- src/text.rt:80:5
 pointer-in-requires : tie.Need-pointer-in-requires
 pointer-in-requires c κs = search needs
 
--- src/text.rt:70:1
 returns-3 : tie.Need-returns-3
 returns-3 c =
     rw (

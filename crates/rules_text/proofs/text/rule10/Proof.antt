@@ -1,5 +1,5 @@
 use mathlib.Core.Path.{_≡_}
-use Rattle.rules_state.specs.Ranging.{bytesOf}
+use Rattle.rules_roles.specs.Parts.{bytesOf}
 use Rattle.rules_text.specs.Text.{rule10}
 use borrow.Author.Tests.{eq-eqb, ne-eqb}
 use borrow.Author.Needs.{needs}
@@ -8,25 +8,20 @@ use Rattle.rules_text.proofs.text.rule10.Tie as tie
 use Rattle.rules_text.proofs.text.rule10.Reads as reads
 use Rattle.rules_text.proofs.text.rule10.Lts as lts
 use Rattle.rules_text.proofs.text.keyword_fault.Reads as keyword-fault-reads
-use Rattle.rules_state.proofs.ranging.part.Reads as part-reads
+use Rattle.rules_roles.proofs.ranging.part.Reads as part-reads
 
--- src/text.rt:89:13
 returns : tie.Need-returns
 returns c = rw (ne-eqb _ _ (c .if1 .taken))
 
--- src/text.rt:92:17
 array-copy-out-f : tie.Need-array-copy-out-f
 array-copy-out-f c = search needs
 
--- src/text.rt:93:31
 part-requires : tie.Need-part-requires
 part-requires c κs = search needs
 
--- src/text.rt:93:12
 keyword-fault-requires : tie.Need-keyword-fault-requires
 keyword-fault-requires c κs = search needs
 
--- src/text.rt:94:13
 returns-2 : tie.Need-returns-2
 unfolding rule10
 returns-2 c =
@@ -41,7 +36,6 @@ returns-2 c =
       c .if2 .taken,
     )
 
--- src/text.rt:84:5
 returns-3 : tie.Need-returns-3
 unfolding rule10
 returns-3 c =

@@ -1,5 +1,5 @@
 use mathlib.Core.Path.{_≡_}
-use Rattle.rules_state.specs.Ranging.{bytesOf}
+use Rattle.rules_roles.specs.Parts.{bytesOf}
 use Rattle.rules_text.specs.Text.{rule11Text}
 use borrow.Author.Needs.{needs}
 use Rattle.rules_text.proofs.text.rule11_text.Statement.{statement}
@@ -7,31 +7,25 @@ use Rattle.rules_text.proofs.text.rule11_text.Tie as tie
 use Rattle.rules_text.proofs.text.rule11_text.Reads as reads
 use Rattle.rules_text.proofs.text.rule11_text.Lts as lts
 use Rattle.record_words.proofs.word.bad_pointer.Reads as bad-pointer-reads
-use Rattle.rules_state.proofs.ranging.part.Reads as part-reads
+use Rattle.rules_roles.proofs.ranging.part.Reads as part-reads
 use Rattle.rules_text.proofs.text.pointer_repeated.Reads as pointer-repeated-reads
 
--- src/text.rt:104:17
 array-copy-out-f : tie.Need-array-copy-out-f
 array-copy-out-f c = search needs
 
--- src/text.rt:105:12
 bad-pointer-requires : tie.Need-bad-pointer-requires
 bad-pointer-requires c κs = search needs
 
--- src/text.rt:106:13
 returns : tie.Need-returns
 unfolding rule11Text
 returns c = rw (← c .before .bad-pointer .ensures, c .if1 .taken)
 
--- src/text.rt:109:29
 part-requires : tie.Need-part-requires
 part-requires c κs = search needs
 
--- src/text.rt:109:12
 pointer-repeated-requires : tie.Need-pointer-repeated-requires
 pointer-repeated-requires c κs = search needs
 
--- src/text.rt:110:13
 returns-2 : tie.Need-returns-2
 unfolding rule11Text
 returns-2 c =
@@ -47,7 +41,6 @@ returns-2 c =
       c .if2 .taken,
     )
 
--- src/text.rt:100:5
 returns-3 : tie.Need-returns-3
 unfolding rule11Text
 returns-3 c =

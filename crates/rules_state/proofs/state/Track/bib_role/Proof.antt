@@ -7,25 +7,20 @@ use Rattle.rules_state.proofs.state.Track.bib_role.Reads as reads
 use Rattle.rules_state.proofs.state.Track.bib_role.Lts as lts
 use Rattle.rules_state.proofs.role.only.Reads as only-reads
 
--- src/role.rt:125:12
 cast-if1 : tie.Need-cast-if1
 cast-if1 c = search needs
 
--- src/role.rt:126:13
 only-requires : tie.Need-only-requires
 only-requires c κs = search needs
 
--- src/role.rt:126:13
 returns : tie.Need-returns
 unfolding bibRole
 returns c = rw (eq-eqb _ _ (c .before .if1 .taken)) (c .only .ensures)
 
--- src/role.rt:129:13
 returns-2 : tie.Need-returns-2
 unfolding bibRole
 returns-2 c = rw (ne-eqb _ _ (c .before .if1 .left), eq-eqb _ _ (c .if2 .taken))
 
--- src/role.rt:121:5
 returns-3 : tie.Need-returns-3
 unfolding bibRole
 returns-3 c = rw (ne-eqb _ _ (c .before .if1 .left), ne-eqb _ _ (c .if2 .left))

@@ -8,20 +8,16 @@ use Rattle.rules_state.proofs.state.Track.data_role.Lts as lts
 use Rattle.rules_state.proofs.role.either.Reads as either-reads
 use Rattle.rules_state.proofs.role.only.Reads as only-reads
 
--- src/role.rt:169:13
 only-requires : tie.Need-only-requires
 only-requires c κs = search needs
 
--- src/role.rt:169:13
 returns : tie.Need-returns
 unfolding dataRole
 returns c = rw (eq-eqb _ _ (c .before .if1 .taken)) (c .only .ensures)
 
--- src/role.rt:171:9
 either-requires : tie.Need-either-requires
 either-requires c κs = search needs
 
--- src/role.rt:164:5
 returns-2 : tie.Need-returns-2
 unfolding dataRole
 returns-2 c = rw (ne-eqb _ _ (c .before .if1 .left)) (c .either .ensures)

@@ -11,141 +11,109 @@ use Rattle.rules_state.proofs.state.Track.bib_role.Reads as bib-role-re
 use Rattle.rules_state.proofs.state.Track.data_role.Reads as data-role-reads
 use Rattle.rules_state.proofs.state.Track.table_role.Reads as table-role-reads
 
--- src/role.rt:190:29
 enum-told : tie.Need-enum-told
 enum-told c = search needs
 
--- src/role.rt:190:29
 only-requires : tie.Need-only-requires
 only-requires c κs = search needs
 
--- src/role.rt:191:30
 enum-told-2 : tie.Need-enum-told-2
 enum-told-2 c = search needs
 
--- src/role.rt:191:30
 only-requires-2 : tie.Need-only-requires-2
 only-requires-2 c κs = search needs
 
--- src/role.rt:192:34
 enum-told-3 : tie.Need-enum-told-3
 enum-told-3 c = search needs
 
--- src/role.rt:192:34
 either-requires : tie.Need-either-requires
 either-requires c κs = search needs
 
--- src/role.rt:193:29
 enum-told-4 : tie.Need-enum-told-4
 enum-told-4 c = search needs
 
--- src/role.rt:193:29
 bib-role-requires : tie.Need-bib-role-requires
 bib-role-requires c κs = search needs
 
--- src/role.rt:194:32
 enum-told-5 : tie.Need-enum-told-5
 enum-told-5 c = search needs
 
--- src/role.rt:194:32
 either-requires-2 : tie.Need-either-requires-2
 either-requires-2 c κs = search needs
 
--- src/role.rt:195:32
 enum-told-6 : tie.Need-enum-told-6
 enum-told-6 c = search needs
 
--- src/role.rt:195:32
 table-role-requires : tie.Need-table-role-requires
 table-role-requires c κs = search needs
 
--- src/role.rt:203:35
 enum-told-7 : tie.Need-enum-told-7
 enum-told-7 c = search needs
 
--- src/role.rt:203:35
 data-role-requires : tie.Need-data-role-requires
 data-role-requires c κs = search needs
 
--- src/role.rt:204:30
 enum-told-8 : tie.Need-enum-told-8
 enum-told-8 c = search needs
 
--- src/role.rt:204:30
 table-role-requires-2 : tie.Need-table-role-requires-2
 table-role-requires-2 c κs = search needs
 
--- src/role.rt:205:33
 enum-told-9 : tie.Need-enum-told-9
 enum-told-9 c = search needs
 
--- src/role.rt:205:33
 only-requires-3 : tie.Need-only-requires-3
 only-requires-3 c κs = search needs
 
--- src/role.rt:206:31
 enum-told-10 : tie.Need-enum-told-10
 enum-told-10 c = search needs
 
--- src/role.rt:206:31
 next-role-requires : tie.Need-next-role-requires
 next-role-requires c κs = search needs
 
--- src/role.rt:207:28
 enum-told-11 : tie.Need-enum-told-11
 enum-told-11 c = search needs
 
--- src/role.rt:185:5
 returns : tie.Need-returns
 unfolding roleIn
 returns c = rw (c .before .enum-told .given .1) (c .only .ensures)
 
--- src/role.rt:185:5
 returns-2 : tie.Need-returns-2
 unfolding roleIn
 returns-2 c = rw (c .before .enum-told2 .given .1) (c .only2 .ensures)
 
--- src/role.rt:185:5
 returns-3 : tie.Need-returns-3
 unfolding roleIn
 returns-3 c = rw (c .before .enum-told3 .given .1) (c .either .ensures)
 
--- src/role.rt:185:5
 returns-4 : tie.Need-returns-4
 unfolding roleIn
 returns-4 c = rw (c .before .enum-told4 .given .1) (c .bib-role .ensures)
 
--- src/role.rt:185:5
 returns-5 : tie.Need-returns-5
 unfolding roleIn
 returns-5 c = rw (c .before .enum-told5 .given .1) (c .either2 .ensures)
 
--- src/role.rt:185:5
 returns-6 : tie.Need-returns-6
 unfolding roleIn
 returns-6 c = rw (c .before .enum-told6 .given .1) (c .table-role .ensures)
 
--- src/role.rt:185:5
 returns-7 : tie.Need-returns-7
 unfolding roleIn
 returns-7 c = rw (c .before .enum-told7 .given .1) (c .data-role .ensures)
 
--- src/role.rt:185:5
 returns-8 : tie.Need-returns-8
 unfolding roleIn
 returns-8 c = rw (c .before .enum-told8 .given .1) (c .table-role2 .ensures)
 
--- src/role.rt:185:5
 returns-9 : tie.Need-returns-9
 unfolding roleIn
 returns-9 c = rw (c .before .enum-told9 .given .1) (c .only3 .ensures)
 
--- src/role.rt:185:5
 returns-10 : tie.Need-returns-10
 unfolding roleIn
 returns-10 c = rw (c .before .enum-told10 .given .1) (c .next-role .ensures)
 
--- src/role.rt:185:5
 returns-11 : tie.Need-returns-11
 unfolding roleIn
 returns-11 c = rw (c .enum-told11 .given .1)

@@ -1,3 +1,4 @@
+use mathlib.Core.Path.{refl}
 use Rattle.rules_state.specs.Role.{tableRole}
 use borrow.Author.Tests.{eq-eqb, le-ltb, lt-ltb, ne-eqb}
 use borrow.Author.Needs.{needs}
@@ -8,25 +9,20 @@ use Rattle.rules_state.proofs.state.Track.table_role.Lts as lts
 use Rattle.record.proofs.identifier.is_end.Reads as is-end-reads
 use Rattle.rules_state.proofs.role.only.Reads as only-reads
 
--- src/role.rt:150:13
 only-requires : tie.Need-only-requires
 only-requires c κs = search needs
 
--- src/role.rt:150:13
 returns : tie.Need-returns
 unfolding tableRole
 returns c = rw (lt-ltb _ _ (c .before .if1 .taken)) (c .only .ensures)
 
--- src/role.rt:152:12
 is-end-requires : tie.Need-is-end-requires
 is-end-requires c κs = search needs
 
--- src/role.rt:153:13
 returns-2 : tie.Need-returns-2
 unfolding tableRole
-returns-2 c = rw (le-ltb _ _ (c .before .before .if1 .left), ← c .before .is-end .ensures, c .if2 .taken)
+returns-2 c = rw (le-ltb _ _ (c .before .before .if1 .left), ← c .before .is-end .ensures, c .if2 .taken) refl
 
--- src/role.rt:156:13
 returns-3 : tie.Need-returns-3
 unfolding tableRole
 returns-3 c =
@@ -37,7 +33,6 @@ returns-3 c =
       eq-eqb _ _ (c .if3 .taken),
     )
 
--- src/role.rt:159:13
 returns-4 : tie.Need-returns-4
 unfolding tableRole
 returns-4 c =
@@ -49,7 +44,6 @@ returns-4 c =
       eq-eqb _ _ (c .if4 .taken),
     )
 
--- src/role.rt:134:5
 returns-5 : tie.Need-returns-5
 unfolding tableRole
 returns-5 c =

@@ -7,16 +7,13 @@ use Rattle.rules_state.proofs.state.Track.used.Tie as tie
 use Rattle.rules_state.proofs.state.Track.used.Reads as reads
 use Rattle.rules_state.proofs.state.Track.used.Lts as lts
 
--- src/state.rt:220:20
 cast-result : tie.Need-cast-result
 cast-result c = search needs
 
--- src/state.rt:220:13
 returns : tie.Need-returns
 unfolding used
 returns c = (rw (le-leb _ _ (c .before .if1 .taken)), omega arith)
 
--- src/state.rt:214:5
 returns-2 : tie.Need-returns-2
 unfolding used
 returns-2 c = (rw (lt-leb _ _ (c .if1 .left)), omega arith)

@@ -1,0 +1,2 @@
+// The classes of characters, and which are permitted.
+pub mod class;

@@ -1,0 +1,2 @@
+pub mod Contexts
+pub mod Judging

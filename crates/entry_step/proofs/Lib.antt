@@ -1,0 +1,3 @@
+pub mod Numbered
+pub mod Stepping
+pub mod Walking

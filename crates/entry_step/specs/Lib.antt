@@ -1,0 +1,2 @@
+pub mod ByRanges
+pub mod Pass

@@ -1,0 +1,2 @@
+// What one record adds to the counts, by what it is.
+pub mod tally;

@@ -1,0 +1,21 @@
+use Rattle.entry_verdict.specs.Verdict.{lengthGood}
+use borrow.Author.Tests.{eq-eqb, ne-eqb}
+use Rattle.entry_verdict.proofs.verdict.length_good.Statement.{statement}
+use Rattle.entry_verdict.proofs.verdict.length_good.Tie as tie
+use Rattle.entry_verdict.proofs.verdict.length_good.Reads as reads
+use Rattle.entry_verdict.proofs.verdict.length_good.Lts as lts
+
+returns : tie.Need-returns
+unfolding lengthGood
+returns c = rw (eq-eqb _ _ (c .if1 .taken))
+
+returns-2 : tie.Need-returns-2
+unfolding lengthGood
+returns-2 c = rw (ne-eqb _ _ (c .before .if1 .left), ne-eqb _ _ (c .if2 .taken))
+
+returns-3 : tie.Need-returns-3
+unfolding lengthGood
+returns-3 c = rw (ne-eqb _ _ (c .before .if1 .left), eq-eqb _ _ (c .if2 .left))
+
+pub length-good-spec : {M : Type 1} → statement M
+length-good-spec = tie.close (tie.spec returns returns-2 returns-3)

@@ -1,0 +1,44 @@
+-- The verdict on an entry (document 01, "Refusal numbers and their order"):
+--
+--   "Judging: 1 comes first. Then records in order; within one record the lowest number; within that the leftmost
+--   column."
+--   "Accepted is 0 0 0 with four totals: subentries (NOSUBENT included), keywords, DATA lines, non-blank numbers. On
+--   refusal the totals are 0."
+use Prim.Native.Nat.{ℕ, _*_, _%_}
+use mathlib.Core.Bool.{Bool, true, false, not, _&&_}
+use lib.Dec.{eqb, leb}
+use Rattle.columns.specs.declared.columns.RecordNo.{RecordNo}
+use Rattle.rules_state.specs.declared.state.Phase.{Phase}
+use Rattle.rules_state.specs.declared.state.Phase.the-variants.{Start, Opened, InSubentry, InBib, AfterBib, InCommon}
+use Rattle.rules_state.specs.declared.state.Phase.the-variants.{AfterCommon, InData, AfterData, Between, Done}
+use Rattle.rules_state.specs.declared.state.Totals.{Totals}
+use Rattle.rules_state.specs.State.{noTotals}
+use Rattle.rules_state.specs.Limits.{MOST-RECORDS}
+use Rattle.entry_verdict.specs.declared.verdict.Verdict.{Verdict}
+
+-- ---- what a verdict says
+
+abbrev pub refused : ℕ → RecordNo → ℕ → Verdict
+refused refusal at column = record { refusal = refusal; «record» = at; column = column; totals = noTotals }
+
+abbrev pub accepted : Totals → Verdict
+accepted totals = record { refusal = 0; «record» = record { 0 = 0 }; column = 0; totals = totals }
+
+-- ---- all records
+
+abbrev pub isDone : Phase → Bool
+isDone Start = false
+isDone Opened = false
+isDone InSubentry = false
+isDone InBib = false
+isDone AfterBib = false
+isDone InCommon = false
+isDone AfterCommon = false
+isDone InData = false
+isDone AfterData = false
+isDone Between = false
+isDone Done = true
+
+-- 1, "length 0, not a multiple of 81, or over 1,620,000", column 0, record 0
+unfoldable pub lengthGood : ℕ → Bool
+lengthGood n = not (eqb n 0) && (eqb (n % 81) 0 && leb n (MOST-RECORDS * 81))

@@ -1,0 +1,64 @@
+// The judge: all records, one after the other, and the verdict.
+ghost use mathlib.Core.Path.{_≡_};
+ghost use Prim.Native.Nat.{_-_, _<_};
+ghost use Rattle.entry_verdict.specs.Verdict.{refused, isDone, lengthGood};
+use columns::columns::RecordNo;
+use rules_state::state::Phase;
+use rules_state::state::Totals;
+
+// Refusal 0, record 0 and column 0 with the totals, or the refusal with zeros.
+pub struct Verdict {
+    pub refusal: u8,
+    pub record: RecordNo,
+    pub column: u8,
+    pub totals: Totals,
+}
+
+pub fn refused(refusal: u8, at: RecordNo, column: u8) -> Verdict
+    ensures { λ r. ⌜ r ≡ refused refusal at column ⌝ }
+{
+    Verdict {
+        refusal,
+        record: at,
+        column,
+        totals: Totals {
+            subentries: 0,
+            keywords: 0,
+            lines: 0,
+            numbers: 0,
+        },
+    }
+}
+
+const MOST_BYTES: usize = 1620000;
+
+// Whether the length is that of 1 to 20,000 records.
+pub fn length_good(n: usize) -> bool
+    ensures { λ r. ⌜ r ≡ lengthGood n ⌝ }
+{
+    if n == 0 {
+        return false;
+    }
+    if n % 81 != 0 {
+        return false;
+    }
+    n <= MOST_BYTES
+}
+
+pub fn is_done(phase: Phase) -> bool
+    ensures { λ r. ⌜ r ≡ isDone phase ⌝ }
+{
+    match phase {
+        Phase::Start => false,
+        Phase::Opened => false,
+        Phase::InSubentry => false,
+        Phase::InBib => false,
+        Phase::AfterBib => false,
+        Phase::InCommon => false,
+        Phase::AfterCommon => false,
+        Phase::InData => false,
+        Phase::AfterData => false,
+        Phase::Between => false,
+        Phase::Done => true,
+    }
+}

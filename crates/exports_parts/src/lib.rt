@@ -1,0 +1,2 @@
+// What the calls about questions store and return.
+pub mod parts;

@@ -1,0 +1,58 @@
+// A part of an entry, in three numbers that the caller lends.
+ghost use mathlib.Core.Path.{_≡_};
+ghost use Rattle.exports_words.specs.Words.{answerWord};
+ghost use Rattle.exports_parts.specs.Questions.{partStored, valueAnswer, valueStored, keywordPlace};
+use exports_words::values::put_reading;
+use exports_words::words::answer_word;
+use questions_answers::answers::PartAnswer;
+use questions_answers::answers::ValueAnswer;
+
+// Stores a part that is answered, and returns the word.
+pub fn put_part(p: PartAnswer, out: &mut [u64; 3]) -> u64
+    ensures { λ r. ⌜ r ≡ answerWord (p .answer) ⌝ }
+    ensures { λ r. ⌜ now (out .exit) ≡ partStored (now (out .entry)) p ⌝ }
+{
+    let answer = p.answer;
+    if answer.number != 0 {
+        return answer_word(answer);
+    }
+    let first = p.first;
+    let length = p.length;
+    let pointer = p.pointer;
+    *out = [first as u64, length as u64, pointer as u64];
+    answer_word(answer)
+}
+
+// Stores a value that is answered, and returns the word.
+pub fn put_value(v: ValueAnswer, out: &mut [u64; 8]) -> u64
+    ensures { λ r. ⌜ r ≡ answerWord (valueAnswer v) ⌝ }
+    ensures { λ r. ⌜ now (out .exit) ≡ valueStored (now (out .entry)) v ⌝ }
+{
+    let answer = v.answer;
+    let said = v.value;
+    if answer.number == 0 {
+        return put_reading(said, out);
+    }
+    answer_word(answer)
+}
+
+// A keyword's ten bytes; blanks for any other slice.
+pub fn keyword_place(keyword: &[u8]) -> [u8; 10]
+    ensures { λ r. ⌜ r ≡ keywordPlace (now (keyword .entry)) ⌝ }
+{
+    if keyword.len() != 10 {
+        return [b' '; 10];
+    }
+    [
+        keyword[0],
+        keyword[1],
+        keyword[2],
+        keyword[3],
+        keyword[4],
+        keyword[5],
+        keyword[6],
+        keyword[7],
+        keyword[8],
+        keyword[9],
+    ]
+}

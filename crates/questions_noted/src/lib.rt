@@ -1,0 +1,2 @@
+// Where a subentry stands, noted record by record.
+pub mod row;

@@ -1,0 +1,2 @@
+// The refusals of a question.
+pub mod refusals;

@@ -1,0 +1,2 @@
+// The values of a record.
+pub mod numbers;

@@ -1,0 +1,55 @@
+-- What is found, by its number: the rule n stands at the place n - 2 of all that the rules find; and a refusal at a
+-- record is the first there. Assumes nothing.
+use Prim.Native.Nat.{ℕ, _+_, _-_, _<_, _≤_}
+use mathlib.Core.Path.{_≡_, refl, sym, _∙_, ap, subst}
+use mathlib.Core.Bool.{Bool, true}
+use mathlib.Core.List.{List, [], _∷_}
+use native.Mathlib.Omega.{arith}
+use borrow.Author.Tests.{eqb-true}
+use lib.Dec.{eqb}
+use lib.ListN.{getD}
+use Rattle.rules_state.specs.declared.state.Track.{Track}
+use Rattle.rules_state.specs.State.{Seen}
+use Rattle.rules_roles.specs.Fault.{on, leftmost}
+use Rattle.rules.specs.Order.{findings, noFinding, Least}
+use Rattle.rules_plain.specs.Places.{Some, here}
+use Rattle.entry_verdict.specs.declared.verdict.Verdict.{Verdict}
+use Rattle.entry_verdict.specs.Verdict.{refused}
+use Rattle.entry.specs.First.{First, FirstAt, by-length, by-record, by-end, by-none}
+use Rattle.refusal_table.proofs.Columns.{computed}
+
+leftmost-some : (ks : List ℕ) (k : ℕ) → leftmost ks ≡ k → 1 ≤ k → Some (λ c. c ≡ k) ks
+leftmost-some [] k e l = absurd (omega arith)
+leftmost-some (j ∷ ks) k e l = here e
+
+pub on-some : (P : ℕ → Type 0) (b : Bool) (ks : List ℕ) → Some P (on b ks) → (b ≡ true) × Some P ks
+on-some P true ks s = (refl, s)
+
+module _ (t : Track) (s : Seen) (role : ℕ) (fs : List (List ℕ)) (r : List ℕ) where
+  pub number-at : (i : ℕ) → i < 14 → getD (findings t s role fs r) i noFinding .number ≡ i + 2
+  number-at i l =
+      eqb-true _ (i + 2)
+      (computed (λ j. eqb (getD (findings t s role fs r) j noFinding .number) (j + 2)) 14 tt refl i l)
+
+  -- the least of what is found is one of the columns of its rule
+  pub least-found : (n k : ℕ) → Least (findings t s role fs r) n k
+      → Some (λ c. c ≡ k) (getD (findings t s role fs r) (n - 2) noFinding .columns)
+  least-found n k l =
+      let e : l .at + 2 ≡ n = sym (number-at (l .at) (l .there)) ∙ l .number in
+      let z : l .at ≡ n - 2 = omega arith in
+      subst (λ (i : ℕ). Some (λ c. c ≡ k) (getD (findings t s role fs r) i noFinding .columns)) z
+      (leftmost-some (getD (findings t s role fs r) (l .at) noFinding .columns) k (l .column) (l .some))
+
+-- the refusal at a record is the first there
+pub first-at : (s : List ℕ) (v : Verdict) → First s v → (n i k : ℕ) → 1 < n → n < 16
+    → v ≡ refused n (record { 0 = i + 1 }) k → FirstAt s i n k
+first-at s v (by-length e) n i k a b q = let z : 1 ≡ n = ap (λ (x : Verdict). x .refusal) q in absurd (omega arith)
+first-at s v (by-record j m l f) n i k a b q =
+    let x : m ≡ n = ap (λ (w : Verdict). w .refusal) q in
+    let y : j + 1 ≡ i + 1 = ap (λ (w : Verdict). w .«record» .0) q in
+    let z : l ≡ k = ap (λ (w : Verdict). w .column) q in
+    let o : j ≡ i = omega arith in
+    subst (λ (d : ℕ). FirstAt s i n d) z
+    (subst (λ (d : ℕ). FirstAt s i d l) x (subst (λ (d : ℕ). FirstAt s d m l) o f))
+first-at s v (by-end c e) n i k a b q = let z : 16 ≡ n = ap (λ (x : Verdict). x .refusal) q in absurd (omega arith)
+first-at s v (by-none c e) n i k a b q = let z : 0 ≡ n = ap (λ (x : Verdict). x .refusal) q in absurd (omega arith)

@@ -1,0 +1,73 @@
+-- What is answered of a record, exactly: 0 0 where the rules find nothing, else the least that they find. There is one
+-- least at most.
+-- Assumes nothing.
+use Prim.Native.Nat.{ℕ, _<_, _≤_}
+use mathlib.Core.Path.{_≡_, refl, sym, ap, _∙_}
+use mathlib.Core.List.{List, [], _∷_}
+use mathlib.Core.Logic.{inl, inr}
+use native.Mathlib.Omega.{arith}
+use lib.ListN.{length, getD}
+use Rattle.rules_roles.specs.declared.fault.Fault.{Fault}
+use Rattle.rules_roles.specs.declared.fault.Fault.the-variants.{Fine, At}
+use Rattle.rules_state.specs.declared.state.Track.{Track}
+use Rattle.rules_state.specs.State.{Seen}
+use Rattle.rules_roles.specs.Fault.{leftmost, FaultAnswer, faultAnswer, Finding}
+use Rattle.rules.specs.Order.{findings, faultOf, Before, noFinding, Least, Nothing, FaultSaid, no-fault, a-fault}
+use Rattle.rules.specs.Order.{FaultExactly}
+use Rattle.rules.proofs.Least.{fault-least, fault-none}
+
+-- where something is the least, something is found
+pub some-found : (fs : List Finding) (n k : ℕ) → Least fs n k → Nothing fs → ⊥
+some-found fs n k l none =
+    let h = l .some in
+    let z : 0 ≡ k = sym (ap leftmost (none (l .at) (l .there))) ∙ l .column in
+    omega arith
+
+leftmost-first : (ks : List ℕ) (k : ℕ) → 1 ≤ k → leftmost ks ≡ k → (0 < length ks) × (getD ks 0 0 ≡ k)
+leftmost-first [] k h e = absurd (omega arith)
+leftmost-first (c ∷ ks) k h e = (omega arith, e)
+
+least-before : (fs : List Finding) (n k m j : ℕ) → Least fs n k → Least fs m j → Before n k m j
+least-before fs n k m j a b =
+    let (some, column) = leftmost-first (getD fs (b .at) noFinding .columns) j (b .some) (b .column) in
+    rw (b .number, column) at (a .least (b .at) 0 (b .there) some)
+
+both-before : (n k m j : ℕ) → Before n k m j → Before m j n k → (n ≡ m) × (k ≡ j)
+both-before n k m j (inl a) (inl b) = absurd (omega arith)
+both-before n k m j (inl a) (inr b) = let z = b .0 in absurd (omega arith)
+both-before n k m j (inr a) (inl b) = let z = a .0 in absurd (omega arith)
+both-before n k m j (inr a) (inr b) = let z = a .1 in let w = b .1 in (a .0, omega arith)
+
+pub one-least : (fs : List Finding) (n k m j : ℕ) → Least fs n k → Least fs m j → (n ≡ m) × (k ≡ j)
+one-least fs n k m j a b = both-before n k m j (least-before fs n k m j a b) (least-before fs m j n k b a)
+
+module _ (t : Track) (s : Seen) (role : ℕ) (fs : List (List ℕ)) (r : List ℕ) where
+  abbrev found : List Finding
+  found = findings t s role fs r
+
+  -- where no rule finds anything, there is no fault
+  pub nothing-fine : Nothing (findings t s role fs r) → faultOf t s role fs r ≡ Fine
+  nothing-fine none = by-fault (faultOf t s role fs r) refl
+    where
+      by-fault : (x : Fault) → faultOf t s role fs r ≡ x → faultOf t s role fs r ≡ Fine
+      by-fault Fine e = e
+      by-fault (At n k) e = absurd (some-found found n k (fault-least t s role fs r n k e) none)
+
+  answered : (x : Fault) → faultOf t s role fs r ≡ x → FaultSaid found (faultAnswer x)
+  answered Fine e = no-fault (fault-none t s role fs r e)
+  answered (At n k) e = a-fault n k (fault-least t s role fs r n k e)
+
+  at-least : (n k : ℕ) → Least found n k → (x : Fault) → faultOf t s role fs r ≡ x
+      → faultAnswer x ≡ record { number = n; column = k }
+  at-least n k l Fine e = absurd (some-found found n k l (fault-none t s role fs r e))
+  at-least n k l (At m j) e =
+      let (p, q) = one-least found m j n k (fault-least t s role fs r m j e) l in
+      rw (p, q) refl
+
+  said : {a : FaultAnswer} → FaultSaid found a → faultAnswer (faultOf t s role fs r) ≡ a
+  said (no-fault none) = ap faultAnswer (nothing-fine none)
+  said (a-fault n k l) = at-least n k l (faultOf t s role fs r) refl
+
+pub fault-exactly : FaultExactly
+fault-exactly t s role fs r a =
+    (λ e. rw e at (answered t s role fs r (faultOf t s role fs r) refl), said t s role fs r)

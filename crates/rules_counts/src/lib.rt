@@ -1,0 +1,2 @@
+// The rule for counts: refusal 8.
+pub mod counts;

@@ -1,0 +1,11 @@
+pub mod Lists
+pub mod Rows
+pub mod Somewhere
+pub mod Exactly
+pub mod Texts
+pub mod UnderNext
+pub mod HeadingLists
+pub mod SearchEnd
+pub mod Found
+pub mod Repeated
+pub mod OneBefore

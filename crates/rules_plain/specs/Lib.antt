@@ -1,0 +1,4 @@
+pub mod Places
+pub mod Repeated
+pub mod Found
+pub mod Texts

@@ -1,0 +1,1 @@
+// The rules that look back, in plain words over records.

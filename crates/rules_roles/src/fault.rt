@@ -1,0 +1,34 @@
+// A fault of a record, and the columns where a rule finds one.
+ghost use mathlib.Core.Path.{_≡_};
+ghost use Prim.Native.Nat.{_+_, _*_, _≤_, _<_};
+ghost use Rattle.rules_roles.specs.Fault.{fieldColumn, pointerColumn, columnAt};
+
+// No fault, or its refusal number and its column.
+pub enum Fault {
+    Fine,
+    At(u8, u8),
+}
+
+// The first column of the field k of n, 0 where k is not below n.
+pub fn field_column(k: usize, n: usize) -> u8
+    requires { ⌜ n ≤ 6 ⌝ }
+    ensures { λ r. ⌜ r ≡ columnAt fieldColumn k n ⌝ }
+{
+    if k < n {
+        let column = (k * 11 + 1) as u8;
+        return column;
+    }
+    0
+}
+
+// Its eleventh.
+pub fn pointer_column(k: usize, n: usize) -> u8
+    requires { ⌜ n ≤ 6 ⌝ }
+    ensures { λ r. ⌜ r ≡ columnAt pointerColumn k n ⌝ }
+{
+    if k < n {
+        let column = (k * 11 + 11) as u8;
+        return column;
+    }
+    0
+}

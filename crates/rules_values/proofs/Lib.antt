@@ -1,0 +1,2 @@
+pub mod ReadValues
+pub mod BlankFields

@@ -1,0 +1,2 @@
+// The rule for value records: refusal 15.
+pub mod values;
