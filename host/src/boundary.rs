@@ -2,7 +2,8 @@
 //!
 //! Nothing checks these declarations against the archives but the version, so they are few and stand together. A
 //! `&[u8]` is a pointer and a length, a lent array of fixed length a pointer; the proofs cover every one that a slice or
-//! an array can have, so the wrappers test nothing. This is the only module of the package that is unsafe.
+//! an array can have, so the wrappers test nothing. This is the only module of the package that is unsafe;
+//! of the tests, `stack` is too.
 
 #[cfg(proved)]
 use crate::{words, Decimal, NoAnswer, Part, Value, Verdict};

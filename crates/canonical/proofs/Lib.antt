@@ -1,6 +1,7 @@
 pub mod Theorems
 pub mod Puts
 pub mod Filled
+pub mod Once
 pub mod Answers
 pub mod Characters
 pub mod Promises

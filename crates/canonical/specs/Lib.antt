@@ -1,4 +1,5 @@
 pub mod Replacing
 pub mod Writing
+pub mod Once
 pub mod Marked
 pub mod Claims

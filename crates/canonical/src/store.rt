@@ -6,6 +6,7 @@ ghost use lib.ListN.{length};
 ghost use Rattle.number.specs.Grammar.{blanks, digitsText, signByte, signText, tailText};
 ghost use Rattle.canonical_layout.specs.Closed.{digitsN, shift, signOf, tailOf};
 ghost use Rattle.canonical_layout.specs.Storing.{put, oneIf, layoutColumns, ReadyLayout, bodyText, fieldText};
+ghost use Rattle.canonical.specs.Once.{exponentPieces, bodyPieces, pieces, stored};
 use canonical_layout::layout::Layout;
 
 fn put_byte(out: &mut [u8], at: usize, b: u8)
@@ -83,6 +84,7 @@ fn put_sign(out: &mut [u8], at: usize, negative: bool)
 fn put_body(out: &mut [u8], at: usize, whole: usize, part: usize, v: u64)
     requires { ⌜ at + (whole + (1 + part)) ≤ length (now out) ⌝ }
     ensures { λ r. ⌜ now (out .exit) ≡ put (now (out .entry)) at (bodyText whole part v) ⌝ }
+    ensures { λ r. ⌜ now (out .exit) ≡ stored (now (out .entry)) (bodyPieces at whole part v) ⌝ }
 {
     let w = put_digits(out, at + (whole + 1), part, v);
     put_byte(out, at + whole, 46);
@@ -92,6 +94,7 @@ fn put_body(out: &mut [u8], at: usize, whole: usize, part: usize, v: u64)
 fn put_exponent(out: &mut [u8], at: usize, raised: bool, below: bool, long: usize, e: u64)
     requires { ⌜ at + oneIf raised (1 + long) ≤ length (now out) ⌝ }
     ensures { λ r. ⌜ now (out .exit) ≡ put (now (out .entry)) at (tailText (tailOf raised below long e)) ⌝ }
+    ensures { λ r. ⌜ now (out .exit) ≡ stored (now (out .entry)) (exponentPieces at raised below long e) ⌝ }
 {
     if raised {
         put_digits(out, at + 1, long, e);
@@ -117,6 +120,7 @@ fn with_zeros(c: u64, zeros: usize) -> u64
 pub(crate) fn put_field(out: &mut [u8], negative: bool, c: u64, p: Layout)
     requires { ⌜ ReadyLayout negative c p (length (now out)) ⌝ }
     ensures { λ r. ⌜ now (out .exit) ≡ fieldText (length (now (out .entry))) negative c p ⌝ }
+    ensures { λ r. ⌜ now (out .exit) ≡ stored (now (out .entry)) (pieces (length (now (out .entry))) negative c p) ⌝ }
 {
     let whole = p.whole;
     let part = p.part;

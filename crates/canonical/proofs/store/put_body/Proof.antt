@@ -1,10 +1,11 @@
 use Prim.Native.Nat.{ℕ}
 use Rattle.canonical.proofs.Filled.{filled-body}
-use Rattle.canonical_layout.specs.Closed.{digitsN}
+use Rattle.canonical.proofs.Once.{body-stored}
+use Rattle.canonical_layout.specs.Closed.{digitsN, shift}
 use Rattle.canonical_layout.specs.Storing.{put}
 use Rattle.laws.proofs.Table.{at}
 use Rattle.number.specs.Grammar.{digitsText}
-use mathlib.Core.Path.{_∙_, ap}
+use mathlib.Core.Path.{_≡_, _∙_, ap}
 use borrow.Author.Needs.{needs}
 use Rattle.canonical.proofs.store.put_body.Statement.{statement}
 use Rattle.canonical.proofs.store.put_body.Tie as tie
@@ -36,27 +37,26 @@ same-length c = search needs
 
 returns : tie.Need-returns
 returns c =
-    filled-body
-    (c .before .before .before .before .before .before .before .before .before .before .before .before .before .args
-    .out .now) (c .before .before .before .before .before .before .before .before .before .before .put-digits .last .0)
-    (c .before .before .before .before .before .before .put-byte .last .0) (c .before .before .put-digits2 .last .0)
-    (c .before .before .before .before .before .before .before .before .before .before .before .before .before .args
-    .at) (c .before .before .before .before .before .before .before .before .before .before .before .before .before
-    .args .whole)
-    (c .before .before .before .before .before .before .before .before .before .before .before .before .before .args
-    .part) (c .before .before .before .before .before .before .before .before .before .before .before .before .before
-    .args .v)
-    (c .before .before .before .before .before .before .before .before .before .before .put-digits .ensures .1)
-    (c .before .before .before .before .before .before .put-byte .ensures)
-    (c .before .before .put-digits2 .ensures .1 ∙ ap (λ (x : ℕ). put
-    (c .before .before .before .before .before .before .put-byte .last .0)
-    (c .before .before .before .before .before .before .before .before .before .before .before .before .before .args
-    .at) (digitsText
-    (digitsN
-    (c .before .before .before .before .before .before .before .before .before .before .before .before .before .args
-    .whole) x)))
-    (c .before .before .before .before .before .before .before .before .before .before .put-digits .ensures .0))
-    (c .before .before .before .before .before .before .before .before .before .before .before .before .before .pre)
+    let c₃ = c .before .before in
+    let c₂ = c₃ .before .before .before .before in
+    let c₁ = c₂ .before .before .before .before in
+    let c₀ = c₁ .before .before .before in
+    let l = c₀ .args .out .now in
+    let l₁ = c₁ .put-digits .last .0 in
+    let l₂ = c₂ .put-byte .last .0 in
+    let l₃ = c₃ .put-digits2 .last .0 in
+    let at = c₀ .args .at in
+    let whole = c₀ .args .whole in
+    let part = c₀ .args .part in
+    let v = c₀ .args .v in
+    let e₁ = c₁ .put-digits .ensures .1 in
+    let e₂ = c₂ .put-byte .ensures in
+    let e₃ : l₃ ≡ put l₂ at (digitsText (digitsN whole (shift part v))) =
+    c₃ .put-digits2 .ensures .1
+    ∙ ap (λ (x : ℕ). put l₂ at (digitsText (digitsN whole x))) (c₁ .put-digits .ensures .0) in (
+      filled-body l l₁ l₂ l₃ at whole part v e₁ e₂ e₃ (c₀ .pre),
+      body-stored l l₁ l₂ l₃ at whole part v e₁ e₂ e₃,
+    )
 
 pub put-body-spec : {M : Type 1} → statement M
 put-body-spec =

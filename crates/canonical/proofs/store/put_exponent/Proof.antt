@@ -1,11 +1,12 @@
 use Prim.Native.Nat.{ℕ}
 use Rattle.canonical.proofs.Filled.{filled-exponent}
+use Rattle.canonical.proofs.Once.{exponent-stored, nothing-stored}
 use Rattle.canonical.proofs.Puts.{put-nothing}
 use Rattle.canonical_layout.specs.Storing.{put}
 use Rattle.laws.proofs.Table.{at}
-use Rattle.number.specs.Grammar.{below}
+use Rattle.number.specs.Grammar.{signByte}
 use mathlib.Core.List.{[], _∷_}
-use mathlib.Core.Path.{_∙_, ap, sym}
+use mathlib.Core.Path.{_≡_, _∙_, ap, sym}
 use native.Mathlib.Omega.{arith}
 use borrow.Author.Needs.{needs}
 use Rattle.canonical.proofs.store.put_exponent.Statement.{statement}
@@ -36,25 +37,32 @@ same-length c = search needs
 
 returns : tie.Need-returns
 returns c =
-    let h = rw (c .before .before .before .before .before .before .before .before .before .if1 .taken) at
-    (c .before .before .before .before .before .before .before .before .before .before .before .pre) in
-    rw (c .before .before .before .before .before .before .before .before .before .if1 .taken)
-    (filled-exponent
-    (c .before .before .before .before .before .before .before .before .before .before .before .args .out .now)
-    (c .before .before .before .before .before .before .before .put-digits .last .0)
-    (c .before .before .put-byte .last .0)
-    (c .before .before .before .before .before .before .before .before .before .before .before .args .at)
-    (c .before .before .before .before .before .before .before .before .before .before .before .args .below)
-    (c .before .before .before .before .before .before .before .before .before .before .before .args .long)
-    (c .before .before .before .before .before .before .before .before .before .before .before .args .e)
-    (c .before .before .before .before .before .before .before .put-digits .ensures .1)
-    (c .before .before .put-byte .ensures ∙ ap (λ (s : ℕ). put
-    (c .before .before .before .before .before .before .before .put-digits .last .0)
-    (c .before .before .before .before .before .before .before .before .before .before .before .args .at) (s ∷ []))
-    (c .before .before .before .sign-byte .ensures)) h)
+    let c₂ = c .before .before in
+    let c₁ = c₂ .before .before .before .before .before in
+    let t = c₁ .before .before .if1 .taken in
+    let c₀ = c₁ .before .before .before .before in
+    let l = c₀ .args .out .now in
+    let l₁ = c₁ .put-digits .last .0 in
+    let l₂ = c₂ .put-byte .last .0 in
+    let at = c₀ .args .at in
+    let below = c₀ .args .below in
+    let long = c₀ .args .long in
+    let e = c₀ .args .e in
+    let h = rw t at (c₀ .pre) in
+    let e₁ = c₁ .put-digits .ensures .1 in
+    let e₂ : l₂ ≡ put l₁ at (signByte below ∷ []) =
+    c₂ .put-byte .ensures ∙ ap (λ (s : ℕ). put l₁ at (s ∷ [])) (c₂ .before .sign-byte .ensures) in
+    rw t (
+      filled-exponent l l₁ l₂ at below long e e₁ e₂ h,
+      exponent-stored l l₁ l₂ at below long e e₁ e₂,
+    )
 
 returns-2 : tie.Need-returns-2
-returns-2 c = rw (c .if1 .left) (sym (put-nothing (c .before .before .args .out .now) (c .before .before .args .at)))
+returns-2 c =
+    rw (c .if1 .left) (
+      sym (put-nothing (c .before .before .args .out .now) (c .before .before .args .at)),
+      sym (nothing-stored (c .before .before .args .out .now)),
+    )
 
 pub put-exponent-spec : {M : Type 1} → statement M
 put-exponent-spec =

@@ -1,8 +1,10 @@
 use Prim.Native.Nat.{_+_, _-_, ℕ}
 use lib.ListN.{length}
-use mathlib.Core.Path.{ap}
+use mathlib.Core.Path.{_≡_, ap}
 use Rattle.canonical.proofs.Filled.{filled-field}
 use Rattle.canonical.proofs.Filled.{column-parts}
+use Rattle.canonical.proofs.Once.{field-stored}
+use Rattle.canonical_layout.specs.Storing.{layoutColumns, oneIf}
 use Rattle.laws.proofs.Table.{at}
 use native.Mathlib.Omega.{arith}
 use borrow.Author.Needs.{needs}
@@ -106,15 +108,21 @@ put-sign-requires c κs =
 
 put-blanks-requires : tie.Need-put-blanks-requires
 put-blanks-requires c κs =
+    let c₃ = c .before .before .before in
+    let c₂ = c₃ .before .before .before .before in
+    let c₁ = c₂ .before .before .before .before in
+    let s = c₁ .before .before .before in
+    let w = s .before in
+    let c₀ = w .before .before in
     omega (
       arith,
-      c .before .before .before .before .before .before .before .before .before .before .before .before .before .before
-          .before .layout-columns .ensures,
-      c .before .before .before .before .before .before .before .before .before .before .before .before .before .before
-          .before .before .before .pre .fits,
-      c .before .before .before .before .before .before .before .before .before .before .before .put-exponent .kept,
-      c .before .before .before .before .before .before .before .put-body .kept,
-      c .before .before .before .put-sign .kept,
+      w .layout-columns .ensures,
+      s .sign-columns .ensures,
+      c₀ .pre .fits,
+      column-parts (c₀ .args .negative) (c₀ .args .p),
+      c₁ .put-exponent .kept,
+      c₂ .put-body .kept,
+      c₃ .put-sign .kept,
     )
 
 same-length : tie.Need-same-length
@@ -122,37 +130,32 @@ same-length c = search needs
 
 returns : tie.Need-returns
 returns c =
-    let p = c .before .before .before .before .before .before .before .before .before .before .before .before .before
-    .before .before .before .before .before .before .before .args .p in
-    let n = c .before .before .before .before .before .before .before .before .before .before .before .before .before
-    .before .before .before .before .before .before .before .args .negative in
-    let l = c .before .before .before .before .before .before .before .before .before .before .before .before .before
-    .before .before .before .before .before .before .before .args .out .now in
-    let C = c .before .before .before .before .before .before .before .before .before .before .before .before .before
-    .before .before .before .before .before .layout-columns .result in
-    let S = c .before .before .before .before .before .before .before .before .before .before .before .before .before
-    .before .before .before .before .sign-columns .result in
-    let z = c .before .before .before .before .before .before .before .before .before .before .before .before .before
-    .before .before .before .with-zeros .ensures in
-    filled-field n
-    (c .before .before .before .before .before .before .before .before .before .before .before .before .before .before
-    .before .before .before .before .before .before .args .c) p l
-    (c .before .before .before .before .before .before .before .before .before .before .before .before .before .before
-    .put-exponent .last .0)
-    (c .before .before .before .before .before .before .before .before .before .before .put-body .last .0)
-    (c .before .before .before .before .before .before .put-sign .last .0) (c .before .before .put-blanks .last .0)
-    (c .before .before .before .before .before .before .before .before .before .before .before .before .before .before
-    .before .before .before .before .before .before .pre .fits)
-    (length l - C) (length l - C + S) (ap (λ (k : ℕ). length l - k)
-    (c .before .before .before .before .before .before .before .before .before .before .before .before .before .before
-    .before .before .before .before .layout-columns .ensures))
-    (ap (λ (k : ℕ). length l - C + k)
-    (c .before .before .before .before .before .before .before .before .before .before .before .before .before .before
-    .before .before .before .sign-columns .ensures))
-    (c .before .before .before .before .before .before .before .before .before .before .before .before .before .before
-    .put-exponent .ensures)
-    (rw z at (c .before .before .before .before .before .before .before .before .before .before .put-body .ensures))
-    (c .before .before .before .before .before .before .put-sign .ensures) (c .before .before .put-blanks .ensures)
+    let c₄ = c .before .before in
+    let c₃ = c₄ .before .before .before .before in
+    let c₂ = c₃ .before .before .before .before in
+    let c₁ = c₂ .before .before .before .before in
+    let z = c₁ .before .before in
+    let s = z .before in
+    let w = s .before in
+    let c₀ = w .before .before in
+    let p = c₀ .args .p in
+    let n = c₀ .args .negative in
+    let l = c₀ .args .out .now in
+    let i = length l - w .layout-columns .result in
+    let at = i + s .sign-columns .result in
+    let lead : i ≡ length l - layoutColumns n p = ap (λ (k : ℕ). length l - k) (w .layout-columns .ensures) in
+    let signed : at ≡ i + oneIf n 1 = ap (λ (k : ℕ). i + k) (s .sign-columns .ensures) in
+    let l₁ = c₁ .put-exponent .last .0 in
+    let l₂ = c₂ .put-body .last .0 in
+    let l₃ = c₃ .put-sign .last .0 in
+    let l₄ = c₄ .put-blanks .last .0 in
+    let e₁ = c₁ .put-exponent .ensures in
+    let e₂ = rw (z .with-zeros .ensures) at (c₂ .put-body .ensures) in
+    let e₃ = c₃ .put-sign .ensures in
+    let e₄ = c₄ .put-blanks .ensures in (
+      filled-field n (c₀ .args .c) p l l₁ l₂ l₃ l₄ (c₀ .pre .fits) i at lead signed (e₁ .0) (e₂ .0) e₃ e₄,
+      field-stored l l₁ l₂ l₃ l₄ (length l) n (c₀ .args .c) p i at lead signed (e₁ .1) (e₂ .1) e₃ e₄,
+    )
 
 pub put-field-spec : {M : Type 1} → statement M
 put-field-spec =

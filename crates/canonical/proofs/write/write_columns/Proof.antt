@@ -67,7 +67,7 @@ returns-2 c =
     (c .before .before .before .before .before .before .before .before .before .args .power)
     (c .before .before .before .before .before .before .before .prepare .result) e
     (c .before .before .put-field .last .0) (rw (c .before .before .before .before .before .layout-columns .ensures) at
-    (c .before .before .before .before .if1 .left)) (c .before .before .put-field .ensures)
+    (c .before .before .before .before .if1 .left)) (c .before .before .put-field .ensures .0)
 
 pub write-columns-spec : {M : Type 1} → statement M
 write-columns-spec =

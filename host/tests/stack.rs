@@ -1,0 +1,271 @@
+//! How much stack the proved functions take. Each call is made on a stack of its own that is painted before, and the
+//! lowest byte that is no longer the paint is looked for. Writing a number may take 256 bytes (document 02, M-103); no
+//! limit is set for the other calls, and their figures are said (docs/PERFORMANCE.md has them).
+
+mod common;
+
+#[cfg(not(all(proved, any(target_arch = "x86_64", target_arch = "aarch64"))))]
+#[test]
+fn writing_takes_little_stack() {
+    common::say("no proved archives are linked, or the processor is another: the stack was not measured");
+}
+
+#[cfg(all(proved, any(target_arch = "x86_64", target_arch = "aarch64")))]
+mod measured {
+    use crate::common::{sample, say, wide};
+    use glockenbeacon::generate::{self, Random};
+    use glockenbeacon::{reference, Decimal};
+    use std::arch::asm;
+    use std::collections::BTreeSet;
+
+    /// The most that writing a number may take.
+    const LIMIT: usize = 256;
+
+    extern "C" {
+        // By their addresses alone: `call_on` makes every call. `include/x4.h` has what they take.
+        fn x4_write_number();
+        fn x4_read_number();
+        fn x4_judge();
+        fn x4_value();
+        fn x4_heading();
+        fn x4_unit();
+        fn x4_passage();
+        fn x4_copy();
+    }
+
+    type Function = unsafe extern "C" fn();
+
+    /// Calls a C function with up to eight words on another stack, which ends 16 bytes above `top`.
+    #[cfg(target_arch = "x86_64")]
+    unsafe fn call_on(top: *mut u128, function: Function, words: [u64; 8]) -> u64 {
+        let answer;
+        // the seventh word and the eighth stand on the stack, above the return address
+        *top = u128::from(words[6]) | u128::from(words[7]) << 64;
+        asm!(
+            "mov r12, rsp",
+            "mov rsp, {top}",
+            "call {function}",
+            "mov rsp, r12",
+            top = in(reg) top,
+            function = in(reg) function,
+            inout("rdi") words[0] => _,
+            inout("rsi") words[1] => _,
+            inout("rdx") words[2] => _,
+            inout("rcx") words[3] => _,
+            inout("r8") words[4] => _,
+            inout("r9") words[5] => _,
+            lateout("rax") answer,
+            out("r12") _,
+            clobber_abi("C"),
+        );
+        answer
+    }
+
+    /// The same on Arm, where eight words go in registers.
+    #[cfg(target_arch = "aarch64")]
+    unsafe fn call_on(top: *mut u128, function: Function, words: [u64; 8]) -> u64 {
+        let answer;
+        asm!(
+            "mov x20, sp",
+            "mov sp, {top}",
+            "blr {function}",
+            "mov sp, x20",
+            top = in(reg) top,
+            function = in(reg) function,
+            inout("x0") words[0] => answer,
+            inout("x1") words[1] => _,
+            inout("x2") words[2] => _,
+            inout("x3") words[3] => _,
+            inout("x4") words[4] => _,
+            inout("x5") words[5] => _,
+            inout("x6") words[6] => _,
+            inout("x7") words[7] => _,
+            out("x20") _,
+            clobber_abi("C"),
+        );
+        answer
+    }
+
+    /// A call of the archives, the stack that it is made on, and the most that it has taken so far.
+    struct Measured {
+        name: &'static str,
+        function: Function,
+        stack: Vec<u128>,
+        most: usize,
+    }
+
+    impl Measured {
+        fn new(name: &'static str, function: Function) -> Measured {
+            Measured { name, function, stack: vec![0; 4096], most: 0 }
+        }
+
+        /// Makes the call on a stack painted with a byte: its answer, and the bytes from the caller down to the lowest
+        /// that was touched. The return address is among them where the processor keeps it on the stack.
+        fn painted(&mut self, paint: u8, words: [u64; 8]) -> (u64, usize) {
+            let plain = u128::from_ne_bytes([paint; 16]);
+            self.stack.fill(plain);
+            let top = self.stack.len() - 1;
+            // SAFETY: the words are what the function takes, and 64 kB are more than it needs by far.
+            let answer = unsafe { call_on(self.stack.as_mut_ptr().add(top), self.function, words) };
+            let low = self.stack[..top].iter().position(|&word| word != plain).unwrap_or(top);
+            let kept = self.stack[low].to_ne_bytes().iter().position(|&byte| byte != paint).unwrap_or(0);
+            (answer, (top - low) * 16 - if low == top { 0 } else { kept })
+        }
+
+        /// By two paints, since a byte that is stored can be the paint itself.
+        fn taken(&mut self, words: [u64; 8]) -> (u64, usize) {
+            let (answer, one) = self.painted(0xa5, words);
+            (answer, one.max(self.painted(0x5a, words).1))
+        }
+
+        /// The answer of a call. A figure above the others counts if it comes again: a signal in between can only add.
+        fn call(&mut self, words: [u64; 8]) -> u64 {
+            let (answer, taken) = self.taken(words);
+            if taken > self.most {
+                let again = (0..5).map(|_| self.taken(words).1).min().unwrap_or(taken);
+                self.most = self.most.max(again);
+            }
+            answer
+        }
+
+        fn say(&self) {
+            say(&format!("stack below the caller: {} takes {} bytes", self.name, self.most));
+        }
+    }
+
+    fn bytes(slice: &[u8]) -> [u64; 2] {
+        [slice.as_ptr() as u64, slice.len() as u64]
+    }
+
+    fn lent<T>(slice: &mut [T]) -> u64 {
+        slice.as_mut_ptr() as u64
+    }
+
+    /// Which way the layout of a number goes, as `crates/canonical_layout/specs/Closed.antt` says: by the count of the
+    /// coefficient's digits and by the power.
+    fn branch(digits: i64, power: i64) -> &'static str {
+        let down = -power;
+        match power {
+            0..=2 => "zeros before the point",
+            3.. if power.to_string().trim_end_matches('0') == "1" => "an exponent made shorter by a zero",
+            3.. => "an exponent",
+            _ if down <= digits => "the point among the digits",
+            _ if down <= digits + 2 => "zeros behind the point",
+            _ => match down - (10i64.pow((down - digits).to_string().len() as u32) - 1) {
+                places if places <= 0 => "a lower exponent, digits before the point",
+                places if places < digits => "a lower exponent, digits on both sides",
+                _ => "a lower exponent, digits behind the point",
+            },
+        }
+    }
+
+    /// Decimals by every way of the layout, that fit and that do not: 1 to 20 digits, powers of all sizes, both signs.
+    fn decimals() -> Vec<(Decimal, &'static str)> {
+        let mut powers: BTreeSet<i64> = (-45..=45).chain([i32::MIN.into(), i32::MAX.into()]).collect();
+        for size in 1..10 {
+            (-22..=2).for_each(|near| powers.extend([10i64.pow(size) + near, -10i64.pow(size) + near]));
+        }
+        let mut decimals = Vec::new();
+        for digits in 1..=20 {
+            let coefficient: u64 = "12345678912345678912"[..digits].parse().expect("it has 64 bits");
+            for &power in powers.iter() {
+                for negative in [false, true] {
+                    let decimal = Decimal { negative, coefficient, power: power as i32 };
+                    decimals.push((decimal, branch(digits as i64, power)));
+                }
+            }
+        }
+        let given = [(0, 0), (0, -5), (100, 0), (u64::MAX, i32::MAX), (10u64.pow(19), i32::MIN), (12_345_678_901, 0)];
+        decimals.extend(given.map(|(coefficient, power)| (Decimal { negative: false, coefficient, power }, "given")));
+        decimals
+    }
+
+    #[test]
+    fn writing_takes_little_stack() {
+        let mut write = Measured::new("x4_write_number", x4_write_number);
+        let mut seen = BTreeSet::new();
+        for (decimal, branch) in decimals() {
+            let (mut field, mut expected) = (*b"###########", *b"###########");
+            let Decimal { negative, coefficient, power } = decimal;
+            let answer = write.call([negative.into(), coefficient, power as u32 as u64, lent(&mut field), 11, 0, 0, 0]);
+            let number = reference::write_number(decimal, &mut expected).map_or_else(|refused| refused.number, |()| 0);
+            assert!(answer as u32 == u32::from(number) && field == expected, "{decimal}");
+            seen.insert((branch, number));
+        }
+        // eight ways, each done and refused by 41, and the two that the given ones have
+        assert_eq!(seen.len(), 18, "{seen:?}");
+        for length in [0, 1, 10, 12] {
+            let mut field = [b'#'; 12];
+            let answer = write.call([0, 145, -3i32 as u32 as u64, lent(&mut field), length, 0, 0, 0]);
+            assert!(answer as u32 == 40 && field == [b'#'; 12]);
+        }
+        write.say();
+        assert!(write.most <= LIMIT, "writing a number takes {} bytes of stack, more than {LIMIT}", write.most);
+    }
+
+    #[test]
+    fn reading_is_measured() {
+        let mut read = Measured::new("x4_read_number", x4_read_number);
+        let mut random = Random::seeded(103);
+        let mut value = [0u64; 8];
+        let mut seen = BTreeSet::new();
+        for _ in 0..3000 {
+            let field = generate::number_field(&mut random);
+            let length = if random.once_in(20) { random.below(11) } else { 11 };
+            let [first, length] = bytes(&field[..length]);
+            seen.insert(read.call([first, length, lent(&mut value), 0, 0, 0, 0, 0]));
+        }
+        assert_eq!(seen, BTreeSet::from([0, 15, 40]));
+        read.say();
+    }
+
+    /// The sample, a table of 18 columns, good and damaged entries of every cause, larger ones, and none.
+    fn entries() -> Vec<Vec<u8>> {
+        let mut entries = vec![sample(), wide(18), Vec::new()];
+        for seed in 0..2 * generate::CAUSES.len() {
+            let mut random = Random::seeded(seed as u64);
+            let mut sheet = generate::entry(&mut random);
+            entries.push(sheet.bytes.clone());
+            let _ = generate::damage(&mut random, &mut sheet, seed % generate::CAUSES.len());
+            entries.push(sheet.bytes);
+        }
+        entries.extend(generate::SHAPES.map(|shape| generate::large(&mut Random::seeded(1), shape, 300)));
+        entries
+    }
+
+    #[test]
+    fn judging_questions_and_copies_are_measured() {
+        let mut judge = Measured::new("x4_judge", x4_judge);
+        let mut value = Measured::new("x4_value", x4_value);
+        let mut heading = Measured::new("x4_heading", x4_heading);
+        let mut unit = Measured::new("x4_unit", x4_unit);
+        let mut passage = Measured::new("x4_passage", x4_passage);
+        let mut copy = Measured::new("x4_copy", x4_copy);
+        let (mut totals, mut number, mut part) = ([0u64; 4], [0u64; 8], [0u64; 3]);
+        // how often each was answered, and refused
+        let mut said = [[0; 2]; 6];
+        let mut note = |call: usize, answer: u64| said[call][usize::from(answer != 0)] += 1;
+        for entry in entries() {
+            let [first, length] = bytes(&entry);
+            note(0, judge.call([first, length, lent(&mut totals), 0, 0, 0, 0, 0]));
+            for (n, section) in [(1, 1), (2, 1), (2, 2), (3, 2), (2, 3)] {
+                for column in [1, 2, 18] {
+                    let answer = value.call([first, length, n, section, 1, column, lent(&mut number), 0]);
+                    note(1, answer);
+                    note(2, heading.call([first, length, n, section, column, lent(&mut part), 0, 0]));
+                    note(3, unit.call([first, length, n, section, column, lent(&mut part), 0, 0]));
+                }
+            }
+            for (n, keyword, pointer) in [(1, "TITLE     ", b' '), (2, "REACTION  ", b'1'), (2, "REACTION  ", b' ')] {
+                let [place, ten] = bytes(keyword.as_bytes());
+                note(4, passage.call([first, length, n, place, ten, pointer.into(), lent(&mut part), 0]));
+            }
+            for room in [entry.len(), 80] {
+                let mut buffer = vec![b'#'; room];
+                note(5, copy.call([first, length, lent(&mut buffer), room as u64, 0, 0, 0, 0]));
+            }
+        }
+        assert!(said.iter().flatten().all(|&times| times > 0), "{said:?}");
+        [judge, value, heading, unit, passage, copy].iter().for_each(Measured::say);
+    }
+}
