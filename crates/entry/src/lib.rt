@@ -1,2 +1,2 @@
-// The judge: one record after the other, and the verdict on an entry; what a call about an entry answers.
+// The judge: all records, one after the other, and the verdict on an entry.
 pub mod judge;

@@ -47,6 +47,8 @@ turnAs c role fs r =
 unfoldable pub turnOf : Context → ℕ → List ℕ → Turn Context Verdict
 turnOf c i r = turnAs c (roleOf c r) (fieldsOf r) r
 
+-- ---- all records
+
 -- 16, "records end before ENDENTRY (record number one past the last)", column 0
 unfoldable pub endOf : Context → Verdict
 endOf c =

@@ -1,7 +1,5 @@
 -- The verdict on an entry (document 01, "Refusal numbers and their order"):
 --
---   "Judging: 1 comes first. Then records in order; within one record the lowest number; within that the leftmost
---   column."
 --   "Accepted is 0 0 0 with four totals: subentries (NOSUBENT included), keywords, DATA lines, non-blank numbers. On
 --   refusal the totals are 0."
 use Prim.Native.Nat.{ℕ, _*_, _%_}
@@ -24,7 +22,7 @@ refused refusal at column = record { refusal = refusal; «record» = at; column 
 abbrev pub accepted : Totals → Verdict
 accepted totals = record { refusal = 0; «record» = record { 0 = 0 }; column = 0; totals = totals }
 
--- ---- all records
+-- ---- where an entry ends, and how long it may be
 
 abbrev pub isDone : Phase → Bool
 isDone Start = false

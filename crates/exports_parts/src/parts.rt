@@ -1,4 +1,4 @@
-// A part of an entry, in three numbers that the caller lends.
+// What the answer to a question stores in the numbers that the caller lends, and the place of a keyword.
 ghost use mathlib.Core.Path.{_≡_};
 ghost use Rattle.exports_words.specs.Words.{answerWord};
 ghost use Rattle.exports_parts.specs.Questions.{partStored, valueAnswer, valueStored, keywordPlace};

@@ -1,8 +1,9 @@
 -- What is wrong at a heading for refusals 13 and 14 (document 01, "BIB, headings, pointers"): said over the records
 -- that stand before it, with no offset and no search.
 --
--- The code follows `rule13` and `rule14` (rules_section, Headings), which compute over the bytes of these records. That
--- they find exactly the headings that are said here is stated below (`RepeatedExactly`, `LostExactly`).
+-- The code follows `rule13` (rules_section, Headings) and `rule14` (rules_pointers, Pointers), which compute over the
+-- bytes of these records. That they find exactly the headings that are said here is stated below (`RepeatedExactly`,
+-- `LostExactly`).
 use Prim.Native.Nat.{ℕ, _<_}
 use mathlib.Core.Path.{_≡_}
 use mathlib.Core.List.{List, _++_, map}

@@ -1,4 +1,4 @@
-// The rules for heading and unit records: refusals 11 to 14. Each gives the leftmost column at fault, 0 where there
+// The rules for heading and unit records: refusals 11 to 13. Each gives the leftmost column at fault, 0 where there
 // is none.
 ghost use mathlib.Core.Path.{_≡_};
 ghost use Prim.Native.Nat.{_+_, _-_, _*_, _/_, _%_, _≤_, _<_};

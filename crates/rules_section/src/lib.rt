@@ -1,2 +1,2 @@
-// The rules for headings, units and values: refusals 11 to 15.
+// The rules for headings and units: refusals 11 to 13.
 pub mod headings;

@@ -1,2 +1,2 @@
-// The rules for system records: refusals 7 to 9.
+// The rules for the fields of system records: refusals 7 and 9.
 pub mod system;

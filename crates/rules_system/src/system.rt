@@ -1,4 +1,4 @@
-// The rules for system records: refusals 7, 8 and 9. Each gives the leftmost column at fault, 0 where there is none.
+// The rules for the fields of system records: refusals 7 and 9. Each gives the leftmost column at fault, 0 where there is none.
 ghost use mathlib.Core.Path.{_≡_};
 ghost use Prim.Native.Nat.{_-_, _<_};
 ghost use Rattle.record.specs.Identifier.{NamesLent};
