@@ -13,10 +13,10 @@ use lib.ListN.{length, getD, take}
 use Rattle.laws.specs.Walk.{All}
 use Rattle.laws.specs.Blocks.{blockAt}
 use Rattle.number.specs.Reading.{readField}
-use Rattle.columns.specs.Columns.{recordsFor, placeOf}
+use Rattle.columns_places.specs.Places.{recordsFor, placeOf}
 use Rattle.columns.specs.Fields.{fieldsOf, fieldAt, n2}
-use Rattle.columns.specs.declared.columns.LineNo.{LineNo}
-use Rattle.columns.specs.declared.columns.RecordNo.{RecordNo}
+use Rattle.columns_places.specs.declared.places.LineNo.{LineNo}
+use Rattle.columns_places.specs.declared.places.RecordNo.{RecordNo}
 use Rattle.record_words.specs.Word.{pointerOf}
 use Rattle.record.specs.System.{countOf}
 use Rattle.record.specs.declared.system.Count.the-variants.{Number}
@@ -25,16 +25,17 @@ use Rattle.rules_counts.specs.Counts.{countN1}
 use Rattle.entry_judging.specs.Judging.{judgeOf}
 use Rattle.entry_verdict.specs.Answer.{answerOf}
 use Rattle.entry_judging.specs.Contexts.{contextAt}
-use Rattle.questions_answers.specs.declared.answers.PartAnswer.{PartAnswer}
+use Rattle.questions_parts.specs.declared.answers.PartAnswer.{PartAnswer}
 use Rattle.questions_rows.specs.Row.{rowOf}
 use Rattle.questions_places.specs.declared.place.Shape.{Shape}
 use Rattle.questions_places.specs.Place.{shapeOf, headingPlace, unitPlace, fieldOf, byteOf}
 use Rattle.questions_refusals.specs.Refused.{sectionIn, valueRefusal, columnRefusal}
-use Rattle.questions_answers.specs.Answers.{valueBy, headingBy, unitBy}
+use Rattle.questions_values.specs.Answers.{valueBy}
+use Rattle.questions_parts.specs.Answers.{headingBy, unitBy}
 use Rattle.questions.specs.Ask.{valueAsked, headingAsked, unitAsked}
 use Rattle.questions_rows.proofs.RowChanges.{opener}
 use Rattle.inside.specs.Inside.{OpensSection, InsideValue, InsideColumn, linesAnnounced}
-use Rattle.inside.proofs.TableLaid.{sectionRole, linesOf}
+use Rattle.entry_walk.proofs.TableLaid.{sectionRole, linesOf}
 use Rattle.inside.proofs.RowFound.{Opening}
 use Rattle.inside.proofs.Answered.{sectionNo, sectionOf, shape-columns, value-answered, heading-answered, unit-answered}
 use Rattle.inside.proofs.NotRefused.{part-zeros}

@@ -7,7 +7,7 @@ use mathlib.Core.Bool.{true}
 use mathlib.Core.List.{List, [], _∷_, _++_, append-assoc}
 use native.Mathlib.Omega.{arith}
 use Rattle.laws.specs.Walk.{All}
-use Rattle.record.specs.Identifier.{SUBENT, NOSUBENT, ENDENTRY}
+use Rattle.record_names.specs.Identifier.{SUBENT, NOSUBENT, ENDENTRY}
 use Rattle.rules_state.specs.State.{Context}
 use Rattle.rules_state.specs.Limits.{LAST-SUBENTRY}
 use Rattle.good.specs.Parts.{Record, Subentry001, Later, Subentry, nosubent, subent, laterRecords, subentriesRecords}

@@ -4,7 +4,7 @@ use Prim.Native.Nat.{_+_}
 use mathlib.Core.Path.{_≡_, _∙_}
 use mathlib.Core.Bool.{false}
 use mathlib.Core.List.{List, [], _∷_, _++_, append-assoc, append-nil}
-use Rattle.record.specs.Identifier.{ENTRY, SUBENT, BIB, NOBIB, COMMON, NOCOMMON}
+use Rattle.record_names.specs.Identifier.{ENTRY, SUBENT, BIB, NOBIB, COMMON, NOCOMMON}
 use Rattle.record_expected.specs.Expected.{accessionOf}
 use Rattle.rules_state.specs.State.{Context, startContext}
 use Rattle.good.specs.Parts.{Record, Bib, Table, present, bibRecords, tableRecords, rowsOf, Entry, subentriesRecords}

@@ -13,7 +13,7 @@ use Rattle.rules_state.specs.State.{Context, startContext}
 use Rattle.entry_verdict.specs.declared.verdict.Verdict.{Verdict}
 use Rattle.entry_judging.specs.Judging.{roleOf, Accepted}
 use Rattle.entry_judging.specs.Contexts.{contextAt}
-use Rattle.entry.proofs.Contexts.{context-start}
+use Rattle.entry_walk.proofs.Contexts.{context-start}
 use Rattle.rules_plain.specs.Places.{Long}
 use Rattle.good.specs.Parts.{Record, recordsOf}
 use Rattle.good.specs.Good.{GoodBytes}

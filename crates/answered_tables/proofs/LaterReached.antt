@@ -6,7 +6,7 @@ use mathlib.Core.Path.{_≡_, refl, sym, _∙_, ap}
 use mathlib.Core.Bool.{false}
 use mathlib.Core.List.{List, [], _∷_, _++_, append-assoc, append-nil}
 use native.Mathlib.Omega.{arith}
-use Rattle.record.specs.Identifier.{ENTRY, SUBENT, BIB, NOBIB, COMMON, NOCOMMON, DATA, NODATA}
+use Rattle.record_names.specs.Identifier.{ENTRY, SUBENT, BIB, NOBIB, COMMON, NOCOMMON, DATA, NODATA}
 use Rattle.record_expected.specs.Expected.{accessionOf}
 use Rattle.rules_state.specs.State.{Context, startContext}
 use Rattle.good.specs.Parts.{Record, Bib, Table, present, bibRecords, tableRecords, rowsOf, Later, Subentry, subent}

@@ -19,7 +19,7 @@ use Rattle.record_words.proofs.WordsAndBlanks.{word-blank}
 use Rattle.record.specs.Plain.{BlankColumns}
 use Rattle.record.proofs.PlainColumns.{and-both, or-first, or-second, blank-exactly, word-exactly}
 use Rattle.rules_text.specs.Text.{placeInPart}
-use Rattle.questions_places.specs.Passage.{hasKeyword, begins, beginsWith}
+use Rattle.questions_passages.specs.Passage.{hasKeyword, begins, beginsWith}
 use Rattle.questions.specs.Ask.{passageAsked}
 use Rattle.inside.specs.Inside.{TextOf, Under, InsidePassage, RunFrom}
 use Rattle.inside.proofs.PassageAnswered.{passage-answered}

@@ -13,13 +13,13 @@ use Rattle.laws.proofs.Blocks.{length-joined}
 use Rattle.laws.proofs.Listing.{all-left, all-right, joined-append}
 use Rattle.entry_verdict.specs.Answer.{answerOf}
 use Rattle.entry_judging.specs.Judging.{judgeOf}
-use Rattle.questions_answers.specs.declared.answers.PartAnswer.{PartAnswer}
-use Rattle.questions_places.specs.declared.passage.Passage.{Passage}
+use Rattle.questions_parts.specs.declared.answers.PartAnswer.{PartAnswer}
+use Rattle.questions_passages.specs.declared.passage.Passage.{Passage}
 use Rattle.questions_places.specs.Place.{firstByte}
-use Rattle.questions_places.specs.Passage.{passageOf}
+use Rattle.questions_passages.specs.Passage.{passageOf}
 use Rattle.questions_rows.specs.Row.{rowOf}
 use Rattle.questions_refusals.specs.Refused.{passageRefusal}
-use Rattle.questions_answers.specs.Answers.{passageBy, bytesIn}
+use Rattle.questions_parts.specs.Answers.{passageBy, bytesIn}
 use Rattle.questions.specs.Ask.{passageAsked}
 use Rattle.questions_rows.proofs.RowChanges.{bib}
 use Rattle.inside.proofs.NotRefused.{part-zeros}

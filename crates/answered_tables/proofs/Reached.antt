@@ -5,7 +5,7 @@ use Prim.Native.Nat.{ℕ, _+_}
 use mathlib.Core.Path.{_≡_, _∙_}
 use mathlib.Core.List.{List, [], _∷_, _++_}
 use native.Mathlib.Omega.{arith}
-use Rattle.record.specs.Identifier.{BIB}
+use Rattle.record_names.specs.Identifier.{BIB}
 use Rattle.record_expected.specs.Expected.{identificationFor}
 use Rattle.rules_state.specs.declared.state.Phase.the-variants.{AfterBib}
 use Rattle.rules_state.specs.State.{Context, startContext}

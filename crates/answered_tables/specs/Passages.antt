@@ -16,7 +16,7 @@ use Rattle.columns.specs.Text.{isBlank}
 use Rattle.record_words.specs.Word.{pointerOf}
 use Rattle.entry_verdict.specs.Answer.{answerOf}
 use Rattle.questions.specs.Ask.{passageAsked}
-use Rattle.questions_answers.specs.Answers.{bytesIn}
+use Rattle.questions_parts.specs.Answers.{bytesIn}
 use Rattle.rules_plain.specs.Places.{bibPlace}
 use Rattle.good.specs.Parts.{Record, Keyword, Bib, present, Subentry, subent, Later, Entry}
 use Rattle.good.specs.Subentries.{ownNumber}

@@ -7,13 +7,13 @@ use mathlib.Core.Path.{_≡_}
 use mathlib.Core.List.{List, [], _∷_, _++_}
 use lib.ListN.{length, getD, take}
 use Rattle.number.specs.Reading.{readField}
-use Rattle.columns.specs.declared.columns.LineNo.{LineNo}
+use Rattle.columns_places.specs.declared.places.LineNo.{LineNo}
 use Rattle.record_words.specs.Word.{pointerOf}
 use Rattle.entry_verdict.specs.Answer.{answerOf}
-use Rattle.questions_answers.specs.declared.answers.PartAnswer.{PartAnswer}
+use Rattle.questions_parts.specs.declared.answers.PartAnswer.{PartAnswer}
 use Rattle.questions_places.specs.Place.{COMMON-SECTION, DATA-SECTION}
 use Rattle.questions.specs.Ask.{valueAsked, headingAsked, unitAsked}
-use Rattle.questions_answers.specs.Answers.{bytesIn}
+use Rattle.questions_parts.specs.Answers.{bytesIn}
 use Rattle.rules_plain.specs.Places.{cell}
 use Rattle.good.specs.Parts.{Table, present, Subentry, subent, Later, Entry}
 use Rattle.good.specs.Tables.{columnsOf}

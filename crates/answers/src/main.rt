@@ -4,7 +4,7 @@
 // ten, the pointer in one. Of each question it writes the number, what stands beside it, and the answer: the value, or
 // the first byte, the length, the pointer and the part.
 use bytes::scan::find;
-use columns::columns::LineNo;
+use columns_places::places::LineNo;
 use entry_verdict::answer::Answer;
 use number::value::Decimal;
 use number::value::Reading;
@@ -19,7 +19,7 @@ use questions::ask::passage_part;
 use questions::ask::unit;
 use questions::ask::unit_part;
 use questions::ask::value;
-use questions_answers::answers::PartAnswer;
+use questions_parts::answers::PartAnswer;
 
 fn say_answer(a: Answer) {
     let record = a.record;

@@ -1,9 +1,1 @@
-pub mod Theorems
-pub mod Puts
-pub mod Filled
-pub mod Once
 pub mod Answers
-pub mod Characters
-pub mod Promises
-pub mod Laws
-pub mod WriteBack

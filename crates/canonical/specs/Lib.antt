@@ -1,5 +1,1 @@
-pub mod Replacing
 pub mod Writing
-pub mod Once
-pub mod Marked
-pub mod Claims

@@ -1,3 +1,2 @@
 // Number fields: writing a decimal as its one canonical field.
-mod store;
 pub mod write;

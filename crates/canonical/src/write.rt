@@ -4,9 +4,9 @@ ghost use Prim.Native.Nat.{_≤_};
 ghost use lib.ListN.{length};
 ghost use Rattle.number.specs.Value.{valueOf};
 ghost use Rattle.canonical.specs.Writing.{answered, storedField, written, bytes, refusalNumber, writingRefusal};
-use crate::store::layout_columns;
-use crate::store::put_field;
 use canonical_layout::layout::prepare;
+use canonical_parts::parts::layout_columns;
+use canonical_store::store::put_field;
 
 // Done, or refused by document 01's number: 40 buffer not eleven bytes, 41 no field reads to the value.
 pub enum Written {

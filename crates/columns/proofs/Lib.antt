@@ -1,2 +1,2 @@
 pub mod ReadColumns
-pub mod TablePlaces
+pub mod Within

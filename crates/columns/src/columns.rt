@@ -1,20 +1,7 @@
-// Where things stand: record numbers, line numbers, and how many records stand before a record.
+// The columns of a record: its line feed.
 ghost use mathlib.Core.Path.{_≡_};
 ghost use Prim.Native.Nat.{ℕ};
-ghost use Rattle.columns.specs.Columns.{Whole, hasLineFeed, recordOf, offsetOf};
-ghost use Rattle.columns.specs.Columns.{Counted, recordsFor, placeOf, InTable};
-
-pub struct RecordNo(pub u32);
-
-pub struct LineNo(pub u32);
-
-pub struct Index(pub u32);
-
-// A record, and one of its six fields, 0 to 5.
-pub struct Place {
-    pub at: RecordNo,
-    pub field: u32,
-}
+ghost use Rattle.columns.specs.Columns.{Whole, hasLineFeed};
 
 // Whether byte 81 of a record is a line feed.
 pub fn has_line_feed(rec: &[u8]) -> bool
@@ -22,46 +9,4 @@ pub fn has_line_feed(rec: &[u8]) -> bool
     ensures { λ r. ⌜ r ≡ hasLineFeed (now (rec .entry)) ⌝ }
 {
     rec[80] == 10
-}
-
-// The number of the record that has so many records before it.
-pub fn record_of(i: Index) -> RecordNo
-    requires { ⌜ Counted i ⌝ }
-    ensures { λ r. ⌜ r ≡ recordOf i ⌝ }
-{
-    let number = i.0 + 1;
-    RecordNo(number)
-}
-
-// The first byte of that record.
-pub fn offset_of(i: Index) -> usize
-    ensures { λ r. ⌜ r ≡ offsetOf i ⌝ }
-{
-    let before = i.0 as usize;
-    before * 81
-}
-
-// How many records hold one row of a table.
-pub fn records_for(columns: u32) -> u32
-    ensures { λ r. ⌜ r ≡ recordsFor columns ⌝ }
-{
-    let wide = columns as u64;
-    let k = (wide + 5) / 6;
-    k as u32
-}
-
-// The record and the field of a column in a line of the table that a system record opens.
-pub fn place_of(section: RecordNo, columns: u32, line: LineNo, column: u32) -> Place
-    requires { ⌜ InTable section columns line column ⌝ }
-    ensures { λ r. ⌜ r ≡ placeOf section columns line column ⌝ }
-{
-    let k = records_for(columns) as u64;
-    let above = line.0 as u64 - 1;
-    let left = column - 1;
-    let part = (left / 6) as u64 + 1;
-    let lines = above * k + part;
-    let number = section.0 as u64 + (2 * k + lines);
-    let at = RecordNo(number as u32);
-    let field = left % 6;
-    Place { at, field }
 }

@@ -1,3 +1,3 @@
-// One record as columns: columns and places, and the six fields.
+// One record as columns: its line feed, and the six fields.
 pub mod columns;
 pub mod fields;

@@ -12,8 +12,8 @@ use Rattle.number.specs.Value.{valueOf}
 use Rattle.number.specs.Reading.{readField}
 use Rattle.canonical_layout.specs.Closed.{canonicalText, canonicalField}
 use Rattle.canonical.specs.Writing.{bytes}
-use Rattle.canonical.proofs.Laws.{canonical-best, number-normal, number-fits}
-use Rattle.canonical.proofs.WriteBack.{written-back}
+use Rattle.canonical_laws.proofs.Laws.{canonical-best, number-normal, number-fits}
+use Rattle.canonical_laws.proofs.WriteBack.{written-back}
 use Rattle.copy_records.specs.Storing.{Written}
 use Rattle.copy_records.proofs.Pasted.{paste-lent}
 

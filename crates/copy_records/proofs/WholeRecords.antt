@@ -9,12 +9,9 @@ use lib.ListN.{length, take, drop, getD, length-drop}
 use lib.Seq.{paste, length-take-le, take-take}
 use Rattle.copy_records.specs.Replaced.{replaced, Each, mask}
 use Rattle.copy_records.proofs.Replaced.{each-of, length-mask, mask-at, length-copy, field-of-copy, behind-copy}
-use Rattle.canonical.proofs.Laws.{canonical-length}
+use Rattle.canonical_laws.proofs.Laws.{canonical-length}
 use Rattle.columns.specs.Fields.{fieldAt}
-use Rattle.rules_state.specs.declared.state.Track.{Track}
-use Rattle.rules_state.specs.State.{Context}
-use Rattle.entry_judging.specs.Judging.{roleOf}
-use Rattle.copy_records.specs.Copy.{valueField, isNumberField, maskOf, copyField, copyRecord}
+use Rattle.copy_records.specs.CopyField.{copyField}
 use Rattle.copy_records.proofs.Pasted.{paste-more}
 
 abbrev Eleven : Bool → List ℕ → Type 0
@@ -75,9 +72,3 @@ module _ (test : ℕ → Bool) (r : List ℕ) (whole : length r ≡ 81) where
       let new = replaced copyField (mask test 0 6) r in
       let long : length new ≡ 81 = whole-length in
       paste-more d new (drop 66 r) at 66 15 (omega arith) (omega arith) (ap (take 15) (sym whole-rest))
-
--- what the code stores for a record, from its role and the track before it, is its copy in the context
-pub record-copied : (c : Context) (r : List ℕ) (t : Track) (role : ℕ) → t ≡ c .track → role ≡ roleOf c r
-    → replaced copyField (mask (valueField t role) 0 6) r ≡ copyRecord c r
-unfolding copyRecord maskOf isNumberField
-record-copied c r t role e f = rw (e, f)

@@ -1,3 +1,3 @@
-pub mod Copy
+pub mod CopyField
 pub mod Storing
 pub mod Replaced

@@ -5,7 +5,7 @@ ghost use lib.ListN.{length, drop};
 ghost use lib.Seq.{paste};
 ghost use Rattle.copy_records.specs.Replaced.{replaced, mask};
 ghost use Rattle.columns.specs.Columns.{Whole};
-ghost use Rattle.copy_records.specs.Copy.{valueField, copyField};
+ghost use Rattle.copy_records.specs.CopyField.{valueField, copyField};
 use crate::fields::put_field;
 use columns::fields::field;
 use rules_roles::roles::COMMON_VALUE;

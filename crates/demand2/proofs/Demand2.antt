@@ -1,11 +1,11 @@
 -- Demand 2 holds.
 -- Assumes nothing.
 use Rattle.number.proofs.Laws as Number
-use Rattle.canonical.specs.Marked as Marked
-use Rattle.canonical.proofs.Laws as Canonical
+use Rattle.canonical_laws.specs.Marked as Marked
+use Rattle.canonical_laws.proofs.Laws as Canonical
 use Rattle.record.proofs.PlainValues.{number-exactly}
-use Rattle.entry.proofs.FirstRefused.{refused-first}
-use Rattle.entry.proofs.FirstAlone.{first-alone}
+use Rattle.entry_walk.proofs.FirstRefused.{refused-first}
+use Rattle.entry_walk.proofs.FirstAlone.{first-alone}
 use Rattle.refusal_table.proofs.Listed.{refusals-listed, length-first}
 use Rattle.refusal_table.proofs.TextFaults.{ten-said, eleven-said}
 use Rattle.refusal_table.proofs.TextsExactly.{ten-exactly, eleven-exactly}

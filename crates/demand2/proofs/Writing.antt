@@ -19,8 +19,8 @@ use Rattle.canonical.specs.declared.write.Written.the-variants.{Refused}
 use Rattle.canonical_layout.specs.Canonical.{Best}
 use Rattle.canonical_layout.specs.Closed.{canonicalText}
 use Rattle.canonical.specs.Writing.{written, bytes}
-use Rattle.canonical.proofs.Laws.{canonical-one, canonical-best, best-one, none-reads, written-fits, written-wide}
-use Rattle.canonical.proofs.Laws.{written-short}
+use Rattle.canonical_laws.proofs.Laws.{canonical-one, canonical-best, best-one, none-reads, written-fits, written-wide}
+use Rattle.canonical_laws.proofs.Laws.{written-short}
 use Rattle.demand2.specs.Writing.{NoneReads, Writes, its-field, no-field, no-room, WrittenSo, WrittenAlone}
 use Rattle.demand2.specs.Writing.{OneWins, RefusedExactly}
 

@@ -16,20 +16,21 @@ use Rattle.laws.proofs.Blocks.{next-block, length-blocks}
 use Rattle.laws.proofs.Copies.{length-marks}
 use Rattle.copy_records.proofs.Replaced.{each-at}
 use Rattle.number.specs.declared.value.Reading.the-variants.{Blank, Number}
-use Rattle.canonical.specs.Replacing.{canonical}
-use Rattle.canonical.proofs.Laws.{canonical-best, number-normal, number-fits}
-use Rattle.canonical.proofs.WriteBack.{canonical-read}
+use Rattle.canonical_laws.specs.Replacing.{canonical}
+use Rattle.canonical_laws.proofs.Laws.{canonical-best, number-normal, number-fits}
+use Rattle.canonical_laws.proofs.WriteBack.{canonical-read}
 use Rattle.columns.specs.Fields.{fieldAt}
 use Rattle.entry_judging.specs.Judging.{turnOf, Accepted}
 use Rattle.rules_state.specs.State.{startContext}
 use Rattle.entry_judging.specs.Contexts.{contextAt}
-use Rattle.entry.proofs.AcceptedWalk.{Walked, walked}
-use Rattle.entry.proofs.Contexts.{context-start}
-use Rattle.copy_records.specs.Copy.{maskOf, copyField, copyRecord, recordsIn, numberField, fieldIn, copyOf}
-use Rattle.copy.proofs.CanonicalFields.{Fit, copied-field}
-use Rattle.copy.proofs.FaithfulRecords.{length-mask-of, fits}
-use Rattle.copy.proofs.Demand.{passed}
-use Rattle.copy.proofs.CopiedBlocks.{copied-block}
+use Rattle.entry_walk.proofs.AcceptedWalk.{Walked, walked}
+use Rattle.entry_walk.proofs.Contexts.{context-start}
+use Rattle.copy_records.specs.CopyField.{copyField}
+use Rattle.copy_laws.specs.Copy.{maskOf, copyRecord, recordsIn, numberField, fieldIn, copyOf}
+use Rattle.copy_laws.proofs.CanonicalFields.{Fit, copied-field}
+use Rattle.copy_laws.proofs.FaithfulRecords.{length-mask-of, fits}
+use Rattle.copy_laws.proofs.Demand.{passed}
+use Rattle.copy_laws.proofs.CopiedBlocks.{copied-block}
 use Rattle.demand3.specs.Fields.{CopyCanonical, CopyBlank}
 
 module _ (s : List ℕ) (n : ℕ) (w : Walked s n) where

@@ -11,25 +11,25 @@ use Rattle.laws.specs.Copies.{Passing}
 use Rattle.laws.proofs.Search.{either}
 use Rattle.number.specs.Reading.{readField}
 use Rattle.columns.specs.Fields.{fieldsOf}
-use Rattle.record.specs.Identifier.{identifierOf}
-use Rattle.columns.specs.declared.columns.RecordNo.{RecordNo}
-use Rattle.columns.specs.declared.columns.Place.{Place}
+use Rattle.record_names.specs.Identifier.{identifierOf}
+use Rattle.columns_places.specs.declared.places.RecordNo.{RecordNo}
+use Rattle.columns_places.specs.declared.places.Place.{Place}
 use Rattle.columns.proofs.ReadColumns.{field-of, past-fields}
 use Rattle.rules_state.specs.State.{Context}
 use Rattle.rules_roles.specs.Roles.{isValue}
 use Rattle.entry_judging.specs.Judging.{turnOf, Accepted}
-use Rattle.entry.proofs.GoingOn.{go-fine}
-use Rattle.entry.proofs.AcceptedWalk.{walked}
-use Rattle.entry.proofs.Contexts.{context-start, context-after}
+use Rattle.entry_walk.proofs.GoingOn.{go-fine}
+use Rattle.entry_walk.proofs.AcceptedWalk.{walked}
+use Rattle.entry_walk.proofs.Contexts.{context-start, context-after}
 use Rattle.entry_judging.specs.Contexts.{contextAt, roleAt, behind}
 use Rattle.questions_places.specs.Place.{hasRecord, fieldsAt, identifierAt, fieldOf}
 use Rattle.questions_places.proofs.Records.{record-there}
 use Rattle.inside.proofs.RowWalked.{fields-at}
-use Rattle.copy_records.specs.Copy.{copyRecord, copyOf}
-use Rattle.copy.proofs.FaithfulRecords.{identifier-kept, not-copied, faithful}
-use Rattle.copy.proofs.Demand.{passed, copy-long}
-use Rattle.copy.proofs.CopiedBlocks.{copied-block}
-use Rattle.copy.proofs.Unchanged.{copy-reads}
+use Rattle.copy_laws.specs.Copy.{copyRecord, copyOf}
+use Rattle.copy_laws.proofs.FaithfulRecords.{identifier-kept, not-copied, faithful}
+use Rattle.copy_laws.proofs.Demand.{passed, copy-long}
+use Rattle.copy_laws.proofs.CopiedBlocks.{copied-block}
+use Rattle.copy_laws.proofs.Unchanged.{copy-reads}
 
 behind-kept : Passing turnOf (λ c i r d. behind c (copyRecord c r) ≡ behind c r)
 behind-kept c i r d h = go-fine c i (copyRecord c r) d (faithful .keeps c i r d h) .1 ∙ sym (go-fine c i r d h .1)

@@ -10,27 +10,27 @@ use lib.Dec.{eqb}
 use lib.ListN.{length}
 use Rattle.laws.specs.Blocks.{blockAt}
 use Rattle.laws.specs.Copies.{Passing}
-use Rattle.columns.specs.Columns.{recordOf}
+use Rattle.columns_places.specs.Places.{recordOf}
 use Rattle.columns.specs.Fields.{fieldsOf}
-use Rattle.record.specs.Identifier.{BIB, COMMON, DATA}
-use Rattle.columns.specs.declared.columns.RecordNo.{RecordNo}
+use Rattle.record_names.specs.Identifier.{BIB, COMMON, DATA}
+use Rattle.columns_places.specs.declared.places.RecordNo.{RecordNo}
 use Rattle.rules_state.specs.declared.state.Track.{Track}
 use Rattle.rules_roles.specs.Roles.{opensSubentry, isValue}
 use Rattle.rules.proofs.ByKind.{of-values}
 use Rattle.entry_judging.specs.Judging.{roleOf, turnOf, Accepted}
 use Rattle.entry_judging.specs.Contexts.{contextAt, roleAt}
-use Rattle.entry.proofs.Contexts.{records-at}
+use Rattle.entry_walk.proofs.Contexts.{records-at}
 use Rattle.questions_noted.specs.declared.row.Row.{Row}
 use Rattle.questions_noted.specs.Row.{NONE, withFirstAt, withBibAt, withCommonAt, withDataAt, noted}
 use Rattle.questions_rows.specs.Row.{subentryIn, notedAs, noteOf, rowAt, rowOf}
 use Rattle.questions_places.specs.Place.{COMMON-SECTION, DATA-SECTION, fieldsAt, shapeOf}
 use Rattle.questions_refusals.specs.Refused.{sectionIn}
-use Rattle.entry.proofs.AcceptedWalk.{walked}
+use Rattle.entry_walk.proofs.AcceptedWalk.{walked}
 use Rattle.questions_rows.proofs.RowNoted.{found-row}
-use Rattle.copy_records.specs.Copy.{copyRecord, copyOf}
-use Rattle.copy.proofs.FaithfulRecords.{role-kept, not-copied}
-use Rattle.copy.proofs.Demand.{passed, copy-long, copy-accepted}
-use Rattle.copy.proofs.CopiedBlocks.{copied-block}
+use Rattle.copy_laws.specs.Copy.{copyRecord, copyOf}
+use Rattle.copy_laws.proofs.FaithfulRecords.{role-kept, not-copied}
+use Rattle.copy_laws.proofs.Demand.{passed, copy-long, copy-accepted}
+use Rattle.copy_laws.proofs.CopiedBlocks.{copied-block}
 use Rattle.demand3.proofs.CopiedRecords.{copied-context, fields-kept}
 
 -- a value record leaves nothing in a row

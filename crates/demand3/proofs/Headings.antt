@@ -9,11 +9,11 @@ use native.Mathlib.Nat.{suc-mul, zero-mul}
 use lib.Dec.{eqb}
 use borrow.Author.Tests.{eqb-false}
 use Rattle.laws.specs.Blocks.{blockAt}
-use Rattle.columns.specs.Columns.{recordsFor}
+use Rattle.columns_places.specs.Places.{recordsFor}
 use Rattle.columns.specs.Fields.{fieldsOf}
 use Rattle.record_words.specs.Word.{pointerOf}
-use Rattle.columns.specs.declared.columns.RecordNo.{RecordNo}
-use Rattle.columns.specs.declared.columns.Place.{Place}
+use Rattle.columns_places.specs.declared.places.RecordNo.{RecordNo}
+use Rattle.columns_places.specs.declared.places.Place.{Place}
 use Rattle.rules_roles.specs.Roles.{isValue}
 use Rattle.rules_counts.specs.Counts.{countN1}
 use Rattle.entry_verdict.specs.declared.verdict.Verdict.{Verdict}
@@ -24,15 +24,15 @@ use Rattle.questions_places.specs.declared.place.Shape.{Shape}
 use Rattle.questions_rows.specs.Row.{rowOf}
 use Rattle.questions_places.specs.Place.{shapeOf, headingPlace, unitPlace, fieldOf, byteOf}
 use Rattle.questions_refusals.specs.Refused.{isSubent, sectionIn, noSection, sectionRefusals, noColumn, columnRefusal}
-use Rattle.questions_answers.specs.Answers.{headingBy, unitBy}
+use Rattle.questions_parts.specs.Answers.{headingBy, unitBy}
 use Rattle.questions.specs.Ask.{headingAsked, unitAsked}
 use Rattle.questions_refusals.proofs.InOrder.{column-inside}
-use Rattle.inside.proofs.Laid.{rowRole}
+use Rattle.entry_walk.proofs.Laid.{rowRole}
 use Rattle.inside.proofs.RowFound.{Opening}
 use Rattle.inside.proofs.Answered.{sectionNo, sectionOf, at-record, shape-columns, laid-at}
 use Rattle.inside.proofs.Asked.{section-named}
-use Rattle.copy_records.specs.Copy.{copyOf}
-use Rattle.copy.proofs.Demand.{copy-accepted}
+use Rattle.copy_laws.specs.Copy.{copyOf}
+use Rattle.copy_laws.proofs.Demand.{copy-accepted}
 use Rattle.demand3.specs.Same.{SamePart, SameHeadings, SameUnits}
 use Rattle.demand3.proofs.CopiedRecords.{copied-identifiers}
 use Rattle.demand3.proofs.CopiedRows.{copied-row, shape-kept}

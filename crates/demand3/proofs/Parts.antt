@@ -9,17 +9,17 @@ use lib.Dec.{eqb, leb}
 use lib.ListN.{length, take, drop, getD}
 use borrow.Author.Tests.{eqb-true, leb-true}
 use Rattle.rules_roles.specs.Roles.{isValue}
-use Rattle.columns.specs.declared.columns.RecordNo.{RecordNo}
+use Rattle.columns_places.specs.declared.places.RecordNo.{RecordNo}
 use Rattle.entry_verdict.specs.declared.verdict.Verdict.{Verdict}
 use Rattle.entry_judging.specs.Judging.{Accepted}
 use Rattle.entry_judging.specs.Contexts.{roleAt}
 use Rattle.entry_verdict.specs.Answer.{answerOf, answerFor}
-use Rattle.questions_answers.specs.declared.answers.PartAnswer.{PartAnswer}
+use Rattle.questions_parts.specs.declared.answers.PartAnswer.{PartAnswer}
 use Rattle.questions_places.specs.Place.{fieldsAt}
-use Rattle.questions_answers.specs.Answers.{noPart, partWith}
-use Rattle.copy_records.specs.Copy.{copyOf}
-use Rattle.copy.proofs.Demand.{passed, copy-long, byte-of}
-use Rattle.copy.proofs.Unchanged.{part-of-bytes}
+use Rattle.questions_parts.specs.Answers.{noPart, partWith}
+use Rattle.copy_laws.specs.Copy.{copyOf}
+use Rattle.copy_laws.proofs.Demand.{passed, copy-long, byte-of}
+use Rattle.copy_laws.proofs.Unchanged.{part-of-bytes}
 use Rattle.demand3.specs.Same.{SamePart}
 use Rattle.demand3.proofs.CopiedRecords.{block-kept, fields-kept}
 

@@ -11,21 +11,21 @@ use borrow.Author.Tests.{eq-eqb, ltb-true}
 use Rattle.laws.specs.Search.{first}
 use Rattle.laws.proofs.Search.{first-to, first-same}
 use Rattle.record.proofs.BlankCount.{blank-count}
-use Rattle.columns.specs.declared.columns.RecordNo.{RecordNo}
+use Rattle.columns_places.specs.declared.places.RecordNo.{RecordNo}
 use Rattle.rules_counts.specs.Counts.{countN2}
 use Rattle.entry_verdict.specs.declared.verdict.Verdict.{Verdict}
 use Rattle.entry_judging.specs.Judging.{Accepted}
-use Rattle.questions_places.specs.declared.passage.Passage.{Passage}
+use Rattle.questions_passages.specs.declared.passage.Passage.{Passage}
 use Rattle.questions_rows.specs.Row.{rowOf}
 use Rattle.questions_places.specs.Place.{fieldsAt, firstByte}
-use Rattle.questions_places.specs.Passage.{textRecords, textRecord, textAt, hasKeyword, isKeyword, begins, beginsWith}
-use Rattle.questions_places.specs.Passage.{firstText, NO-PASSAGE, passageUnder, passageOf}
+use Rattle.questions_passages.specs.Passage.{textRecords, textRecord, textAt, hasKeyword, isKeyword, begins, beginsWith}
+use Rattle.questions_passages.specs.Passage.{firstText, NO-PASSAGE, passageUnder, passageOf}
 use Rattle.questions_refusals.specs.Refused.{passageRefusal}
-use Rattle.questions_answers.specs.Answers.{passageBy}
+use Rattle.questions_parts.specs.Answers.{passageBy}
 use Rattle.questions.specs.Ask.{passageAsked}
 use Rattle.inside.proofs.TextLaid.{row-texts}
-use Rattle.copy_records.specs.Copy.{copyOf}
-use Rattle.copy.proofs.Demand.{copy-accepted}
+use Rattle.copy_laws.specs.Copy.{copyOf}
+use Rattle.copy_laws.proofs.Demand.{copy-accepted}
 use Rattle.demand3.specs.Same.{SamePart, SamePassages}
 use Rattle.demand3.proofs.CopiedRecords.{copied-identifiers}
 use Rattle.demand3.proofs.CopiedRows.{copied-row, row-kept}

@@ -3,21 +3,21 @@
 use Prim.Native.Nat.{ℕ}
 use mathlib.Core.Path.{_≡_, ap}
 use mathlib.Core.List.{List}
-use Rattle.columns.specs.Columns.{placeOf}
-use Rattle.columns.specs.declared.columns.LineNo.{LineNo}
-use Rattle.columns.specs.declared.columns.RecordNo.{RecordNo}
+use Rattle.columns_places.specs.Places.{placeOf}
+use Rattle.columns_places.specs.declared.places.LineNo.{LineNo}
+use Rattle.columns_places.specs.declared.places.RecordNo.{RecordNo}
 use Rattle.entry_verdict.specs.declared.verdict.Verdict.{Verdict}
 use Rattle.entry_judging.specs.Judging.{Accepted}
 use Rattle.questions_noted.specs.declared.row.Row.{Row}
 use Rattle.questions_places.specs.declared.place.Shape.{Shape}
-use Rattle.questions_answers.specs.declared.answers.ValueAnswer.{ValueAnswer}
+use Rattle.questions_values.specs.declared.answers.ValueAnswer.{ValueAnswer}
 use Rattle.questions_rows.specs.Row.{rowOf}
 use Rattle.questions_places.specs.Place.{shapeOf}
 use Rattle.questions_refusals.specs.Refused.{sectionIn, valueRefusal}
-use Rattle.questions_answers.specs.Answers.{valueBy}
+use Rattle.questions_values.specs.Answers.{valueBy}
 use Rattle.questions.specs.Ask.{valueAsked}
-use Rattle.copy_records.specs.Copy.{copyOf}
-use Rattle.copy.proofs.Demand.{copy-accepted}
+use Rattle.copy_laws.specs.Copy.{copyOf}
+use Rattle.copy_laws.proofs.Demand.{copy-accepted}
 use Rattle.demand3.specs.Same.{SameValues}
 use Rattle.demand3.proofs.CopiedRecords.{copied-identifiers, copied-places}
 use Rattle.demand3.proofs.CopiedRows.{copied-row, shape-kept}

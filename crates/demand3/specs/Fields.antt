@@ -14,7 +14,7 @@ use Rattle.number.specs.declared.value.Reading.the-variants.{Blank, Number}
 use Rattle.number.specs.Reading.{readField}
 use Rattle.canonical_layout.specs.Canonical.{Best}
 use Rattle.entry_judging.specs.Judging.{Accepted}
-use Rattle.copy_records.specs.Copy.{numberField, fieldIn, copyOf}
+use Rattle.copy_laws.specs.Copy.{numberField, fieldIn, copyOf}
 
 abbrev pub CopyCanonical : Type 0
 CopyCanonical =

@@ -3,14 +3,14 @@
 use Prim.Native.Nat.{ℕ}
 use mathlib.Core.Path.{_≡_}
 use mathlib.Core.List.{List}
-use Rattle.columns.specs.declared.columns.LineNo.{LineNo}
+use Rattle.columns_places.specs.declared.places.LineNo.{LineNo}
 use Rattle.entry_judging.specs.Judging.{Accepted}
-use Rattle.questions_answers.specs.declared.answers.ValueAnswer.{ValueAnswer}
-use Rattle.questions_answers.specs.declared.answers.PartAnswer.{PartAnswer}
+use Rattle.questions_values.specs.declared.answers.ValueAnswer.{ValueAnswer}
+use Rattle.questions_parts.specs.declared.answers.PartAnswer.{PartAnswer}
 use Rattle.questions.specs.Ask.{valueAsked, headingAsked, unitAsked, passageAsked}
-use Rattle.questions_answers.specs.Answers.{bytesIn}
-use Rattle.copy_records.specs.Copy.{copyOf}
-use Rattle.copy.specs.Demand.{Alike}
+use Rattle.questions_parts.specs.Answers.{bytesIn}
+use Rattle.copy_laws.specs.Copy.{copyOf}
+use Rattle.copy_laws.specs.Demand.{Alike}
 
 -- ---- values
 

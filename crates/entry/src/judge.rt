@@ -4,15 +4,15 @@ ghost use Prim.Native.Nat.{_+_, _-_, _*_, _<_};
 ghost use Rattle.entry_verdict.specs.Verdict.{refused};
 ghost use Rattle.entry_judging.specs.Judging.{judgeOf};
 use classes::class::classes;
-use columns::columns::RecordNo;
-use columns::columns::record_of;
+use columns_places::places::RecordNo;
+use columns_places::places::record_of;
 use entry_step::step::Judge;
 use entry_verdict::verdict::Verdict;
 use entry_verdict::verdict::length_good;
 use entry_verdict::verdict::refused;
 use number::form::kinds;
 use number::form::nexts;
-use record::identifier::names;
+use record_names::identifier::names;
 use rules_roles::fault::Fault;
 
 // Judges an entry.

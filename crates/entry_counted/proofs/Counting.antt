@@ -7,7 +7,7 @@ use mathlib.Core.List.{List, []}
 use native.Mathlib.Omega.{arith}
 use lib.Dec.{eqb, leb}
 use lib.ListN.{getD}
-use Rattle.record.specs.Identifier.{ENTRY, BIB, COMMON, DATA}
+use Rattle.record_names.specs.Identifier.{ENTRY, BIB, COMMON, DATA}
 use Rattle.record_words.specs.Word.{blankTo}
 use Rattle.rules_state.specs.declared.state.Table.{Table}
 use Rattle.rules_state.specs.declared.state.Track.{Track}

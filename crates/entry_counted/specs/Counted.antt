@@ -5,7 +5,7 @@ use mathlib.Core.List.{List, []}
 use lib.Dec.{eqb}
 use lib.ListN.{getD}
 use Rattle.record_expected.specs.Expected.{accessionOf}
-use Rattle.record.specs.Identifier.{ENTRY, BIB, COMMON, DATA}
+use Rattle.record_names.specs.Identifier.{ENTRY, BIB, COMMON, DATA}
 use Rattle.record.specs.System.{subentryOf, upTo}
 use Rattle.columns.specs.Fields.{n1}
 use Rattle.rules_state.specs.declared.state.Track.{Track}

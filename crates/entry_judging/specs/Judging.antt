@@ -10,10 +10,10 @@ use lib.ListN.{length, getD}
 use Rattle.laws.specs.Turns.{Turn, go, out}
 use Rattle.laws.specs.Walk.{walk}
 use Rattle.laws.specs.Blocks.{blocks}
-use Rattle.columns.specs.Columns.{recordOf}
+use Rattle.columns_places.specs.Places.{recordOf}
 use Rattle.columns.specs.Fields.{fieldsOf}
-use Rattle.record.specs.Identifier.{identifierOf}
-use Rattle.columns.specs.declared.columns.RecordNo.{RecordNo}
+use Rattle.record_names.specs.Identifier.{identifierOf}
+use Rattle.columns_places.specs.declared.places.RecordNo.{RecordNo}
 use Rattle.rules_roles.specs.declared.fault.Fault.{Fault}
 use Rattle.rules_roles.specs.declared.fault.Fault.the-variants.{Fine, At}
 use Rattle.rules_state.specs.State.{Context, startContext}

@@ -9,10 +9,10 @@ use borrow.Author.Tests.{eqb-true}
 use lib.Dec.{eqb, leb}
 use lib.ListN.{length, drop, getD, length-append, length-drop}
 use lib.Seq.{take-all, drop-at, drop-append-le, take-append-le}
-use Rattle.record.specs.Identifier.{ENTRY, SUBENT, NOSUBENT, BIB, NOBIB, ENDBIB, COMMON, NOCOMMON, ENDCOMMON, DATA}
-use Rattle.record.specs.Identifier.{NODATA, ENDDATA, ENDSUBENT}
+use Rattle.record_names.specs.Identifier.{ENTRY, SUBENT, NOSUBENT, BIB, NOBIB, ENDBIB, COMMON, NOCOMMON, ENDCOMMON, DATA}
+use Rattle.record_names.specs.Identifier.{NODATA, ENDDATA, ENDSUBENT}
 use Rattle.record_words.specs.Word.{blankTo}
-use Rattle.columns.specs.declared.columns.Index.{Index}
+use Rattle.columns_places.specs.declared.places.Index.{Index}
 use Rattle.rules_state.specs.declared.state.Phase.{Phase}
 use Rattle.rules_state.specs.declared.state.Phase.the-variants.{Opened, InSubentry, InBib, AfterBib, InCommon}
 use Rattle.rules_state.specs.declared.state.Phase.the-variants.{AfterCommon, InData, AfterData, Between, Done}

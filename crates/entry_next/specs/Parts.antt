@@ -4,7 +4,7 @@ use mathlib.Core.Bool.{Bool, cond, _&&_, _||_}
 use mathlib.Core.List.{List, [], _++_}
 use lib.Dec.{eqb}
 use lib.ListN.{getD}
-use Rattle.record.specs.Identifier.{BIB, COMMON, ENDCOMMON, DATA, ENDSUBENT}
+use Rattle.record_names.specs.Identifier.{BIB, COMMON, ENDCOMMON, DATA, ENDSUBENT}
 use Rattle.record_words.specs.Word.{blankTo}
 use Rattle.rules_state.specs.declared.state.Track.{Track}
 use Rattle.rules_state.specs.State.{Seen}

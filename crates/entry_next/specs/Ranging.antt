@@ -4,8 +4,8 @@ use mathlib.Core.Bool.{cond}
 use mathlib.Core.List.{List, []}
 use lib.Dec.{eqb}
 use lib.ListN.{getD}
-use Rattle.record.specs.Identifier.{ENDCOMMON}
-use Rattle.columns.specs.declared.columns.Index.{Index}
+use Rattle.record_names.specs.Identifier.{ENDCOMMON}
+use Rattle.columns_places.specs.declared.places.Index.{Index}
 use Rattle.rules_state.specs.declared.state.Track.{Track}
 use Rattle.rules_roles.specs.declared.ranging.Range.{Range}
 use Rattle.rules_roles.specs.declared.ranging.Ranges.{Ranges}

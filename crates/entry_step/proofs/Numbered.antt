@@ -14,9 +14,9 @@ use Rattle.laws.specs.Blocks.{blocks, blockAt}
 use Rattle.laws.specs.Walk.{walk}
 use Rattle.laws.proofs.Agree.{Agree, runs-agree}
 use Rattle.laws.proofs.Blocks.{run-walk}
-use Rattle.columns.specs.Columns.{recordOf}
+use Rattle.columns_places.specs.Places.{recordOf}
 use Rattle.columns.specs.Fields.{fieldsOf}
-use Rattle.record.specs.Identifier.{identifierOf}
+use Rattle.record_names.specs.Identifier.{identifierOf}
 use Rattle.rules_roles.specs.declared.fault.Fault.{Fault}
 use Rattle.rules_roles.specs.declared.fault.Fault.the-variants.{Fine, At}
 use Rattle.rules_state.specs.State.{Context, startContext}

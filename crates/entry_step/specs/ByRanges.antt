@@ -7,9 +7,10 @@ use mathlib.Core.List.{List, _++_}
 use lib.ListN.{length, take}
 use Rattle.laws.specs.Turns.{Turn, go, out, run}
 use Rattle.laws.specs.Blocks.{blockAt}
-use Rattle.columns.specs.Columns.{Whole, recordOf}
+use Rattle.columns.specs.Columns.{Whole}
+use Rattle.columns_places.specs.Places.{recordOf}
 use Rattle.columns.specs.Fields.{fieldsOf}
-use Rattle.columns.specs.declared.columns.RecordNo.{RecordNo}
+use Rattle.columns_places.specs.declared.places.RecordNo.{RecordNo}
 use Rattle.rules_state.specs.declared.state.Phase.the-variants.{Start}
 use Rattle.rules_roles.specs.declared.ranging.Range.{Range}
 use Rattle.rules_roles.specs.declared.fault.Fault.{Fault}

@@ -7,7 +7,7 @@ use mathlib.Core.List.{List, []}
 use lib.ListN.{length, getD}
 use Rattle.laws.specs.Blocks.{blockAt}
 use Rattle.columns.specs.Fields.{fieldsOf}
-use Rattle.record.specs.Identifier.{identifierOf}
+use Rattle.record_names.specs.Identifier.{identifierOf}
 use Rattle.rules_state.specs.Role.{roleIn}
 use Rattle.entry_step.specs.declared.step.Judge.{Judge}
 use Rattle.entry_step.specs.declared.pass.Passed.{Passed}

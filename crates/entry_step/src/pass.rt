@@ -5,14 +5,14 @@ ghost use Prim.Native.Nat.{_+_, _-_, _*_, _/_, _<_};
 ghost use lib.ListN.{length};
 ghost use Rattle.number.specs.Form.{Tables};
 ghost use Rattle.columns.specs.Columns.{Whole};
-ghost use Rattle.record.specs.Identifier.{NamesLent};
+ghost use Rattle.record_names.specs.Identifier.{NamesLent};
 ghost use Rattle.rules_state.specs.Limits.{MOST-RECORDS};
 ghost use Rattle.rules_state.specs.Ranging.{Bounded};
 ghost use Rattle.entry_step.specs.Pass.{passOf, Walking, PassedAt};
 use crate::step::Judge;
 use columns::fields::fields;
-use record::identifier::Names;
-use record::identifier::identifier_of;
+use record_names::identifier::Names;
+use record_names::identifier::identifier_of;
 use rules_values::values::values;
 
 // The role of a record, and the state after it.

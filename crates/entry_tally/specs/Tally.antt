@@ -4,7 +4,7 @@ use mathlib.Core.Bool.{Bool, true, cond, _&&_}
 use mathlib.Core.List.{List}
 use lib.Dec.{eqb, leb}
 use Rattle.record_words.specs.Word.{blankTo}
-use Rattle.columns.specs.declared.columns.LineNo.{LineNo}
+use Rattle.columns_places.specs.declared.places.LineNo.{LineNo}
 use Rattle.rules_state.specs.declared.state.Totals.{Totals}
 use Rattle.rules_state.specs.declared.state.Bib.{Bib}
 use Rattle.rules_state.specs.declared.state.Table.{Table}

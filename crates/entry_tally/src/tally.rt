@@ -8,7 +8,7 @@ ghost use Rattle.rules_state.specs.Ranging.{Bounded};
 ghost use Rattle.entry_tally.specs.Tally.{oneSubentry, oneKeyword, moreNumbers, openSubentry, openBib, openTable};
 ghost use Rattle.entry_tally.specs.Tally.{textRead, nextRow, sameRow, headingsRead, unitsRead, valuesRead};
 ghost use Rattle.entry_tally.specs.Tally.{linesRead, numbersRead};
-use columns::columns::LineNo;
+use columns_places::places::LineNo;
 use record_words::word::is_keyword_blank;
 use rules_roles::roles::DATA_VALUE;
 use rules_state::state::Bib;

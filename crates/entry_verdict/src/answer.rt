@@ -2,7 +2,7 @@
 ghost use mathlib.Core.Path.{_≡_};
 ghost use Rattle.entry_verdict.specs.Answer.{answerOf, answerFor};
 use crate::verdict::Verdict;
-use columns::columns::RecordNo;
+use columns_places::places::RecordNo;
 
 // 0 done, else document 01's number; beside 31 the entry's own refusal with its record and column, zeros with any other.
 pub struct Answer {

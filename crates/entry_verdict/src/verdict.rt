@@ -2,7 +2,7 @@
 ghost use mathlib.Core.Path.{_≡_};
 ghost use Prim.Native.Nat.{_-_, _<_};
 ghost use Rattle.entry_verdict.specs.Verdict.{refused, isDone, lengthGood};
-use columns::columns::RecordNo;
+use columns_places::places::RecordNo;
 use rules_state::state::Phase;
 use rules_state::state::Totals;
 

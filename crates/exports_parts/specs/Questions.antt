@@ -16,9 +16,9 @@ use Rattle.number.specs.Grammar.{blanks}
 use Rattle.number.specs.declared.value.Reading.the-variants.{Blank}
 use Rattle.entry_verdict.specs.declared.answer.Answer.{Answer}
 use Rattle.entry_verdict.specs.Answer.{answerOf}
-use Rattle.questions_answers.specs.declared.answers.ValueAnswer.{ValueAnswer}
-use Rattle.questions_answers.specs.declared.answers.PartAnswer.{PartAnswer}
-use Rattle.questions_answers.specs.Answers.{noPart}
+use Rattle.questions_values.specs.declared.answers.ValueAnswer.{ValueAnswer}
+use Rattle.questions_parts.specs.declared.answers.PartAnswer.{PartAnswer}
+use Rattle.questions_parts.specs.Answers.{noPart}
 use Rattle.exports_words.specs.Words.{answerIn, lentAfter}
 use Rattle.exports_words.specs.Values.{readingAnswer, readingStored, readingIn}
 

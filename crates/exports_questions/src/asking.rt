@@ -3,7 +3,7 @@ ghost use mathlib.Core.Path.{_≡_};
 ghost use Rattle.questions.specs.Ask.{valueAsked, headingAsked, unitAsked, passageAsked};
 ghost use Rattle.exports_words.specs.Words.{answerWord};
 ghost use Rattle.exports_parts.specs.Questions.{valueAnswer, valueStored, partStored, keywordPlace};
-use columns::columns::LineNo;
+use columns_places::places::LineNo;
 use exports_parts::parts::keyword_place;
 use exports_parts::parts::put_part;
 use exports_parts::parts::put_value;

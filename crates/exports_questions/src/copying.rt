@@ -1,7 +1,7 @@
 // The canonical copy, for host programs.
 ghost use mathlib.Core.Path.{_≡_};
 ghost use lib.ListN.{length};
-ghost use Rattle.copy.specs.Call.{copied, storedCopy};
+ghost use Rattle.copy_laws.specs.Call.{copied, storedCopy};
 ghost use Rattle.exports_words.specs.Words.{answerWord};
 use copy::copy::copy;
 use entry_verdict::answer::Answer;

@@ -10,7 +10,7 @@ use lib.ListN.{length, length-append}
 use borrow.Author.Tests.{eqb-true, eq-eqb, ne-eqb}
 use Rattle.laws.proofs.Booleans.{differ}
 use Rattle.laws.specs.Walk.{All}
-use Rattle.record.specs.Identifier.{SUBENT, NOSUBENT, ENDENTRY}
+use Rattle.record_names.specs.Identifier.{SUBENT, NOSUBENT, ENDENTRY}
 use Rattle.rules_state.specs.declared.state.Phase.the-variants.{Between, Done}
 use Rattle.rules_state.specs.declared.state.Totals.{Totals}
 use Rattle.rules_state.specs.State.{Context}

@@ -8,7 +8,7 @@ use lib.ListN.{length, length-append}
 use borrow.Author.Tests.{eq-eqb, leb-true, le-leb}
 use Rattle.laws.specs.Blocks.{joined}
 use Rattle.columns.specs.Fields.{fieldsOf, n1}
-use Rattle.record.specs.Identifier.{BIB, NOBIB, ENDBIB}
+use Rattle.record_names.specs.Identifier.{BIB, NOBIB, ENDBIB}
 use Rattle.rules_state.specs.declared.state.Phase.the-variants.{InSubentry, InBib, AfterBib}
 use Rattle.rules_state.specs.State.{Context}
 use Rattle.rules_roles.specs.Roles.{TEXT}

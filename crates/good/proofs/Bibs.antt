@@ -9,9 +9,9 @@ use lib.ListN.{length}
 use borrow.Author.Tests.{eqb-true}
 use Rattle.laws.specs.Blocks.{joined}
 use Rattle.columns.specs.Fields.{fieldsOf, n1, n2}
-use Rattle.record.specs.Identifier.{BIB, NOBIB, ENDBIB}
+use Rattle.record_names.specs.Identifier.{BIB, NOBIB, ENDBIB}
 use Rattle.record_words.specs.Word.{equalTo}
-use Rattle.record.specs.Plain.{SameColumns}
+use Rattle.record_words.specs.Same.{SameColumns}
 use Rattle.record.proofs.PlainColumns.{equal-exactly}
 use Rattle.rules_state.specs.declared.state.Phase.the-variants.{InSubentry}
 use Rattle.rules_state.specs.State.{Context}

@@ -6,7 +6,7 @@ use mathlib.Core.List.{List, [], _∷_, _++_}
 use native.Mathlib.Omega.{arith}
 use native.Mathlib.Nat.{zero-add}
 use lib.ListN.{length}
-use Rattle.record.specs.Identifier.{ENTRY}
+use Rattle.record_names.specs.Identifier.{ENTRY}
 use Rattle.record_expected.specs.Expected.{accessionOf}
 use Rattle.rules_state.specs.declared.state.Phase.the-variants.{Start}
 use Rattle.rules_state.specs.State.{Context, startContext}

@@ -8,7 +8,7 @@ use lib.ListN.{length, length-append}
 use borrow.Author.Tests.{eq-eqb}
 use Rattle.laws.specs.Blocks.{joined}
 use Rattle.laws.specs.Members.{listOf}
-use Rattle.record.specs.Identifier.{SUBENT, ENDSUBENT}
+use Rattle.record_names.specs.Identifier.{SUBENT, ENDSUBENT}
 use Rattle.rules_state.specs.declared.state.Phase.the-variants.{Opened}
 use Rattle.rules_state.specs.State.{Context}
 use Rattle.rules_state.specs.Role.{only, roleIn}

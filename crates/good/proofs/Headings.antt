@@ -13,10 +13,11 @@ use Rattle.laws.specs.Walk.{All}
 use Rattle.laws.specs.Blocks.{joined}
 use Rattle.laws.specs.Members.{anyOf}
 use Rattle.laws.proofs.Search.{either}
-use Rattle.columns.specs.Columns.{recordsFor}
+use Rattle.columns_places.specs.Places.{recordsFor}
 use Rattle.columns.specs.Fields.{fieldAt, fieldsOf, inField}
 use Rattle.columns.specs.Text.{isBlank}
-use Rattle.record_words.specs.Word.{isWord, blankTo, pointerOf, pointerFault, headingFault}
+use Rattle.record_words.specs.Word.{isWord, blankTo, pointerOf}
+use Rattle.record_faults.specs.Faults.{pointerFault, headingFault}
 use Rattle.record.proofs.PlainColumns.{blank-exactly, word-exactly, pointer-exactly}
 use Rattle.rules_state.specs.State.{Context, used}
 use Rattle.rules_roles.specs.Roles.{DATA-HEADING, NOT-DUE, isHeading}

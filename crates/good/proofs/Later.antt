@@ -9,7 +9,7 @@ use Rattle.laws.proofs.Booleans.{differ}
 use Rattle.laws.proofs.Listing.{all-left, all-places, all-right, places-all}
 use Rattle.laws.specs.Walk.{All}
 use Rattle.record_words.specs.Word.{pointerOf}
-use Rattle.record.specs.Identifier.{SUBENT, ENDSUBENT}
+use Rattle.record_names.specs.Identifier.{SUBENT, ENDSUBENT}
 use Rattle.record_expected.specs.Expected.{identificationFor}
 use Rattle.rules_state.specs.State.{Context}
 use Rattle.rules_state.specs.Limits.{LAST-SUBENTRY}

@@ -13,7 +13,7 @@ use Rattle.laws.specs.Blocks.{joined}
 use Rattle.laws.specs.Members.{anyOf}
 use Rattle.columns.specs.Text.{isBlank}
 use Rattle.record_words.specs.Word.{equalTo}
-use Rattle.record.specs.Identifier.{SUBENT, ENDSUBENT}
+use Rattle.record_names.specs.Identifier.{SUBENT, ENDSUBENT}
 use Rattle.record_expected.specs.Expected.{identificationFor}
 use Rattle.rules_state.specs.State.{Context}
 use Rattle.rules_pointers.specs.Pointers.{pointersFor as pointersSeen}

@@ -7,7 +7,7 @@ use mathlib.Core.List.{List, [], _∷_, _++_, append-assoc}
 use native.Mathlib.Omega.{arith}
 use lib.ListN.{length, length-append}
 use Rattle.laws.specs.Walk.{All}
-use Rattle.columns.specs.Columns.{recordsFor}
+use Rattle.columns_places.specs.Places.{recordsFor}
 use Rattle.rules_state.specs.State.{Context}
 use Rattle.entry_verdict.specs.Verdict.{isDone}
 use Rattle.rules_plain.specs.Places.{concat}

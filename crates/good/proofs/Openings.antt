@@ -9,8 +9,8 @@ use borrow.Author.Tests.{not-false, eqb-true, eq-eqb, ne-eqb, ltb-true, lt-ltb, 
 use Rattle.laws.proofs.Booleans.{differ, and-left, and-right}
 use Rattle.columns.specs.Fields.{fieldsOf, n1, n2}
 use Rattle.record_words.specs.Word.{equalTo}
-use Rattle.record.specs.Identifier.{ENTRY, SUBENT, NOSUBENT, ENDSUBENT, ENDENTRY}
-use Rattle.record.proofs.NameTable.{end-letters}
+use Rattle.record_names.specs.Identifier.{ENTRY, SUBENT, NOSUBENT, ENDSUBENT, ENDENTRY}
+use Rattle.record_names.proofs.NameTable.{end-letters}
 use Rattle.record.specs.System.{isSubentN1, isDate}
 use Rattle.record_expected.specs.Expected.{accessionOf, identificationFor, subentAccession, subentIdentification}
 use Rattle.record.proofs.PlainColumns.{and-both, equal-exactly}

@@ -9,7 +9,7 @@ use Rattle.laws.specs.Members.{anyOf}
 use Rattle.laws.specs.Walk.{All}
 use Rattle.laws.proofs.Booleans.{differ}
 use Rattle.record_words.specs.Word.{equalTo}
-use Rattle.record.specs.Plain.{SameColumns}
+use Rattle.record_words.specs.Same.{SameColumns}
 use Rattle.record.proofs.PlainColumns.{equal-exactly}
 use Rattle.good.specs.Marks.{Once}
 use Rattle.good.specs.Subentries.{NoneTwice}

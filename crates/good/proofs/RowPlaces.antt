@@ -8,9 +8,9 @@ use native.Mathlib.Omega.{arith}
 use lib.Dec.{eqb}
 use lib.ListN.{length}
 use borrow.Author.Tests.{le-leb, lt-leb, le-ltb, lt-ltb}
-use Rattle.columns.specs.Columns.{recordsFor}
-use Rattle.record.specs.Identifier.{isEnd}
-use Rattle.columns.specs.declared.columns.LineNo.{LineNo}
+use Rattle.columns_places.specs.Places.{recordsFor}
+use Rattle.record_names.specs.Identifier.{isEnd}
+use Rattle.columns_places.specs.declared.places.LineNo.{LineNo}
 use Rattle.rules_state.specs.declared.state.Phase.the-variants.{InCommon, InData}
 use Rattle.rules_state.specs.declared.state.Table.{Table}
 use Rattle.rules_state.specs.State.{Context}

@@ -7,8 +7,8 @@ use mathlib.Core.List.{List, _++_}
 use native.Mathlib.Omega.{arith}
 use lib.Dec.{eqb, leb}
 use Rattle.columns.specs.Fields.{fieldsOf}
-use Rattle.record.specs.Identifier.{ENDCOMMON, ENDDATA}
-use Rattle.columns.specs.declared.columns.LineNo.{LineNo}
+use Rattle.record_names.specs.Identifier.{ENDCOMMON, ENDDATA}
+use Rattle.columns_places.specs.declared.places.LineNo.{LineNo}
 use Rattle.rules_state.specs.declared.state.Phase.{Phase}
 use Rattle.rules_state.specs.declared.state.Phase.the-variants.{InCommon, InData}
 use Rattle.rules_state.specs.State.{Context, HEADINGS, UNITS, VALUES}

@@ -10,7 +10,7 @@ use lib.ListN.{length}
 use borrow.Author.Tests.{le-leb, lt-leb}
 use Rattle.laws.specs.Walk.{All}
 use Rattle.laws.specs.Blocks.{joined}
-use Rattle.columns.specs.Columns.{recordsFor}
+use Rattle.columns_places.specs.Places.{recordsFor}
 use Rattle.rules_state.specs.declared.state.Table.{Table}
 use Rattle.rules_state.specs.State.{Context}
 use Rattle.rules_every.specs.Every.{expectedIdentification, expectedSequence}

@@ -22,7 +22,7 @@ use Rattle.rules.proofs.NoColumns.{when-none, where-none, none-where}
 use Rattle.rules.proofs.Clean.{fine-clean, clean-fine}
 use Rattle.entry_next.specs.Next.{contextAfter}
 use Rattle.entry_judging.specs.Judging.{roleOf, turnOf}
-use Rattle.entry.proofs.GoingOn.{go-fine, fine-go}
+use Rattle.entry_walk.proofs.GoingOn.{go-fine, fine-go}
 use Rattle.good.specs.Parts.{Record}
 use Rattle.good.specs.Marks.{Marked}
 

@@ -12,7 +12,7 @@ use Rattle.laws.specs.Walk.{All}
 use Rattle.laws.specs.Blocks.{joined}
 use Rattle.laws.specs.Members.{listOf}
 use Rattle.columns.specs.Fields.{fieldsOf, n1}
-use Rattle.record.specs.Identifier.{ENDSUBENT}
+use Rattle.record_names.specs.Identifier.{ENDSUBENT}
 use Rattle.record_expected.specs.Expected.{identificationFor}
 use Rattle.rules_state.specs.declared.state.Phase.the-variants.{AfterBib, AfterCommon, AfterData, Between}
 use Rattle.rules_state.specs.State.{Context}

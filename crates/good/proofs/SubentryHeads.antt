@@ -11,7 +11,7 @@ use Rattle.laws.specs.Walk.{All}
 use Rattle.laws.specs.Blocks.{joined}
 use Rattle.laws.specs.Members.{listOf}
 use Rattle.record_words.specs.Word.{equalTo}
-use Rattle.record.specs.Identifier.{SUBENT}
+use Rattle.record_names.specs.Identifier.{SUBENT}
 use Rattle.record_expected.specs.Expected.{identificationFor}
 use Rattle.rules_state.specs.declared.state.Phase.the-variants.{InSubentry, AfterCommon}
 use Rattle.rules_state.specs.State.{Context}

@@ -8,9 +8,9 @@ use lib.Dec.{leb}
 use lib.ListN.{length}
 use borrow.Author.Tests.{leb-true, le-leb}
 use Rattle.laws.proofs.Booleans.{and-left, and-right, differ}
-use Rattle.columns.specs.Columns.{recordsFor}
+use Rattle.columns_places.specs.Places.{recordsFor}
 use Rattle.columns.specs.Fields.{fieldsOf, n2}
-use Rattle.record.specs.Identifier.{COMMON, NOCOMMON, DATA, NODATA}
+use Rattle.record_names.specs.Identifier.{COMMON, NOCOMMON, DATA, NODATA}
 use Rattle.rules_state.specs.declared.state.Phase.{Phase}
 use Rattle.rules_state.specs.declared.state.Phase.the-variants.{AfterCommon, AfterData}
 use Rattle.rules_state.specs.State.{Context}

@@ -12,7 +12,7 @@ use Rattle.laws.specs.Blocks.{joined}
 use Rattle.columns.specs.Fields.{fieldsOf}
 use Rattle.columns.proofs.ReadColumns.{field-of}
 use Rattle.record_words.specs.Word.{blankTo}
-use Rattle.record.specs.Identifier.{OTHER}
+use Rattle.record_names.specs.Identifier.{OTHER}
 use Rattle.rules_state.specs.declared.state.Phase.the-variants.{InBib}
 use Rattle.rules_state.specs.State.{Context}
 use Rattle.rules_roles.specs.Roles.{TEXT, NOT-DUE}

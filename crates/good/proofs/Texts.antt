@@ -16,7 +16,8 @@ use Rattle.laws.specs.Members.{anyOf}
 use Rattle.columns.specs.Fields.{fieldsOf}
 use Rattle.columns.proofs.ReadColumns.{field-of}
 use Rattle.columns.specs.Text.{isBlank}
-use Rattle.record_words.specs.Word.{blankTo, equalTo, isWord, pointerOf, badPointer}
+use Rattle.record_words.specs.Word.{blankTo, equalTo, isWord, pointerOf}
+use Rattle.record_faults.specs.Faults.{badPointer}
 use Rattle.record_expected.specs.Expected.{identificationFor}
 use Rattle.rules_state.specs.State.{Context}
 use Rattle.rules_roles.specs.Roles.{TEXT}

@@ -22,7 +22,7 @@ use Rattle.rules_state.specs.Limits.{MOST-RECORDS}
 use Rattle.entry_verdict.specs.declared.verdict.Verdict.{Verdict}
 use Rattle.entry_judging.specs.Judging.{roleOf, turnOf, endOf, judgeOf}
 use Rattle.entry_verdict.specs.Verdict.{refused, accepted, isDone, lengthGood}
-use Rattle.entry.proofs.GoingOn.{done-of, out-refused}
+use Rattle.entry_walk.proofs.GoingOn.{done-of, out-refused}
 use Rattle.entry_step.proofs.Numbered.{whole-records}
 use Rattle.rules_plain.specs.Places.{Long}
 use Rattle.good.specs.Parts.{Record, recordsOf}

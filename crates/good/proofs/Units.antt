@@ -10,9 +10,10 @@ use borrow.Author.Tests.{lt-ltb, le-ltb, not-false}
 use lib.Dec.{eqb}
 use Rattle.laws.specs.Walk.{All}
 use Rattle.laws.proofs.Search.{either}
-use Rattle.columns.specs.Columns.{recordsFor}
+use Rattle.columns_places.specs.Places.{recordsFor}
 use Rattle.columns.specs.Fields.{fieldAt, fieldsOf, inField}
-use Rattle.record_words.specs.Word.{isUnitWord, unitFault, blankTo}
+use Rattle.record_words.specs.Word.{blankTo}
+use Rattle.record_faults.specs.Faults.{isUnitWord, unitFault}
 use Rattle.record.proofs.PlainColumns.{blank-exactly, unit-exactly}
 use Rattle.rules_state.specs.State.{Context, used}
 use Rattle.rules_roles.specs.Roles.{NOT-DUE, isUnit as unitRole}

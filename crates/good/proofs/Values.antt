@@ -16,7 +16,7 @@ use Rattle.laws.specs.Walk.{All}
 use Rattle.laws.proofs.Search.{either, pass-first}
 use Rattle.number.specs.declared.form.Form.{Form}
 use Rattle.number.specs.declared.form.Form.the-variants as Form
-use Rattle.columns.specs.Columns.{recordsFor}
+use Rattle.columns_places.specs.Places.{recordsFor}
 use Rattle.columns.specs.Fields.{fieldAt, fieldsOf, inField, firstField}
 use Rattle.record_values.specs.Numbers.{formAt, saysBlank, saysNumber, noValue, valueFault, isNumberAt, valuesOf}
 use Rattle.record.proofs.PlainColumns.{not-none}

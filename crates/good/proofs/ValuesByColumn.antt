@@ -12,7 +12,7 @@ use borrow.Author.Tests.{le-leb, lt-leb}
 use Rattle.laws.proofs.Booleans.{differ}
 use Rattle.laws.proofs.Counting.{many-same, many-split}
 use Rattle.laws.specs.Search.{howMany}
-use Rattle.columns.specs.Columns.{recordsFor}
+use Rattle.columns_places.specs.Places.{recordsFor}
 use Rattle.record_values.specs.Numbers.{formAt, saysNumber}
 use Rattle.rules_state.specs.State.{Context, used}
 use Rattle.rules_plain.specs.Places.{cell}

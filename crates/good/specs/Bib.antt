@@ -6,8 +6,9 @@ use lib.ListN.{length}
 use Rattle.laws.specs.Walk.{All}
 use Rattle.columns.specs.Fields.{fieldsOf, n1, n2}
 use Rattle.record_words.specs.Word.{pointerOf}
-use Rattle.record.specs.Identifier.{BIB, NOBIB, ENDBIB, OTHER}
-use Rattle.record.specs.Plain.{SameColumns, Word, PointerOrBlank}
+use Rattle.record_names.specs.Identifier.{BIB, NOBIB, ENDBIB, OTHER}
+use Rattle.record_words.specs.Same.{SameColumns}
+use Rattle.record.specs.Plain.{Word, PointerOrBlank}
 use Rattle.rules_plain.specs.Places.{bibPlace, pointersIn}
 use Rattle.rules_plain.specs.Texts.{NoKeyword, SamePointer}
 use Rattle.good.specs.Parts.{Record, Keyword, Bib, Section, present, absent, textsOf}

@@ -6,7 +6,7 @@ use lib.ListN.{length}
 use Rattle.laws.specs.Walk.{All}
 use Rattle.laws.specs.Blocks.{joined}
 use Rattle.columns.specs.Fields.{fieldsOf, n1, n2}
-use Rattle.record.specs.Identifier.{ENTRY, ENDENTRY}
+use Rattle.record_names.specs.Identifier.{ENTRY, ENDENTRY}
 use Rattle.record.specs.Plain.{Date, EntryN1}
 use Rattle.record_expected.specs.Expected.{accessionOf, identificationFor, entryAccession}
 use Rattle.rules_state.specs.Limits.{MOST-RECORDS}

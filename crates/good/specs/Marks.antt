@@ -9,9 +9,10 @@ use Rattle.laws.specs.Walk.{All}
 use Rattle.columns.specs.Columns.{hasLineFeed}
 use Rattle.classes.specs.Class.{isPermitted}
 use Rattle.columns.specs.Fields.{fieldAt}
-use Rattle.record.specs.Identifier.{identifierOf}
+use Rattle.record_names.specs.Identifier.{identifierOf}
 use Rattle.record_expected.specs.Expected.{identificationOf, sequenceOf, inDigits}
-use Rattle.record.specs.Plain.{SameColumns, CountSays}
+use Rattle.record_words.specs.Same.{SameColumns}
+use Rattle.record.specs.Plain.{CountSays}
 use Rattle.good.specs.Parts.{Record}
 
 -- ---- every record

@@ -6,9 +6,10 @@ use lib.ListN.{length}
 use Rattle.laws.specs.Walk.{All}
 use Rattle.columns.specs.Fields.{fieldsOf, n1, n2}
 use Rattle.record_words.specs.Word.{pointerOf}
-use Rattle.record.specs.Identifier.{SUBENT, NOSUBENT, ENDSUBENT}
+use Rattle.record_names.specs.Identifier.{SUBENT, NOSUBENT, ENDSUBENT}
 use Rattle.record.specs.System.{subentryOf}
-use Rattle.record.specs.Plain.{SameColumns, Date, SubentN1}
+use Rattle.record_words.specs.Same.{SameColumns}
+use Rattle.record.specs.Plain.{Date, SubentN1}
 use Rattle.record_expected.specs.Expected.{identificationFor, subentIdentification, subentAccession}
 use Rattle.rules_state.specs.Limits.{LAST-SUBENTRY}
 use Rattle.rules_plain.specs.Places.{Some, pointersIn, pointersOn}

@@ -7,10 +7,10 @@ use lib.ListN.{length}
 use Rattle.laws.specs.Search.{howMany}
 use Rattle.laws.specs.Members.{listOf}
 use Rattle.laws.specs.Walk.{All}
-use Rattle.columns.specs.Columns.{recordsFor}
+use Rattle.columns_places.specs.Places.{recordsFor}
 use Rattle.columns.specs.Fields.{fieldsOf, n1, n2}
 use Rattle.record_words.specs.Word.{pointerOf}
-use Rattle.record.specs.Identifier.{COMMON, NOCOMMON, ENDCOMMON, DATA, NODATA, ENDDATA, isEnd}
+use Rattle.record_names.specs.Identifier.{COMMON, NOCOMMON, ENDCOMMON, DATA, NODATA, ENDDATA, isEnd}
 use Rattle.record.specs.System.{countOf, numberOf}
 use Rattle.record_values.specs.Numbers.{formAt, saysNumber}
 use Rattle.record.specs.Plain.{BlankColumns, Word, UnitWord, PointerOrBlank, AllBlank, NumberField, NumberOrBlank}

@@ -10,17 +10,17 @@ use lib.Dec.{eqb}
 use lib.ListN.{length, getD}
 use borrow.Author.Tests.{eqb-true, ne-eqb, le-leb}
 use Rattle.laws.specs.Blocks.{blockAt}
-use Rattle.columns.specs.Columns.{recordsFor, placeOf}
+use Rattle.columns_places.specs.Places.{recordsFor, placeOf}
 use Rattle.columns.specs.Fields.{fieldsOf}
 use Rattle.columns.specs.Text.{within}
 use Rattle.record_values.specs.Numbers.{noValue}
 use Rattle.number.specs.Form.{formOf}
-use Rattle.record.specs.Identifier.{COMMON, DATA}
+use Rattle.record_names.specs.Identifier.{COMMON, DATA}
 use Rattle.record.specs.System.{upTo}
-use Rattle.columns.specs.declared.columns.RecordNo.{RecordNo}
-use Rattle.columns.specs.declared.columns.LineNo.{LineNo}
-use Rattle.columns.specs.declared.columns.Place.{Place}
-use Rattle.columns.proofs.TablePlaces.{place-at, place-field}
+use Rattle.columns_places.specs.declared.places.RecordNo.{RecordNo}
+use Rattle.columns_places.specs.declared.places.LineNo.{LineNo}
+use Rattle.columns_places.specs.declared.places.Place.{Place}
+use Rattle.columns_places.proofs.TablePlaces.{place-at, place-field}
 use Rattle.number.specs.Reading.{readField}
 use Rattle.number.specs.declared.value.Reading.{Reading}
 use Rattle.number.specs.declared.value.Reading.the-variants.{Blank, Number, Refused}
@@ -30,7 +30,7 @@ use Rattle.rules_state.specs.Limits.{MOST-COLUMNS, MOST-LINES}
 use Rattle.entry_judging.specs.Judging.{roleOf, judgeOf, Accepted}
 use Rattle.rules.proofs.DueRecords.{fine-due}
 use Rattle.rules.proofs.WithoutFault.{fine-reads}
-use Rattle.entry.proofs.GoingOn.{go-fine}
+use Rattle.entry_walk.proofs.GoingOn.{go-fine}
 use Rattle.entry_judging.specs.Contexts.{contextAt, roleAt}
 use Rattle.entry_verdict.specs.Answer.{firstOf, refusal}
 use Rattle.questions_noted.specs.declared.row.Row.{Row}
@@ -40,13 +40,14 @@ use Rattle.questions_places.specs.Place.{COMMON-SECTION, DATA-SECTION, fieldsAt
 use Rattle.questions_places.specs.Place.{fieldOf, byteOf}
 use Rattle.questions_refusals.specs.Refused.{sectionIn, noSection, noLine, noColumn, sectionRefusals, valueRefusal}
 use Rattle.questions_refusals.specs.Refused.{columnRefusal}
-use Rattle.questions_answers.specs.Answers.{valueBy, headingBy, unitBy}
+use Rattle.questions_values.specs.Answers.{valueBy}
+use Rattle.questions_parts.specs.Answers.{headingBy, unitBy}
 use Rattle.questions.specs.Ask.{valueAsked, headingAsked, unitAsked}
 use Rattle.inside.specs.Inside.{OpensSection, isSaid, ValueAnswered, HeadingAnswered, UnitAnswered}
 use Rattle.questions_refusals.proofs.InOrder.{section-none}
-use Rattle.entry.proofs.AcceptedWalk.{walked}
-use Rattle.inside.proofs.Laid.{rowRole}
-use Rattle.inside.proofs.TableLaid.{table-laid, sectionRole, linesOf, Opened, opened}
+use Rattle.entry_walk.proofs.AcceptedWalk.{walked}
+use Rattle.entry_walk.proofs.Laid.{rowRole}
+use Rattle.entry_walk.proofs.TableLaid.{table-laid, sectionRole, linesOf, Opened, opened}
 use Rattle.questions_rows.proofs.RowChanges.{Section, common, table, opener, named}
 use Rattle.inside.proofs.RowWalked.{fields-at}
 use Rattle.inside.proofs.RowFound.{Opening, row-names, row-subent, row-fields}

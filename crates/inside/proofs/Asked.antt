@@ -9,8 +9,8 @@ use lib.Dec.{eqb}
 use borrow.Author.Tests.{eqb-true}
 use Rattle.laws.specs.Blocks.{blockAt}
 use Rattle.columns.specs.Fields.{fieldsOf}
-use Rattle.columns.specs.declared.columns.LineNo.{LineNo}
-use Rattle.columns.specs.declared.columns.RecordNo.{RecordNo}
+use Rattle.columns_places.specs.declared.places.LineNo.{LineNo}
+use Rattle.columns_places.specs.declared.places.RecordNo.{RecordNo}
 use Rattle.entry_judging.specs.Judging.{judgeOf, Accepted}
 use Rattle.entry_verdict.specs.Answer.{refusal}
 use Rattle.entry_verdict.proofs.Answers.{answer-number}
@@ -18,14 +18,15 @@ use Rattle.questions_noted.specs.Row.{NONE}
 use Rattle.questions_rows.specs.Row.{rowOf}
 use Rattle.questions_places.specs.Place.{COMMON-SECTION, DATA-SECTION, shapeOf}
 use Rattle.questions_refusals.specs.Refused.{sectionIn, InShape, noLine, noColumn, valueRefusal, columnRefusal}
-use Rattle.questions_answers.specs.Answers.{valueBy, headingBy, unitBy}
+use Rattle.questions_values.specs.Answers.{valueBy}
+use Rattle.questions_parts.specs.Answers.{headingBy, unitBy}
 use Rattle.questions.specs.Ask.{valueAsked, headingAsked, unitAsked}
-use Rattle.questions_answers.proofs.Parts.{part-number}
+use Rattle.questions_parts.proofs.Parts.{part-number}
 use Rattle.questions_refusals.proofs.InOrder.{value-inside, column-inside}
 use Rattle.questions_rows.proofs.RowChanges.{common, table}
 use Rattle.inside.specs.Inside.{OpensSection, InsideColumn, InsideValue, linesAnnounced}
 use Rattle.inside.specs.Asked.{ValueInside, HeadingInside, UnitInside, AnsweredSaid, AnsweredTen}
-use Rattle.inside.proofs.TableLaid.{linesOf}
+use Rattle.entry_walk.proofs.TableLaid.{linesOf}
 use Rattle.inside.proofs.RowFound.{Opening}
 use Rattle.inside.proofs.TextLaid.{row-opening}
 use Rattle.inside.proofs.Answered.{sectionNo, sectionOf, shape-columns, shape-lines, value-answered}

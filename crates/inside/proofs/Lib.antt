@@ -1,5 +1,3 @@
-pub mod Laid
-pub mod TableLaid
 pub mod Nesting
 pub mod RowWalked
 pub mod RowFound

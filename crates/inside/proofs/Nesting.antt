@@ -11,8 +11,8 @@ use borrow.Author.Tests.{eqb-true, leb-true, ltb-true}
 use Rattle.laws.specs.Turns.{go}
 use Rattle.laws.proofs.Booleans.{and-left, and-right, or-other, either-as}
 use Rattle.columns.specs.Fields.{fieldsOf, n1}
-use Rattle.record.specs.Identifier.{ENTRY, SUBENT, NOSUBENT, BIB, NOBIB, ENDBIB, COMMON, NOCOMMON, ENDCOMMON, DATA}
-use Rattle.record.specs.Identifier.{NODATA, ENDDATA, ENDSUBENT, ENDENTRY, OTHER, identifierOf, isEnd}
+use Rattle.record_names.specs.Identifier.{ENTRY, SUBENT, NOSUBENT, BIB, NOBIB, ENDBIB, COMMON, NOCOMMON, ENDCOMMON, DATA}
+use Rattle.record_names.specs.Identifier.{NODATA, ENDDATA, ENDSUBENT, ENDENTRY, OTHER, identifierOf, isEnd}
 use Rattle.record.specs.System.{subentryOf}
 use Rattle.record_words.specs.Word.{blankTo}
 use Rattle.rules_state.specs.declared.state.Phase.{Phase}
@@ -30,7 +30,7 @@ use Rattle.entry_tally.specs.Tally.{textRead}
 use Rattle.entry_counted.specs.Counted.{afterSystem, afterInside, trackAfter}
 use Rattle.entry_next.specs.Next.{contextAfter}
 use Rattle.entry_judging.specs.Judging.{roleOf, turnOf}
-use Rattle.entry.proofs.GoingOn.{go-fine}
+use Rattle.entry_walk.proofs.GoingOn.{go-fine}
 
 -- ---- ranks
 

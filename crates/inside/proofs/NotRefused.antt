@@ -9,15 +9,15 @@ use native.Mathlib.Omega.{arith}
 use lib.Dec.{eqb, leb}
 use lib.ListN.{length}
 use borrow.Author.Tests.{eqb-true, eqb-false}
-use Rattle.columns.specs.declared.columns.RecordNo.{RecordNo}
+use Rattle.columns_places.specs.declared.places.RecordNo.{RecordNo}
 use Rattle.entry_verdict.specs.declared.verdict.Verdict.{Verdict}
 use Rattle.entry_judging.specs.Judging.{judgeOf, Accepted}
 use Rattle.entry_verdict.specs.Answer.{Refusal, refusal, firstOf, isRefused, answerOf, answerFor}
 use Rattle.entry_verdict.proofs.Answers.{answer-number}
 use Rattle.questions_noted.specs.declared.row.Row.{Row}
-use Rattle.questions_answers.specs.declared.answers.PartAnswer.{PartAnswer}
+use Rattle.questions_parts.specs.declared.answers.PartAnswer.{PartAnswer}
 use Rattle.questions_refusals.specs.Refused.{isSubent, noSection, sectionRefusals}
-use Rattle.questions_answers.specs.Answers.{noPart, partWith}
+use Rattle.questions_parts.specs.Answers.{noPart, partWith}
 
 -- ---- a part that is handed back, or not
 

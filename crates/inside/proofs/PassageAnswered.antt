@@ -14,19 +14,19 @@ use Rattle.laws.proofs.Search.{first-from, first-to}
 use Rattle.laws.proofs.Counting.{first-before, first-past, first-holds, first-is}
 use Rattle.columns.specs.Text.{isBlank}
 use Rattle.record_words.specs.Word.{equalTo, pointerOf}
-use Rattle.columns.specs.declared.columns.RecordNo.{RecordNo}
+use Rattle.columns_places.specs.declared.places.RecordNo.{RecordNo}
 use Rattle.record_words.proofs.EqualColumns.{equal-both, equal-taken}
 use Rattle.rules_text.specs.Text.{placeInPart}
 use Rattle.entry_judging.specs.Judging.{judgeOf, Accepted}
 use Rattle.entry_verdict.specs.Answer.{firstOf, refusal}
 use Rattle.questions_noted.specs.declared.row.Row.{Row}
-use Rattle.questions_places.specs.declared.passage.Passage.{Passage}
+use Rattle.questions_passages.specs.declared.passage.Passage.{Passage}
 use Rattle.questions_rows.specs.Row.{rowOf}
 use Rattle.questions_places.specs.Place.{firstByte}
-use Rattle.questions_places.specs.Passage.{textRecord, textAt, hasKeyword, isKeyword, begins, beginsWith, firstText}
-use Rattle.questions_places.specs.Passage.{passageUnder, passageOf}
+use Rattle.questions_passages.specs.Passage.{textRecord, textAt, hasKeyword, isKeyword, begins, beginsWith, firstText}
+use Rattle.questions_passages.specs.Passage.{passageUnder, passageOf}
 use Rattle.questions_refusals.specs.Refused.{noSection, noPassage, sectionRefusals, passageRefusal}
-use Rattle.questions_answers.specs.Answers.{passageBy}
+use Rattle.questions_parts.specs.Answers.{passageBy}
 use Rattle.questions.specs.Ask.{passageAsked}
 use Rattle.questions_refusals.proofs.InOrder.{section-none}
 use Rattle.questions_rows.proofs.RowChanges.{bib}

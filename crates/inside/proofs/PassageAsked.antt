@@ -12,19 +12,19 @@ use borrow.Author.Tests.{eqb-false, ltb-true}
 use Rattle.laws.proofs.Booleans.{and-left, and-right}
 use Rattle.laws.proofs.Search.{first-from, first-to}
 use Rattle.laws.proofs.Counting.{first-before, first-holds}
-use Rattle.columns.specs.declared.columns.RecordNo.{RecordNo}
+use Rattle.columns_places.specs.declared.places.RecordNo.{RecordNo}
 use Rattle.record_words.specs.Word.{equalTo}
 use Rattle.rules_text.specs.Text.{placeInPart}
 use Rattle.entry_judging.specs.Judging.{judgeOf, Accepted}
 use Rattle.questions_rows.specs.Row.{rowOf}
-use Rattle.questions_places.specs.declared.passage.Passage.{Passage}
-use Rattle.questions_places.specs.Passage.{textRecords, textRecord, textAt, hasKeyword, isKeyword, begins, beginsWith}
-use Rattle.questions_places.specs.Passage.{firstText, NO-PASSAGE, passageUnder, passageOf}
+use Rattle.questions_passages.specs.declared.passage.Passage.{Passage}
+use Rattle.questions_passages.specs.Passage.{textRecords, textRecord, textAt, hasKeyword, isKeyword, begins, beginsWith}
+use Rattle.questions_passages.specs.Passage.{firstText, NO-PASSAGE, passageUnder, passageOf}
 use Rattle.entry_verdict.specs.Answer.{refusal}
 use Rattle.questions_refusals.specs.Refused.{noPassage, passageRefusal}
-use Rattle.questions_answers.specs.Answers.{passageBy}
+use Rattle.questions_parts.specs.Answers.{passageBy}
 use Rattle.questions.specs.Ask.{passageAsked}
-use Rattle.questions_answers.proofs.Parts.{part-number}
+use Rattle.questions_parts.proofs.Parts.{part-number}
 use Rattle.inside.specs.Inside.{TextOf, InsidePassage}
 use Rattle.inside.proofs.RecordsFrom.{place-field}
 use Rattle.inside.proofs.RowWalked.{fields-at}

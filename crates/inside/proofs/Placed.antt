@@ -12,13 +12,13 @@ use native.Mathlib.Nat.{suc-mul, zero-mul}
 use lib.ListN.{length}
 use Rattle.laws.specs.Blocks.{blockAt}
 use Rattle.number.specs.Reading.{readField}
-use Rattle.columns.specs.Columns.{recordsFor, placeOf}
+use Rattle.columns_places.specs.Places.{recordsFor, placeOf}
 use Rattle.columns.specs.Fields.{fieldsOf}
-use Rattle.columns.specs.declared.columns.LineNo.{LineNo}
-use Rattle.columns.specs.declared.columns.Place.{Place}
-use Rattle.columns.specs.declared.columns.RecordNo.{RecordNo}
+use Rattle.columns_places.specs.declared.places.LineNo.{LineNo}
+use Rattle.columns_places.specs.declared.places.Place.{Place}
+use Rattle.columns_places.specs.declared.places.RecordNo.{RecordNo}
 use Rattle.columns.proofs.ReadColumns.{field-of}
-use Rattle.columns.proofs.TablePlaces.{place-at, place-field}
+use Rattle.columns_places.proofs.TablePlaces.{place-at, place-field}
 use Rattle.record_words.specs.Word.{pointerOf}
 use Rattle.rules_roles.specs.Roles.{COMMON-HEADING, COMMON-UNIT, COMMON-VALUE, DATA-HEADING, DATA-UNIT, DATA-VALUE}
 use Rattle.rules_counts.specs.Counts.{countN1}
@@ -28,13 +28,14 @@ use Rattle.questions_rows.specs.Row.{rowOf}
 use Rattle.questions_places.specs.declared.place.Shape.{Shape}
 use Rattle.questions_places.specs.Place.{shapeOf, headingPlace, unitPlace, fieldOf, byteOf}
 use Rattle.questions_refusals.specs.Refused.{sectionIn, valueRefusal, columnRefusal}
-use Rattle.questions_answers.specs.Answers.{valueBy, headingBy, unitBy}
+use Rattle.questions_values.specs.Answers.{valueBy}
+use Rattle.questions_parts.specs.Answers.{headingBy, unitBy}
 use Rattle.questions.specs.Ask.{valueAsked, headingAsked, unitAsked}
 use Rattle.inside.specs.Placed.{cellAt, Cell, inSection, ValueAt, ValuePlaced, HeadingAt, HeadingPlaced, UnitAt}
 use Rattle.inside.specs.Placed.{UnitPlaced}
-use Rattle.entry.proofs.AcceptedWalk.{walked}
-use Rattle.inside.proofs.Laid.{Laid, rowRole}
-use Rattle.inside.proofs.TableLaid.{table-laid, linesOf}
+use Rattle.entry_walk.proofs.AcceptedWalk.{walked}
+use Rattle.entry_walk.proofs.Laid.{Laid, rowRole}
+use Rattle.entry_walk.proofs.TableLaid.{table-laid, linesOf}
 use Rattle.inside.proofs.RowFound.{Opening}
 use Rattle.inside.proofs.RowWalked.{fields-at}
 use Rattle.inside.proofs.Answered.{sectionNo, sectionOf, which, begun, at-record, shape-columns, value-answered}

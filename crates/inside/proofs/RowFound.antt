@@ -12,12 +12,12 @@ use lib.ListN.{length, getD}
 use borrow.Author.Tests.{eqb-true}
 use Rattle.laws.specs.Blocks.{blockAt}
 use Rattle.laws.proofs.Booleans.{either-as}
-use Rattle.columns.specs.Columns.{recordOf}
+use Rattle.columns_places.specs.Places.{recordOf}
 use Rattle.columns.specs.Fields.{fieldsOf, n1}
-use Rattle.record.specs.Identifier.{SUBENT, NOSUBENT, BIB, COMMON, DATA, ENTRY, NOBIB, ENDBIB, NOCOMMON, ENDCOMMON}
-use Rattle.record.specs.Identifier.{NODATA, ENDDATA, ENDSUBENT, ENDENTRY, OTHER, identifierOf, isEnd}
+use Rattle.record_names.specs.Identifier.{SUBENT, NOSUBENT, BIB, COMMON, DATA, ENTRY, NOBIB, ENDBIB, NOCOMMON, ENDCOMMON}
+use Rattle.record_names.specs.Identifier.{NODATA, ENDDATA, ENDSUBENT, ENDENTRY, OTHER, identifierOf, isEnd}
 use Rattle.record.specs.System.{subentryOf}
-use Rattle.columns.specs.declared.columns.RecordNo.{RecordNo}
+use Rattle.columns_places.specs.declared.places.RecordNo.{RecordNo}
 use Rattle.rules_state.specs.declared.state.Phase.{Phase}
 use Rattle.rules_state.specs.declared.state.Phase.the-variants.{Start, Opened, InSubentry, InBib, AfterBib, InCommon}
 use Rattle.rules_state.specs.declared.state.Phase.the-variants.{AfterCommon, InData, AfterData, Between, Done}
@@ -29,14 +29,14 @@ use Rattle.rules_state.proofs.EitherWay.{either-way}
 use Rattle.entry_next.specs.Due.{phaseAfter}
 use Rattle.entry_judging.specs.Judging.{Accepted}
 use Rattle.entry_judging.specs.Contexts.{contextAt, roleAt}
-use Rattle.entry.proofs.Contexts.{records-at}
+use Rattle.entry_walk.proofs.Contexts.{records-at}
 use Rattle.questions_rows.specs.Row.{rowAt, rowOf}
 use Rattle.questions_places.specs.Place.{fieldsAt, identifierAt}
 use Rattle.questions_rows.proofs.RowChanges.{Section, bib, common, table, opener, named, level, first-stays, first-set}
 use Rattle.questions_rows.proofs.RowChanges.{section-stays, section-set}
 use Rattle.questions_rows.proofs.RowNoted.{found-row}
 use Rattle.inside.specs.Inside.{RecordOf}
-use Rattle.entry.proofs.AcceptedWalk.{Walked, walked}
+use Rattle.entry_walk.proofs.AcceptedWalk.{Walked, walked}
 use Rattle.inside.proofs.Nesting.{rank, Unnumbered, unnumbered-turn, key, Nested, nested-turn}
 use Rattle.inside.proofs.RowWalked.{number-of, row-next, fields-at}
 

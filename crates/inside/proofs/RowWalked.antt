@@ -8,7 +8,7 @@ use lib.ListN.{length}
 use borrow.Author.Tests.{ne-eqb, le-leb}
 use Rattle.laws.specs.Blocks.{blockAt}
 use Rattle.columns.specs.Fields.{fieldsOf}
-use Rattle.columns.specs.declared.columns.RecordNo.{RecordNo}
+use Rattle.columns_places.specs.declared.places.RecordNo.{RecordNo}
 use Rattle.entry_judging.specs.Judging.{roleOf}
 use Rattle.entry_judging.specs.Contexts.{contextAt, roleAt}
 use Rattle.questions_rows.specs.Row.{notedAs, rowAt}

@@ -15,9 +15,9 @@ use Rattle.laws.specs.Blocks.{blockAt}
 use Rattle.laws.proofs.Search.{either}
 use Rattle.laws.proofs.Booleans.{either-as}
 use Rattle.columns.specs.Fields.{fieldsOf}
-use Rattle.record.specs.Identifier.{BIB, OTHER, identifierOf}
+use Rattle.record_names.specs.Identifier.{BIB, OTHER, identifierOf}
 use Rattle.record_words.specs.Word.{blankTo}
-use Rattle.columns.specs.declared.columns.RecordNo.{RecordNo}
+use Rattle.columns_places.specs.declared.places.RecordNo.{RecordNo}
 use Rattle.rules_state.specs.declared.state.Phase.{Phase}
 use Rattle.rules_state.specs.declared.state.Phase.the-variants.{InBib}
 use Rattle.rules_state.specs.declared.state.Track.{Track}
@@ -33,18 +33,18 @@ use Rattle.entry_counted.specs.Counted.{afterSystem, afterInside, trackAfter}
 use Rattle.entry_next.specs.Next.{contextAfter}
 use Rattle.entry_judging.specs.Judging.{roleOf, turnOf, Accepted}
 use Rattle.entry_verdict.specs.Verdict.{isDone}
-use Rattle.entry.proofs.GoingOn.{go-fine}
+use Rattle.entry_walk.proofs.GoingOn.{go-fine}
 use Rattle.entry_step.proofs.Numbered.{whole-records}
 use Rattle.entry_step.proofs.Walking.{accepted-good}
 use Rattle.entry_judging.specs.Contexts.{behind, contextAt, roleAt}
-use Rattle.entry.proofs.Contexts.{records-at}
+use Rattle.entry_walk.proofs.Contexts.{records-at}
 use Rattle.questions_noted.specs.declared.row.Row.{Row}
 use Rattle.questions_rows.specs.Row.{notedAs, rowAt, rowOf}
-use Rattle.questions_places.specs.Passage.{textRecords}
+use Rattle.questions_passages.specs.Passage.{textRecords}
 use Rattle.questions_rows.proofs.RowChanges.{Section, bib, common, table, opener, named, section-stays, section-set}
 use Rattle.questions_rows.proofs.RowNoted.{found-row}
 use Rattle.inside.specs.Inside.{TextOf}
-use Rattle.entry.proofs.AcceptedWalk.{walked}
+use Rattle.entry_walk.proofs.AcceptedWalk.{walked}
 use Rattle.inside.proofs.RowWalked.{number-of, row-next}
 use Rattle.inside.proofs.RowFound.{Opening, row-fields}
 

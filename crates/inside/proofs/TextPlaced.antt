@@ -11,7 +11,7 @@ use borrow.Author.Tests.{eqb-true, eqb-false, eq-eqb}
 use Rattle.laws.specs.Blocks.{blockAt}
 use Rattle.laws.proofs.Booleans.{differ, either-as}
 use Rattle.columns.specs.Fields.{fieldsOf}
-use Rattle.record.specs.Identifier.{BIB, ENDBIB, OTHER, identifierOf}
+use Rattle.record_names.specs.Identifier.{BIB, ENDBIB, OTHER, identifierOf}
 use Rattle.rules_state.specs.State.{Context}
 use Rattle.rules_roles.specs.Roles.{TEXT, NOT-DUE}
 use Rattle.rules_state.specs.Role.{only, bibRole, roleIn}

@@ -15,57 +15,32 @@ use Rattle.laws.specs.Members.{anyOf}
 use Rattle.laws.proofs.Booleans.{differ, or-right}
 use Rattle.laws.proofs.Search.{either}
 use Rattle.columns.specs.Fields.{fieldsOf}
-use Rattle.record.specs.Identifier.{BIB}
 use Rattle.columns.specs.Text.{isBlank}
-use Rattle.record_words.specs.Word.{blankTo, equalTo, isWord, pointerOf, badPointer}
+use Rattle.record_words.specs.Word.{blankTo, equalTo, isWord, pointerOf}
+use Rattle.record_faults.specs.Faults.{badPointer}
 use Rattle.rules_roles.specs.declared.fault.Fault.the-variants.{Fine}
 use Rattle.rules_state.specs.declared.state.Track.{Track}
-use Rattle.rules_state.specs.State.{Seen, Context}
+use Rattle.rules_state.specs.State.{Seen}
 use Rattle.rules_roles.specs.Roles.{TEXT}
 use Rattle.rules_text.specs.Text.{placeInPart, placesOf, pointersOf, keywordFault, rule10, pointerRepeated, rule11Text}
 use Rattle.rules.specs.Order.{faultOf}
 use Rattle.rules.specs.Clean.{Clean}
 use Rattle.rules.proofs.NoColumns.{when-none}
 use Rattle.rules.proofs.Clean.{fine-clean}
-use Rattle.entry_next.specs.Parts.{partAfter, bibChange, underChange, seenAfter}
-use Rattle.entry_next.specs.Next.{contextAfter}
-use Rattle.entry_judging.specs.Judging.{roleOf, Accepted}
-use Rattle.entry.proofs.GoingOn.{go-fine}
-use Rattle.entry_judging.specs.Contexts.{behind, contextAt, roleAt}
-use Rattle.questions_places.specs.Passage.{hasKeyword}
+use Rattle.entry_judging.specs.Judging.{Accepted}
+use Rattle.entry_walk.proofs.GoingOn.{go-fine}
+use Rattle.entry_judging.specs.Contexts.{contextAt, roleAt}
+use Rattle.questions_passages.specs.Passage.{hasKeyword}
 use Rattle.questions_rows.proofs.RowChanges.{bib}
 use Rattle.inside.specs.Inside.{TextOf, Under}
-use Rattle.entry.proofs.AcceptedWalk.{walked}
-use Rattle.entry.proofs.Contexts.{context-after}
+use Rattle.entry_walk.proofs.AcceptedWalk.{walked}
+use Rattle.entry_walk.proofs.Contexts.{context-after}
+use Rattle.entry_walk.proofs.TextsAdded.{bib-joined, under-begun, under-joined, bib-emptied}
 use Rattle.inside.proofs.RecordsFrom.{place-field, recordsFrom, records-none, records-next, not-among}
 use Rattle.inside.proofs.RecordsFrom.{not-pointed}
 use Rattle.inside.proofs.RowFound.{Opening}
 use Rattle.inside.proofs.TextLaid.{textsOf, texts-stand, text-laid}
 use Rattle.inside.proofs.TextPlaced.{text-placed, text-behind, texts-between}
-
--- ---- what a text record adds
-
-module _ (c : Context) (r : List ℕ) (role : roleOf c r ≡ TEXT) (f : List ℕ) (own : getD (fieldsOf r) 0 [] ≡ f) where
-  pub bib-joined : behind c r .seen .bib ≡ c .seen .bib ++ r
-  unfolding contextAfter seenAfter partAfter bibChange
-  bib-joined = rw role
-
-  pub under-begun : blankTo 10 f ≡ false → behind c r .seen .under ≡ r
-  unfolding contextAfter seenAfter partAfter underChange
-  under-begun e = rw (role, own, e)
-
-  pub under-joined : blankTo 10 f ≡ true → behind c r .seen .under ≡ c .seen .under ++ r
-  unfolding contextAfter seenAfter partAfter underChange
-  under-joined e = rw (role, own, e)
-
--- and BIB takes away
-pub bib-emptied : (c : Context) (r : List ℕ) → roleOf c r ≡ BIB → behind c r .seen .bib ≡ []
-unfolding contextAfter seenAfter partAfter bibChange
-bib-emptied c r role = rw role
-
-pub under-emptied : (c : Context) (r : List ℕ) → roleOf c r ≡ BIB → behind c r .seen .under ≡ []
-unfolding contextAfter seenAfter partAfter underChange
-under-emptied c r role = rw role
 
 -- ---- rules 10 and 11 on a record without fault
 

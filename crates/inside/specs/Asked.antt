@@ -4,7 +4,7 @@ use Prim.Native.Nat.{ℕ}
 use mathlib.Core.Path.{_≡_}
 use mathlib.Core.Bool.{true}
 use mathlib.Core.List.{List}
-use Rattle.columns.specs.declared.columns.LineNo.{LineNo}
+use Rattle.columns_places.specs.declared.places.LineNo.{LineNo}
 use Rattle.entry_judging.specs.Judging.{Accepted}
 use Rattle.questions.specs.Ask.{valueAsked, headingAsked, unitAsked, passageAsked}
 use Rattle.inside.specs.Inside.{InsideValue, InsideColumn, InsidePassage, isSaid}

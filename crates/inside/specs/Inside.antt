@@ -15,16 +15,16 @@ use Rattle.number.specs.declared.value.Reading.{Reading}
 use Rattle.number.specs.declared.value.Reading.the-variants.{Blank, Number, Refused}
 use Rattle.columns.specs.Fields.{fieldsOf}
 use Rattle.record_words.specs.Word.{equalTo, pointerOf}
-use Rattle.record.specs.Identifier.{COMMON, DATA}
-use Rattle.columns.specs.declared.columns.LineNo.{LineNo}
+use Rattle.record_names.specs.Identifier.{COMMON, DATA}
+use Rattle.columns_places.specs.declared.places.LineNo.{LineNo}
 use Rattle.rules_counts.specs.Counts.{countN1, countN2}
 use Rattle.rules_text.specs.Text.{placeInPart}
 use Rattle.rules_roles.specs.Roles.{TEXT, NOT-DUE}
 use Rattle.entry_judging.specs.Judging.{Accepted}
 use Rattle.entry_judging.specs.Contexts.{contextAt, roleAt}
 use Rattle.questions_places.specs.Place.{COMMON-SECTION, DATA-SECTION}
-use Rattle.questions_answers.specs.declared.answers.PartAnswer.{PartAnswer}
-use Rattle.questions_places.specs.Passage.{hasKeyword, begins, beginsWith}
+use Rattle.questions_parts.specs.declared.answers.PartAnswer.{PartAnswer}
+use Rattle.questions_passages.specs.Passage.{hasKeyword, begins, beginsWith}
 use Rattle.questions.specs.Ask.{valueAsked, headingAsked, unitAsked, passageAsked}
 
 -- ---- a record of a subentry

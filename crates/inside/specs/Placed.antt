@@ -12,12 +12,12 @@ use Rattle.laws.specs.Blocks.{blockAt}
 use Rattle.number.specs.declared.value.Reading.{Reading}
 use Rattle.number.specs.Reading.{readField}
 use Rattle.columns.specs.Fields.{fieldAt}
-use Rattle.columns.specs.declared.columns.LineNo.{LineNo}
+use Rattle.columns_places.specs.declared.places.LineNo.{LineNo}
 use Rattle.record_words.specs.Word.{pointerOf}
 use Rattle.rules_roles.specs.Roles.{COMMON-HEADING, COMMON-UNIT, COMMON-VALUE, DATA-HEADING, DATA-UNIT, DATA-VALUE}
 use Rattle.entry_judging.specs.Judging.{Accepted}
 use Rattle.entry_judging.specs.Contexts.{contextAt, roleAt}
-use Rattle.questions_answers.specs.declared.answers.PartAnswer.{PartAnswer}
+use Rattle.questions_parts.specs.declared.answers.PartAnswer.{PartAnswer}
 use Rattle.questions_places.specs.Place.{COMMON-SECTION}
 use Rattle.questions.specs.Ask.{valueAsked, headingAsked, unitAsked}
 use Rattle.inside.specs.Inside.{InsideValue, InsideColumn}

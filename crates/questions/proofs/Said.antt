@@ -5,14 +5,14 @@ use mathlib.Core.Path.{_≡_, sym, _∙_, ap}
 use borrow.Author.Tests.{ne-eqb}
 use Rattle.number.specs.Reading.{readField}
 use Rattle.number.specs.declared.value.Reading.{Reading}
-use Rattle.columns.specs.Columns.{placeOf}
+use Rattle.columns_places.specs.Places.{placeOf}
 use Rattle.entry_verdict.specs.declared.verdict.Verdict.{Verdict}
 use Rattle.entry_judging.specs.Judging.{judgeOf}
 use Rattle.entry_verdict.proofs.Answers.{answer-number}
 use Rattle.questions_places.specs.Place.{shapeOf, fieldOf}
 use Rattle.questions_rows.specs.Row.{rowOf}
 use Rattle.questions_refusals.specs.Refused.{sectionIn, valueRefusal}
-use Rattle.questions_answers.specs.Answers.{valueWith, valueBy, valueSaid, blankBeside}
+use Rattle.questions_values.specs.Answers.{valueWith, valueBy, valueSaid, blankBeside}
 use Rattle.questions.specs.Ask.{valueAsked, RefusedSaid}
 
 with-said : (v : Verdict) (number : ℕ) (value : Reading) → (number ≡ 0 → ⊥)

@@ -1,14 +1,15 @@
--- The questions: an answer comes from the verdict on the entry and the row of the subentry (`..By`, questions_answers),
--- and both from the entry alone. Their refusals, in the paper's order, are in questions_refusals.
+-- The questions: an answer comes from the verdict on the entry and the row of the subentry (`..By`, questions_values and
+-- questions_parts), and both from the entry alone. Their refusals, in the paper's order, are in questions_refusals.
 use Prim.Native.Nat.{ℕ}
 use mathlib.Core.Path.{_≡_}
 use mathlib.Core.List.{List}
-use Rattle.columns.specs.declared.columns.LineNo.{LineNo}
+use Rattle.columns_places.specs.declared.places.LineNo.{LineNo}
 use Rattle.entry_judging.specs.Judging.{judgeOf}
-use Rattle.questions_answers.specs.declared.answers.ValueAnswer.{ValueAnswer}
-use Rattle.questions_answers.specs.declared.answers.PartAnswer.{PartAnswer}
+use Rattle.questions_values.specs.declared.answers.ValueAnswer.{ValueAnswer}
+use Rattle.questions_parts.specs.declared.answers.PartAnswer.{PartAnswer}
 use Rattle.questions_rows.specs.Row.{rowOf}
-use Rattle.questions_answers.specs.Answers.{valueBy, valueSaid, blankBeside, headingBy, unitBy, passageBy}
+use Rattle.questions_values.specs.Answers.{valueBy, valueSaid, blankBeside}
+use Rattle.questions_parts.specs.Answers.{headingBy, unitBy, passageBy}
 
 unfoldable pub valueAsked : List ℕ → ℕ → ℕ → LineNo → ℕ → ValueAnswer
 valueAsked s n section line column = valueBy s (judgeOf s) (rowOf s n) section line column

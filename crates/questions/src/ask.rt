@@ -3,16 +3,17 @@
 ghost use mathlib.Core.Path.{_≡_};
 ghost use Prim.Native.Nat.{_+_};
 ghost use Rattle.entry_verdict.specs.Part.{Behind};
-ghost use Rattle.questions_answers.specs.Answers.{valueSaid, Lies, bytesIn};
+ghost use Rattle.questions_values.specs.Answers.{valueSaid};
+ghost use Rattle.questions_parts.specs.Answers.{Lies, bytesIn};
 ghost use Rattle.questions.specs.Ask.{valueAsked, headingAsked, unitAsked, passageAsked};
-use columns::columns::LineNo;
-use questions_answers::answers::PartAnswer;
-use questions_answers::answers::ValueAnswer;
-use questions_answers::answers::heading_by;
-use questions_answers::answers::passage_by;
-use questions_answers::answers::unit_by;
-use questions_answers::answers::value_by;
+use columns_places::places::LineNo;
+use questions_parts::answers::PartAnswer;
+use questions_parts::answers::heading_by;
+use questions_parts::answers::passage_by;
+use questions_parts::answers::unit_by;
 use questions_rows::row::locate;
+use questions_values::answers::ValueAnswer;
+use questions_values::answers::value_by;
 
 // The part itself.
 fn part_of<'a>(entry: &'a [u8], part: PartAnswer) -> &'a [u8]

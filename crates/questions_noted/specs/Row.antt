@@ -2,8 +2,8 @@
 use Prim.Native.Nat.{ℕ, _≤_}
 use mathlib.Core.Bool.{cond}
 use lib.Dec.{eqb}
-use Rattle.record.specs.Identifier.{BIB, COMMON, DATA}
-use Rattle.columns.specs.declared.columns.RecordNo.{RecordNo}
+use Rattle.record_names.specs.Identifier.{BIB, COMMON, DATA}
+use Rattle.columns_places.specs.declared.places.RecordNo.{RecordNo}
 use Rattle.rules_state.specs.Limits.{MOST-RECORDS}
 use Rattle.rules_roles.specs.Roles.{opensSubentry}
 use Rattle.questions_noted.specs.declared.row.Row.{Row}

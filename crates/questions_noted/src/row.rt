@@ -1,10 +1,10 @@
 // Where a subentry stands, noted record by record.
 ghost use mathlib.Core.Path.{_≡_};
 ghost use Rattle.questions_noted.specs.Row.{emptyRow, noted, notedIn};
-use columns::columns::RecordNo;
-use record::identifier::BIB;
-use record::identifier::COMMON;
-use record::identifier::DATA;
+use columns_places::places::RecordNo;
+use record_names::identifier::BIB;
+use record_names::identifier::COMMON;
+use record_names::identifier::DATA;
 use rules_roles::roles::opens_subentry;
 
 // A subentry's number, its first record, and the records BIB, COMMON and DATA, 0 where there is none.

@@ -8,7 +8,7 @@ use native.Mathlib.Omega.{arith}
 use lib.Dec.{eqb, leb}
 use lib.ListN.{length}
 use borrow.Author.Tests.{eqb-false, leb-true}
-use Rattle.columns.specs.declared.columns.RecordNo.{RecordNo}
+use Rattle.columns_places.specs.declared.places.RecordNo.{RecordNo}
 use Rattle.questions_places.specs.Place.{hasRecord}
 
 pub record-there : (s : List ℕ) (at : RecordNo) → hasRecord s at ≡ true → (1 ≤ at .0) × (at .0 * 81 ≤ length s)

@@ -6,12 +6,12 @@ use mathlib.Core.List.{List, []}
 use lib.Dec.{eqb, leb}
 use lib.ListN.{length, getD, replicate}
 use Rattle.laws.specs.Blocks.{blockAt}
-use Rattle.columns.specs.Columns.{recordsFor}
+use Rattle.columns_places.specs.Places.{recordsFor}
 use Rattle.columns.specs.Fields.{fieldsOf}
-use Rattle.record.specs.Identifier.{identifierOf}
+use Rattle.record_names.specs.Identifier.{identifierOf}
 use Rattle.record.specs.System.{upTo}
-use Rattle.columns.specs.declared.columns.RecordNo.{RecordNo}
-use Rattle.columns.specs.declared.columns.Place.{Place}
+use Rattle.columns_places.specs.declared.places.RecordNo.{RecordNo}
+use Rattle.columns_places.specs.declared.places.Place.{Place}
 use Rattle.rules_state.specs.Limits.{MOST-RECORDS, MOST-COLUMNS, MOST-LINES}
 use Rattle.rules_counts.specs.Counts.{countN1, countN2}
 use Rattle.questions_places.specs.declared.place.Shape.{Shape}

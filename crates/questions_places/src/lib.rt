@@ -1,3 +1,2 @@
-// Where the answers stand: places and shapes of tables, and passages of BIB.
-pub mod passage;
+// Where the answers stand: records by their numbers, and the places and shapes of tables.
 pub mod place;

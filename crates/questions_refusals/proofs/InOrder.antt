@@ -6,11 +6,11 @@ use mathlib.Core.Bool.{Bool, true, false, not}
 use mathlib.Core.List.{List, [], _∷_, _++_}
 use native.Mathlib.Omega.{arith}
 use Rattle.columns.specs.Text.{within}
-use Rattle.columns.specs.declared.columns.RecordNo.{RecordNo}
-use Rattle.columns.specs.declared.columns.LineNo.{LineNo}
+use Rattle.columns_places.specs.declared.places.RecordNo.{RecordNo}
+use Rattle.columns_places.specs.declared.places.LineNo.{LineNo}
+use Rattle.columns.proofs.Within.{within-bounds}
 use Rattle.entry_verdict.specs.declared.verdict.Verdict.{Verdict}
 use Rattle.entry_verdict.specs.Answer.{Refusal, refusal, firstOf, isRefused}
-use Rattle.rules.proofs.DueRecords.{within-bounds}
 use Rattle.questions_noted.specs.declared.row.Row.{Row}
 use Rattle.questions_places.specs.declared.place.Shape.{Shape}
 use Rattle.questions_refusals.specs.Refused.{isSubent, noSection, sectionRefusals, InShape, valueRefusal}

@@ -8,14 +8,14 @@ use mathlib.Core.Bool.{Bool, cond, not}
 use mathlib.Core.List.{List, [], _∷_, _++_}
 use lib.Dec.{eqb}
 use Rattle.columns.specs.Text.{within}
-use Rattle.record.specs.Identifier.{SUBENT}
-use Rattle.columns.specs.declared.columns.RecordNo.{RecordNo}
-use Rattle.columns.specs.declared.columns.LineNo.{LineNo}
+use Rattle.record_names.specs.Identifier.{SUBENT}
+use Rattle.columns_places.specs.declared.places.RecordNo.{RecordNo}
+use Rattle.columns_places.specs.declared.places.LineNo.{LineNo}
 use Rattle.entry_verdict.specs.declared.verdict.Verdict.{Verdict}
 use Rattle.entry_verdict.specs.Answer.{Refusal, refusal, firstOf, isRefused}
 use Rattle.questions_noted.specs.declared.row.Row.{Row}
 use Rattle.questions_places.specs.declared.place.Shape.{Shape}
-use Rattle.questions_places.specs.declared.passage.Passage.{Passage}
+use Rattle.questions_passages.specs.declared.passage.Passage.{Passage}
 use Rattle.questions_noted.specs.Row.{NONE}
 use Rattle.questions_places.specs.Place.{identifierAt, COMMON-SECTION, DATA-SECTION}
 

@@ -4,24 +4,24 @@ ghost use Rattle.columns.specs.Text.{within};
 ghost use Rattle.entry_verdict.specs.Answer.{firstOf};
 ghost use Rattle.questions_refusals.specs.Refused.{isSubent, sectionIn, sectionRefusals, valueRefusal};
 ghost use Rattle.questions_refusals.specs.Refused.{columnRefusal, passageRefusal};
-use columns::columns::LineNo;
-use columns::columns::RecordNo;
+use columns_places::places::LineNo;
+use columns_places::places::RecordNo;
 use entry_verdict::verdict::Verdict;
 use questions_noted::row::Row;
-use questions_places::passage::Passage;
+use questions_passages::passage::Passage;
 use questions_places::place::COMMON_SECTION;
 use questions_places::place::DATA_SECTION;
 use questions_places::place::Shape;
 use questions_places::place::fields_at;
-use record::identifier::SUBENT;
-use record::identifier::identifier_of;
+use record_names::identifier::SUBENT;
+use record_names::identifier::identifier_of;
 use record_words::word::is_within;
 
 // Whether the first record of a row is SUBENT.
 fn is_subent(entry: &[u8], row: Row) -> bool
     ensures { λ r. ⌜ r ≡ isSubent (now (entry .entry)) row ⌝ }
 {
-    let names = record::identifier::names();
+    let names = record_names::identifier::names();
     let at = row.first;
     let fs = fields_at(entry, at);
     let f = fs[0];

@@ -6,10 +6,10 @@ use mathlib.Core.Bool.{Bool, true, false, cond}
 use mathlib.Core.List.{List}
 use lib.Dec.{eqb}
 use borrow.Author.Tests.{eqb-true, eq-eqb}
-use Rattle.columns.specs.Columns.{recordOf}
-use Rattle.record.specs.Identifier.{BIB, COMMON, DATA}
+use Rattle.columns_places.specs.Places.{recordOf}
+use Rattle.record_names.specs.Identifier.{BIB, COMMON, DATA}
 use Rattle.record.specs.System.{subentryOf}
-use Rattle.columns.specs.declared.columns.RecordNo.{RecordNo}
+use Rattle.columns_places.specs.declared.places.RecordNo.{RecordNo}
 use Rattle.columns.specs.Fields.{n1}
 use Rattle.rules_state.specs.declared.state.Track.{Track}
 use Rattle.rules_roles.specs.Roles.{opensSubentry}

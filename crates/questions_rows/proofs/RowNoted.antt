@@ -11,9 +11,9 @@ use lib.Dec.{eqb}
 use lib.ListN.{length, getD}
 use Rattle.laws.specs.Blocks.{blockAt}
 use Rattle.laws.proofs.Booleans.{differ, either-as}
-use Rattle.columns.specs.Columns.{recordOf}
+use Rattle.columns_places.specs.Places.{recordOf}
 use Rattle.columns.specs.Fields.{fieldsOf}
-use Rattle.record.specs.Identifier.{ENTRY, SUBENT, NOSUBENT, BIB, COMMON, DATA}
+use Rattle.record_names.specs.Identifier.{ENTRY, SUBENT, NOSUBENT, BIB, COMMON, DATA}
 use Rattle.record_words.specs.Word.{blankTo}
 use Rattle.rules_state.specs.declared.state.Track.{Track}
 use Rattle.rules_state.specs.State.{Context}
@@ -29,7 +29,7 @@ use Rattle.entry_step.specs.declared.pass.Passed.{Passed}
 use Rattle.entry_judging.specs.Judging.{judgeOf, Accepted}
 use Rattle.entry_judging.specs.Contexts.{contextAt, roleAt}
 use Rattle.entry_step.specs.Pass.{Walking, PassedAt}
-use Rattle.entry.proofs.Contexts.{records-at, context-next}
+use Rattle.entry_walk.proofs.Contexts.{records-at, context-next}
 use Rattle.entry_step.proofs.Walking.{track-stands}
 use Rattle.questions_noted.specs.Row.{emptyRow, notedIn, Met}
 use Rattle.questions_rows.specs.Row.{subentryIn, notedAs, rowAt, rowOf}

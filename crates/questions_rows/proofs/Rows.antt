@@ -5,9 +5,9 @@ use mathlib.Core.Bool.{Bool, true, false, cond}
 use mathlib.Core.List.{List}
 use native.Mathlib.Omega.{arith}
 use lib.Dec.{eqb}
-use Rattle.columns.specs.Columns.{recordOf}
-use Rattle.record.specs.Identifier.{BIB, COMMON, DATA}
-use Rattle.columns.specs.declared.columns.RecordNo.{RecordNo}
+use Rattle.columns_places.specs.Places.{recordOf}
+use Rattle.record_names.specs.Identifier.{BIB, COMMON, DATA}
+use Rattle.columns_places.specs.declared.places.RecordNo.{RecordNo}
 use Rattle.rules_state.specs.declared.state.Track.{Track}
 use Rattle.rules_state.specs.Limits.{MOST-RECORDS}
 use Rattle.rules_roles.specs.Roles.{opensSubentry}

@@ -5,7 +5,7 @@ use mathlib.Core.List.{List}
 use lib.Dec.{eqb}
 use lib.ListN.{length}
 use Rattle.laws.specs.Blocks.{blockAt}
-use Rattle.columns.specs.Columns.{recordOf}
+use Rattle.columns_places.specs.Places.{recordOf}
 use Rattle.columns.specs.Fields.{fieldsOf, n1}
 use Rattle.record.specs.System.{subentryOf}
 use Rattle.rules_state.specs.declared.state.Track.{Track}

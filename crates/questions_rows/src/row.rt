@@ -6,7 +6,7 @@ ghost use lib.ListN.{length};
 ghost use Rattle.entry_verdict.specs.Verdict.{lengthGood};
 ghost use Rattle.questions_noted.specs.Row.{Met};
 ghost use Rattle.questions_rows.specs.Row.{rowAt, locate as locateOf};
-use columns::columns::record_of;
+use columns_places::places::record_of;
 use entry::judge::judge;
 use entry_step::step::Judge;
 use entry_verdict::verdict::Verdict;
@@ -15,7 +15,7 @@ use number::form::nexts;
 use questions_noted::row::Row;
 use questions_noted::row::empty_row;
 use questions_noted::row::noted_in;
-use record::identifier::names;
+use record_names::identifier::names;
 
 pub struct Located {
     pub verdict: Verdict,

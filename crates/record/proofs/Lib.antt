@@ -1,10 +1,8 @@
 pub mod BlankCount
-pub mod NameTable
 pub mod Powers
 pub mod Found
 pub mod NumberFields
 pub mod PlainColumns
-pub mod PlainNames
 pub mod PlainDigits
 pub mod PlainCounts
 pub mod PlainValues

@@ -21,8 +21,8 @@ use Rattle.number.specs.Form.{formOf}
 use Rattle.record_values.specs.Numbers.{formAt, noValue}
 use Rattle.classes.specs.Class.{isPermitted, digits}
 use Rattle.record_words.specs.Word.{differAt, equalTo}
-use Rattle.record.specs.Identifier.{OTHER, nameAt, nameTable, isName, identifierOf}
-use Rattle.record.proofs.NameTable.{name-at}
+use Rattle.record_names.specs.Identifier.{OTHER, nameAt, nameTable, isName, identifierOf}
+use Rattle.record_names.proofs.NameTable.{name-at}
 
 pub true-of : (t : Bool) → T t → t ≡ true
 true-of true h = refl

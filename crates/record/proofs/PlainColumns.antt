@@ -16,8 +16,9 @@ use Rattle.laws.proofs.Counting.{first-before, first-past}
 use Rattle.laws.proofs.Search.{either, first-pass, first-to, pass-first}
 use Rattle.number.specs.Grammar.{blanks}
 use Rattle.columns.specs.Text.{isBlank, isFrom}
-use Rattle.record_words.specs.Word.{blankAt, filledAt, filledFrom, blankTo, wordEnd, isWord, pointerOf, badPointer}
-use Rattle.record_words.specs.Word.{isPointer, isUnitWord}
+use Rattle.record_words.specs.Word.{blankAt, filledAt, filledFrom, blankTo, wordEnd, isWord, pointerOf}
+use Rattle.record_faults.specs.Faults.{badPointer}
+use Rattle.record_faults.specs.Faults.{isPointer, isUnitWord}
 use Rattle.record.specs.Plain.{Word, UnitWord, PointerOrBlank, no-pointer, a-numeral, a-letter}
 use Rattle.record.specs.Plain.{BlankExactly, EqualExactly, TakenExactly, WordExactly, UnitExactly}
 use Rattle.record.specs.Plain.{PointerExactly}

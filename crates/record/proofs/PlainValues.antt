@@ -41,7 +41,7 @@ module _ (f : List ℕ) where
 
   said-value : (optional : Bool) → NumberOrBlank optional f → noValue optional (formAt f) ≡ false
   said-value optional (a-number n) = rw (number-form n)
-  said-value optional (a-blank o b) = rw (blank-form b, o)
+  said-value optional (a-blank o b) = rw (blank-form b, o) refl
 
   -- ---- blanks and numbers
 

@@ -1,3 +1,2 @@
-pub mod Identifier
 pub mod System
 pub mod Plain

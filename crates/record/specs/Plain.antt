@@ -1,8 +1,9 @@
--- What document 01 calls a word, a pointer, a count, a date, an accession, a value, and blank or equal columns, in its
--- own words: of columns only, with no search. A column that is not there counts as 0, which is no character.
+-- What document 01 calls a word, a pointer, a count, a date, an accession, a value, and blank columns, in its own words:
+-- of columns only, with no search. A column that is not there counts as 0, which is no character.
 --
--- The code follows the definitions of Word, System and Numbers, which compute. That they say the same is stated here
--- (`WordExactly` ..), and proved in proofs/PlainColumns, PlainNames, PlainDigits and PlainValues.
+-- The code follows the definitions of Word, Faults, System and Numbers, which compute. That they say the same is stated
+-- here (`WordExactly` ..), and proved in proofs/PlainColumns, PlainDigits and PlainValues. The names of the system
+-- identifiers are said so in PlainNames of record_names.
 use Prim.Native.Nat.{ℕ, _+_, _<_, _≤_}
 use mathlib.Core.Path.{_≡_}
 use mathlib.Core.Bool.{Bool, true, false}
@@ -15,21 +16,18 @@ use Rattle.number.specs.Grammar.{blanks, Digits, digitsText, num}
 use Rattle.number.specs.Value.{Reads}
 use Rattle.columns.specs.Columns.{columnsAt}
 use Rattle.record.specs.declared.system.Count.the-variants.{Number}
-use Rattle.record_words.specs.Word.{blankTo, equalTo, isWord, pointerOf, badPointer, isUnitWord}
+use Rattle.record_words.specs.Word.{blankTo, equalTo, isWord, pointerOf}
+use Rattle.record_words.specs.Same.{SameColumns}
+use Rattle.record_faults.specs.Faults.{badPointer, isUnitWord}
 use Rattle.record.specs.System.{digitsIn, numberIn, integerOf, CountAnswer, countAnswer, isDate, isEntryN1}
 use Rattle.record.specs.System.{isSubentN1, subentryOf}
-use Rattle.record.specs.Identifier.{OTHER, nameAt, identifierOf}
 use Rattle.record_values.specs.Numbers.{formAt, saysNumber, noValue}
 
--- ---- blank and equal columns
+-- ---- blank columns; equal ones are `SameColumns` of record_words
 
 -- the first w columns are blank
 abbrev pub BlankColumns : ℕ → List ℕ → Type 0
 BlankColumns w f = take w f ≡ blanks w
-
--- the first w columns of both are equal, one by one
-abbrev pub SameColumns : ℕ → List ℕ → List ℕ → Type 0
-SameColumns w a b = (i : ℕ) → i < w → getD a i 0 ≡ getD b i 0
 
 -- ---- "A word starts in the first column of its place, has no blank inside and is followed by blanks only."
 
@@ -45,11 +43,6 @@ pub record Word (w : ℕ) (f : List ℕ) : Type 0 where
 pub record UnitWord (f : List ℕ) : Type 0 where
   pub word : Word 10 f
   pub eleventh : pointerOf f ≡ 32
-
--- ---- "The fourteen system identifiers ..; one fills columns 1-11, blanks behind."
-
-abbrev pub Named : List ℕ → ℕ → Type 0
-Named f k = SameColumns 11 f (nameAt k)
 
 -- ---- "A pointer is one of 1-9, A-Z. Blank means no pointer."
 
@@ -153,13 +146,6 @@ WordExactly = (w : ℕ) (f : List ℕ) → (isWord w f ≡ true) ↔ Word w f
 
 abbrev pub UnitExactly : Type 0
 UnitExactly = (f : List ℕ) → (isUnitWord f ≡ true) ↔ UnitWord f
-
-abbrev pub NameExactly : Type 0
-NameExactly = (f : List ℕ) (k : ℕ) → k < OTHER → (identifierOf f ≡ k) ↔ Named f k
-
--- it is none of the fourteen
-abbrev pub OtherExactly : Type 0
-OtherExactly = (f : List ℕ) → (identifierOf f ≡ OTHER) ↔ ((k : ℕ) → k < OTHER → Named f k → ⊥)
 
 abbrev pub PointerExactly : Type 0
 PointerExactly = (f : List ℕ) → (badPointer f ≡ false) ↔ PointerOrBlank (pointerOf f)

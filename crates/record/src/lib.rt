@@ -1,3 +1,2 @@
-// One record of 80 columns: system identifiers, counts and dates; and what is said of a record in plain words.
-pub mod identifier;
+// One record of 80 columns: counts and dates; and what is said of a record in plain words.
 pub mod system;

@@ -1,2 +1,2 @@
-// Words, pointers and equal columns in the fields of a record.
+// Words, blank columns and equal columns in the fields of a record.
 pub mod word;

@@ -1,19 +1,10 @@
-// Words and pointers, headings and units.
+// Words, columns that are blank and columns that are equal.
 ghost use mathlib.Core.Path.{_≡_};
 ghost use Prim.Native.Nat.{ℕ, _+_, _*_, _≤_};
 ghost use lib.ListN.{length};
 ghost use Rattle.columns.specs.Text.{within};
-ghost use Rattle.columns.specs.Fields.{firstField};
-ghost use Rattle.record_words.specs.Word.{blankTo, equalTo, wordEnd, filledFrom, isWord, isPointer};
+ghost use Rattle.record_words.specs.Word.{blankTo, equalTo, wordEnd, filledFrom, isWord};
 ghost use Rattle.record_words.specs.Word.{fourAt, eightAt};
-ghost use Rattle.record_words.specs.Word.{badPointer, isUnitWord, pointerFault, headingFault, unitFault, faultIn};
-
-// What the six fields of a record are to be: fields with pointers, headings, units.
-const POINTERS: u32 = 0;
-
-const HEADINGS: u32 = 1;
-
-const UNITS: u32 = 2;
 
 // The first filled one of the columns of a field from `from` up to `w`, or `w`.
 pub fn filled_from(f: [u8; 11], from: usize, w: usize) -> usize
@@ -38,13 +29,6 @@ pub fn blank_to(f: [u8; 11], w: usize) -> bool
     ensures { λ r. ⌜ r ≡ blankTo w f ⌝ }
 {
     filled_from(f, 0, w) == w
-}
-
-// Whether a field is blank.
-fn is_blank(f: [u8; 11]) -> bool
-    ensures { λ r. ⌜ r ≡ blankTo 11 f ⌝ }
-{
-    blank_to(f, 11)
 }
 
 // Whether the keyword place, columns 1 to 10, is blank.
@@ -156,114 +140,4 @@ pub fn is_from(low: u8, high: u8, b: u8) -> bool
     ensures { λ r. ⌜ r ≡ within low high b ⌝ }
 {
     is_within(low as u64, high as u64, b as u64)
-}
-
-// Whether a byte is a pointer.
-fn is_pointer(b: u8) -> bool
-    ensures { λ r. ⌜ r ≡ isPointer b ⌝ }
-{
-    if is_from(b'1', b'9', b) {
-        return true;
-    }
-    is_from(b'A', b'Z', b)
-}
-
-// Whether the eleventh column is neither a pointer nor blank.
-pub fn bad_pointer(f: [u8; 11]) -> bool
-    ensures { λ r. ⌜ r ≡ badPointer f ⌝ }
-{
-    let b = f[10];
-    if b == b' ' {
-        return false;
-    }
-    !is_pointer(b)
-}
-
-// Whether a field is a unit: a word, its eleventh column blank.
-fn is_unit(f: [u8; 11]) -> bool
-    ensures { λ r. ⌜ r ≡ isUnitWord f ⌝ }
-{
-    if !is_word(f) {
-        return false;
-    }
-    f[10] == b' '
-}
-
-// Whether the field `k`, if it is used, has a bad pointer.
-fn is_pointer_fault(used: usize, k: usize, f: [u8; 11]) -> bool
-    ensures { λ r. ⌜ r ≡ pointerFault used k f ⌝ }
-{
-    if k < used {
-        return bad_pointer(f);
-    }
-    false
-}
-
-// Whether the field `k` is used and no word, or unused and filled.
-fn is_heading_fault(used: usize, k: usize, f: [u8; 11]) -> bool
-    ensures { λ r. ⌜ r ≡ headingFault used k f ⌝ }
-{
-    if k < used {
-        return !is_word(f);
-    }
-    !is_blank(f)
-}
-
-// Whether the field `k` is used and no unit, or unused and filled.
-fn is_unit_fault(used: usize, k: usize, f: [u8; 11]) -> bool
-    ensures { λ r. ⌜ r ≡ unitFault used k f ⌝ }
-{
-    if k < used {
-        return !is_unit(f);
-    }
-    !is_blank(f)
-}
-
-// Whether the field `k` is not what it is to be.
-fn is_fault(what: u32, used: usize, k: usize, f: [u8; 11]) -> bool
-    ensures { λ r. ⌜ r ≡ faultIn what used k f ⌝ }
-{
-    if what == POINTERS {
-        return is_pointer_fault(used, k, f);
-    }
-    if what == HEADINGS {
-        return is_heading_fault(used, k, f);
-    }
-    is_unit_fault(used, k, f)
-}
-
-// The first field that is not what it is to be, or 6.
-fn first_fault(what: u32, fields: [[u8; 11]; 6], used: usize) -> usize
-    ensures { λ r. ⌜ r ≡ firstField (faultIn what used) fields ⌝ }
-{
-    let mut k = 0;
-    while k < 6 {
-        let f = fields[k];
-        if is_fault(what, used, k, f) {
-            return k;
-        }
-        k += 1;
-    }
-    6
-}
-
-// The first used field with a bad pointer, or 6.
-pub fn pointer_fault(fields: [[u8; 11]; 6], used: usize) -> usize
-    ensures { λ r. ⌜ r ≡ firstField (pointerFault used) fields ⌝ }
-{
-    first_fault(POINTERS, fields, used)
-}
-
-// The first field of a heading record that is no word, or unused and filled, or 6.
-pub fn heading_fault(fields: [[u8; 11]; 6], used: usize) -> usize
-    ensures { λ r. ⌜ r ≡ firstField (headingFault used) fields ⌝ }
-{
-    first_fault(HEADINGS, fields, used)
-}
-
-// The first field of a unit record that is no unit, or unused and filled, or 6.
-pub fn unit_fault(fields: [[u8; 11]; 6], used: usize) -> usize
-    ensures { λ r. ⌜ r ≡ firstField (unitFault used) fields ⌝ }
-{
-    first_fault(UNITS, fields, used)
 }

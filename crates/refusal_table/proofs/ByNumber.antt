@@ -15,7 +15,7 @@ use Rattle.rules.specs.Order.{findings, noFinding, Least}
 use Rattle.rules_plain.specs.Places.{Some, here}
 use Rattle.entry_verdict.specs.declared.verdict.Verdict.{Verdict}
 use Rattle.entry_verdict.specs.Verdict.{refused}
-use Rattle.entry.specs.First.{First, FirstAt, by-length, by-record, by-end, by-none}
+use Rattle.entry_walk.specs.First.{First, FirstAt, by-length, by-record, by-end, by-none}
 use Rattle.refusal_table.proofs.Columns.{computed}
 
 leftmost-some : (ks : List ℕ) (k : ℕ) → leftmost ks ≡ k → 1 ≤ k → Some (λ c. c ≡ k) ks

@@ -22,9 +22,9 @@ use Rattle.rules_plain.proofs.Repeated.{repeated-exactly, lost-exactly}
 use Rattle.entry_verdict.specs.Verdict.{refused}
 use Rattle.entry_judging.specs.Judging.{judgeOf}
 use Rattle.entry_judging.specs.Contexts.{contextAt, roleAt}
-use Rattle.entry.specs.First.{foundAt, FirstAt, by-record}
-use Rattle.entry.proofs.FirstRefused.{refused-first}
-use Rattle.entry.proofs.FirstAlone.{first-alone}
+use Rattle.entry_walk.specs.First.{foundAt, FirstAt, by-record}
+use Rattle.entry_walk.proofs.FirstRefused.{refused-first}
+use Rattle.entry_walk.proofs.FirstAlone.{first-alone}
 use Rattle.refusal_table.specs.Table.{among, headings}
 use Rattle.refusal_table.specs.KindOf.{fieldsIn}
 use Rattle.refusal_table.specs.HeadingFaults.{WrongHeading, LostHeading, ThirteenSaid, FourteenSaid, DueThere}

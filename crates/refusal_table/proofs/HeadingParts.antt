@@ -13,7 +13,7 @@ use Rattle.laws.specs.Blocks.{blockAt, joined}
 use Rattle.laws.specs.Walk.{All}
 use Rattle.laws.proofs.Booleans.{either-as}
 use Rattle.laws.proofs.Listing.{all-append, joined-one}
-use Rattle.record.specs.Identifier.{COMMON, ENDCOMMON, DATA}
+use Rattle.record_names.specs.Identifier.{COMMON, ENDCOMMON, DATA}
 use Rattle.rules_roles.specs.Fault.{Record}
 use Rattle.rules_state.specs.State.{Seen}
 use Rattle.rules_roles.specs.Roles.{TEXT, opensSubentry, isHeading}

@@ -16,7 +16,7 @@ use Rattle.laws.proofs.Listing.{all-append, joined-one, list-split}
 use Rattle.laws.proofs.Search.{either}
 use Rattle.columns.specs.Fields.{fieldsOf}
 use Rattle.columns.proofs.ReadColumns.{field-of}
-use Rattle.record.specs.Identifier.{BIB, OTHER}
+use Rattle.record_names.specs.Identifier.{BIB, OTHER}
 use Rattle.record.proofs.PlainColumns.{blank-exactly}
 use Rattle.record_words.specs.Word.{blankTo}
 use Rattle.rules_roles.specs.declared.fault.Fault.the-variants.{Fine}
@@ -36,8 +36,8 @@ use Rattle.entry_tally.specs.Tally.{textRead}
 use Rattle.entry_next.specs.Next.{contextAfter}
 use Rattle.entry_judging.specs.Judging.{roleOf}
 use Rattle.entry_judging.specs.Contexts.{behind, contextAt, roleAt}
-use Rattle.entry.proofs.Contexts.{context-after}
-use Rattle.inside.proofs.TextsSeen.{bib-joined, under-begun, under-joined, bib-emptied, under-emptied}
+use Rattle.entry_walk.proofs.Contexts.{context-after}
+use Rattle.entry_walk.proofs.TextsAdded.{bib-joined, under-begun, under-joined, bib-emptied, under-emptied}
 use Rattle.refusal_table.specs.KindOf.{fieldsIn, nameIn, announcedN2}
 use Rattle.refusal_table.specs.TextFaults.{recordsBetween}
 

@@ -13,9 +13,9 @@ use Rattle.laws.specs.Turns.{go}
 use Rattle.laws.specs.Blocks.{blockAt}
 use Rattle.laws.proofs.Search.{either}
 use Rattle.laws.proofs.Booleans.{either-as}
-use Rattle.columns.specs.Columns.{recordsFor}
-use Rattle.record.specs.Identifier.{ENTRY, SUBENT, NOSUBENT, BIB, NOBIB, ENDBIB, COMMON, NOCOMMON, ENDCOMMON, DATA}
-use Rattle.record.specs.Identifier.{NODATA, ENDDATA, ENDSUBENT, ENDENTRY, OTHER, isEnd}
+use Rattle.columns_places.specs.Places.{recordsFor}
+use Rattle.record_names.specs.Identifier.{ENTRY, SUBENT, NOSUBENT, BIB, NOBIB, ENDBIB, COMMON, NOCOMMON, ENDCOMMON, DATA}
+use Rattle.record_names.specs.Identifier.{NODATA, ENDDATA, ENDSUBENT, ENDENTRY, OTHER, isEnd}
 use Rattle.rules_state.specs.declared.state.Phase.{Phase}
 use Rattle.rules_state.specs.declared.state.Phase.the-variants.{Start, Opened, InSubentry, InBib, AfterBib, InCommon}
 use Rattle.rules_state.specs.declared.state.Phase.the-variants.{AfterCommon, InData, AfterData, Between, Done}
@@ -29,9 +29,9 @@ use Rattle.entry_next.specs.Due.{phaseAfter}
 use Rattle.entry_next.specs.Next.{contextAfter}
 use Rattle.entry_judging.specs.Judging.{turnOf}
 use Rattle.entry_judging.specs.Contexts.{contextAt, roleAt}
-use Rattle.entry.proofs.GoingOn.{fine-go}
-use Rattle.inside.proofs.Laid.{phaseIn, rowRole, lineOf, Laid, row-role, laid-on, laid-over}
-use Rattle.inside.proofs.TableLaid.{sectionRole, linesOf, opened-common, opened-data}
+use Rattle.entry_walk.proofs.GoingOn.{fine-go}
+use Rattle.entry_walk.proofs.Laid.{phaseIn, rowRole, lineOf, Laid, row-role, laid-on, laid-over}
+use Rattle.entry_walk.proofs.TableLaid.{sectionRole, linesOf, opened-common, opened-data}
 use Rattle.refusal_table.specs.KindOf.{fieldsIn, nameIn, announcedN1, announcedN2}
 use Rattle.refusal_table.proofs.InTexts.{FineAt, InTexts, context-as, bib-opened, text-met}
 

@@ -10,9 +10,9 @@ use lib.Dec.{eqb}
 use Rattle.laws.specs.Blocks.{blockAt}
 use Rattle.laws.proofs.Search.{either}
 use Rattle.laws.proofs.Booleans.{either-as}
-use Rattle.columns.specs.Columns.{recordsFor}
-use Rattle.record.specs.Identifier.{ENTRY, SUBENT, NOSUBENT, BIB, NOBIB, ENDBIB, COMMON, NOCOMMON, DATA, NODATA}
-use Rattle.record.specs.Identifier.{ENDSUBENT, ENDENTRY, OTHER, isEnd}
+use Rattle.columns_places.specs.Places.{recordsFor}
+use Rattle.record_names.specs.Identifier.{ENTRY, SUBENT, NOSUBENT, BIB, NOBIB, ENDBIB, COMMON, NOCOMMON, DATA, NODATA}
+use Rattle.record_names.specs.Identifier.{ENDSUBENT, ENDENTRY, OTHER, isEnd}
 use Rattle.rules_state.specs.declared.state.Phase.{Phase}
 use Rattle.rules_state.specs.declared.state.Phase.the-variants.{Start, Opened, InSubentry, InBib, AfterBib, InCommon}
 use Rattle.rules_state.specs.declared.state.Phase.the-variants.{AfterCommon, InData, AfterData, Between, Done}
@@ -22,9 +22,9 @@ use Rattle.rules_state.proofs.EitherWay.{either-way}
 use Rattle.rules.specs.Order.{Nothing}
 use Rattle.rules.proofs.FaultSaid.{nothing-fine}
 use Rattle.entry_judging.specs.Contexts.{contextAt, roleAt}
-use Rattle.entry.specs.First.{foundAt}
-use Rattle.inside.proofs.Laid.{phaseIn, rowRole, lineOf, row-role}
-use Rattle.inside.proofs.TableLaid.{sectionRole, linesOf}
+use Rattle.entry_walk.specs.First.{foundAt}
+use Rattle.entry_walk.proofs.Laid.{phaseIn, rowRole, lineOf, row-role}
+use Rattle.entry_walk.proofs.TableLaid.{sectionRole, linesOf}
 use Rattle.refusal_table.specs.KindOf.{fieldsIn, nameIn, announcedN1, announcedN2, BehindBib, KindOf, of-system}
 use Rattle.refusal_table.specs.KindOf.{of-text, common-heading, common-unit, common-value, data-heading}
 use Rattle.refusal_table.specs.KindOf.{data-unit, data-value, not-due}

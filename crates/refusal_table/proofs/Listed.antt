@@ -10,7 +10,7 @@ use lib.ListN.{length}
 use Rattle.laws.specs.Blocks.{blockAt}
 use Rattle.laws.specs.Search.{first}
 use Rattle.laws.proofs.Booleans.{differ, and-none}
-use Rattle.record.specs.Identifier.{ENDBIB, ENDCOMMON, DATA, NODATA, ENDDATA, ENDSUBENT, ENDENTRY, isEnd}
+use Rattle.record_names.specs.Identifier.{ENDBIB, ENDCOMMON, DATA, NODATA, ENDDATA, ENDSUBENT, ENDENTRY, isEnd}
 use Rattle.record_words.specs.Word.{equalTo}
 use Rattle.rules_state.specs.declared.state.Phase.{Phase}
 use Rattle.rules_state.specs.declared.state.Phase.the-variants.{Start, Opened, InSubentry, InBib, AfterBib, InCommon}
@@ -27,10 +27,10 @@ use Rattle.entry_verdict.specs.declared.verdict.Verdict.{Verdict}
 use Rattle.entry_verdict.specs.Verdict.{refused, isDone, lengthGood}
 use Rattle.entry_judging.specs.Judging.{judgeOf}
 use Rattle.entry_judging.specs.Contexts.{contextAt, roleAt}
-use Rattle.entry.specs.First.{First, by-length, by-record, by-end, by-none}
-use Rattle.entry.proofs.Contexts.{context-next}
-use Rattle.entry.proofs.FirstRefused.{refused-first}
-use Rattle.entry.proofs.FirstAlone.{first-alone}
+use Rattle.entry_walk.specs.First.{First, by-length, by-record, by-end, by-none}
+use Rattle.entry_walk.proofs.Contexts.{context-next}
+use Rattle.entry_walk.proofs.FirstRefused.{refused-first}
+use Rattle.entry_walk.proofs.FirstAlone.{first-alone}
 use Rattle.refusal_table.specs.KindOf.{fieldsIn, nameIn}
 use Rattle.refusal_table.specs.Listed.{BadLength, none, not-whole, too-long, Listed, at-once, on-record}
 use Rattle.refusal_table.specs.Listed.{behind-last, RefusalsListed, LengthFirst}

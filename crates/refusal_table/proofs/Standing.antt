@@ -19,9 +19,10 @@ use Rattle.columns.specs.Columns.{hasLineFeed}
 use Rattle.columns.specs.Fields.{n1, n2}
 use Rattle.columns.specs.Text.{within}
 use Rattle.record_expected.specs.Expected.{identificationOf, sequenceOf, inDigits}
-use Rattle.record.specs.Identifier.{SUBENT, NOSUBENT, OTHER, isEnd}
+use Rattle.record_names.specs.Identifier.{SUBENT, NOSUBENT, OTHER, isEnd}
 use Rattle.record.specs.System.{subentryOf}
-use Rattle.record_words.specs.Word.{equalTo, badPointer}
+use Rattle.record_words.specs.Word.{equalTo}
+use Rattle.record_faults.specs.Faults.{badPointer}
 use Rattle.rules_state.specs.declared.state.Track.{Track}
 use Rattle.rules_state.specs.State.{Seen, used}
 use Rattle.rules_roles.specs.Roles.{TEXT, DATA-HEADING, NOT-DUE, isSystem, opensSubentry, opensSection, isHeading}
@@ -36,7 +37,7 @@ use Rattle.rules_section.specs.Headings.{rule11Heading, rule12Heading, rule12Un
 use Rattle.rules_pointers.specs.Pointers.{rule14}
 use Rattle.rules_values.specs.Values.{lineBlank, rule15}
 use Rattle.rules.specs.Order.{findings, Before, noFinding, Least}
-use Rattle.rules.proofs.Rising.{used-few}
+use Rattle.rules_section.proofs.SomeColumns.{used-few}
 use Rattle.rules.proofs.ByKind.{of-two, of-headings, of-units, of-values}
 use Rattle.refusal_table.specs.Table.{everyDue, withN1, withN2, countedN1, countedN2, headings, headingsAndUnits}
 use Rattle.refusal_table.specs.Table.{values, among, fieldsFirst, fieldsEleventh, refusals, noRow, TableAllows}

@@ -9,8 +9,8 @@ use borrow.Author.Tests.{eqb-true, eq-eqb}
 use lib.Dec.{eqb}
 use lib.ListN.{getD}
 use Rattle.laws.specs.Blocks.{blockAt}
-use Rattle.record_words.specs.Word.{badPointer}
-use Rattle.record.specs.Identifier.{BIB, OTHER, ENDBIB}
+use Rattle.record_faults.specs.Faults.{badPointer}
+use Rattle.record_names.specs.Identifier.{BIB, OTHER, ENDBIB}
 use Rattle.rules_state.specs.declared.state.Phase.{Phase}
 use Rattle.rules_state.specs.declared.state.Phase.the-variants.{Start, Opened, InSubentry, InBib, AfterBib, InCommon}
 use Rattle.rules_state.specs.declared.state.Phase.the-variants.{AfterCommon, InData, AfterData, Between, Done}
@@ -30,8 +30,8 @@ use Rattle.entry_verdict.specs.declared.verdict.Verdict.{Verdict}
 use Rattle.entry_verdict.specs.Verdict.{refused}
 use Rattle.entry_judging.specs.Judging.{judgeOf}
 use Rattle.entry_judging.specs.Contexts.{contextAt, roleAt}
-use Rattle.entry.specs.First.{NothingBefore, FirstAt, First, by-length, by-record, by-end, by-none}
-use Rattle.entry.proofs.FirstRefused.{refused-first}
+use Rattle.entry_walk.specs.First.{NothingBefore, FirstAt, First, by-length, by-record, by-end, by-none}
+use Rattle.entry_walk.proofs.FirstRefused.{refused-first}
 use Rattle.refusal_table.specs.KindOf.{fieldsIn, nameIn, BehindBib}
 use Rattle.refusal_table.specs.TextFaults.{recordsBetween, WrongText, TenSaid, ElevenSaid, PointerRefused}
 use Rattle.refusal_table.specs.TextFaults.{in-text, in-headings}

@@ -10,7 +10,7 @@ use borrow.Author.Tests.{eq-eqb}
 use lib.ListN.{length, getD}
 use Rattle.laws.specs.Blocks.{blockAt}
 use Rattle.laws.proofs.Search.{either}
-use Rattle.record.specs.Identifier.{BIB, OTHER}
+use Rattle.record_names.specs.Identifier.{BIB, OTHER}
 use Rattle.rules_state.specs.declared.state.Track.{Track}
 use Rattle.rules_roles.specs.Fault.{Record, Finding, on, leftmost}
 use Rattle.rules_roles.specs.Roles.{TEXT, isHeading}
@@ -25,9 +25,9 @@ use Rattle.rules_plain.proofs.Texts.{keyword-exactly, keyword-fine, text-pointe
 use Rattle.entry_verdict.specs.Verdict.{refused}
 use Rattle.entry_judging.specs.Judging.{judgeOf}
 use Rattle.entry_judging.specs.Contexts.{contextAt, roleAt}
-use Rattle.entry.specs.First.{FirstAt, by-record}
-use Rattle.entry.proofs.FirstRefused.{refused-first}
-use Rattle.entry.proofs.FirstAlone.{first-alone}
+use Rattle.entry_walk.specs.First.{FirstAt, by-record}
+use Rattle.entry_walk.proofs.FirstRefused.{refused-first}
+use Rattle.entry_walk.proofs.FirstAlone.{first-alone}
 use Rattle.refusal_table.specs.KindOf.{fieldsIn, BehindBib}
 use Rattle.refusal_table.specs.TextFaults.{recordsBetween, WrongText, TextDue, TenExactly, ElevenExactly}
 use Rattle.refusal_table.proofs.ByNumber.{number-at, first-at}

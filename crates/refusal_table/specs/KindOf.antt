@@ -5,9 +5,9 @@ use mathlib.Core.Path.{_≡_}
 use mathlib.Core.List.{List, []}
 use lib.ListN.{getD}
 use Rattle.laws.specs.Blocks.{blockAt}
-use Rattle.columns.specs.Columns.{recordsFor}
+use Rattle.columns_places.specs.Places.{recordsFor}
 use Rattle.columns.specs.Fields.{fieldsOf}
-use Rattle.record.specs.Identifier.{BIB, COMMON, DATA, OTHER, identifierOf}
+use Rattle.record_names.specs.Identifier.{BIB, COMMON, DATA, OTHER, identifierOf}
 use Rattle.rules_roles.specs.Roles.{TEXT, COMMON-HEADING, COMMON-UNIT, COMMON-VALUE, DATA-HEADING, DATA-UNIT}
 use Rattle.rules_roles.specs.Roles.{DATA-VALUE, NOT-DUE}
 use Rattle.rules_counts.specs.Counts.{countN1, countN2}

@@ -4,7 +4,7 @@ use Prim.Native.Nat.{ℕ, _+_, _/_, _%_, _<_}
 use mathlib.Core.Path.{_≡_}
 use mathlib.Core.List.{List}
 use lib.ListN.{length}
-use Rattle.record.specs.Identifier.{ENDENTRY}
+use Rattle.record_names.specs.Identifier.{ENDENTRY}
 use Rattle.entry_verdict.specs.Verdict.{refused}
 use Rattle.entry_judging.specs.Judging.{judgeOf, Accepted}
 use Rattle.refusal_table.specs.Table.{TableAllows}

@@ -11,8 +11,8 @@ use lib.Dec.{eqb}
 use lib.ListN.{length, getD}
 use Rattle.laws.specs.Members.{anyOf}
 use Rattle.columns.specs.Text.{within}
-use Rattle.record.specs.Identifier.{ENTRY, SUBENT, NOSUBENT, BIB, ENDBIB, COMMON, ENDCOMMON, DATA, ENDDATA, ENDSUBENT}
-use Rattle.record.specs.Identifier.{ENDENTRY}
+use Rattle.record_names.specs.Identifier.{ENTRY, SUBENT, NOSUBENT, BIB, ENDBIB, COMMON, ENDCOMMON, DATA, ENDDATA, ENDSUBENT}
+use Rattle.record_names.specs.Identifier.{ENDENTRY}
 use Rattle.rules_roles.specs.Roles.{TEXT, COMMON-HEADING, COMMON-UNIT, COMMON-VALUE, DATA-HEADING, DATA-UNIT}
 use Rattle.rules_roles.specs.Roles.{DATA-VALUE, NOT-DUE}
 

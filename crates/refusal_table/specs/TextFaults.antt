@@ -15,7 +15,7 @@ use Rattle.rules_plain.specs.Texts.{WrongKeyword, WrongPointer}
 use Rattle.entry_verdict.specs.Verdict.{refused, lengthGood}
 use Rattle.entry_judging.specs.Judging.{judgeOf}
 use Rattle.entry_judging.specs.Contexts.{contextAt, roleAt}
-use Rattle.entry.specs.First.{NothingBefore}
+use Rattle.entry_walk.specs.First.{NothingBefore}
 use Rattle.refusal_table.specs.Table.{headings}
 use Rattle.refusal_table.specs.KindOf.{fieldsIn, BehindBib, KindOf}
 

@@ -4,12 +4,12 @@ use mathlib.Core.Path.{_≡_, sym, _∙_}
 use mathlib.Core.Bool.{true, not, _&&_}
 use mathlib.Core.List.{List}
 use Prim.Native.Nat.{ℕ, _≤_}
-use borrow.Author.Tests.{leb-true, eq-eqb, not-false}
-use lib.Dec.{eqb, leb}
-use Rattle.laws.proofs.Booleans.{differ, and-left, and-right}
-use Rattle.columns.specs.Text.{within}
+use borrow.Author.Tests.{eq-eqb, not-false}
+use lib.Dec.{eqb}
+use Rattle.laws.proofs.Booleans.{differ, and-right}
 use Rattle.columns.specs.Fields.{n1}
-use Rattle.record.specs.Identifier.{COMMON, DATA}
+use Rattle.columns.proofs.Within.{within-bounds}
+use Rattle.record_names.specs.Identifier.{COMMON, DATA}
 use Rattle.record_words.specs.Word.{equalTo}
 use Rattle.record.specs.System.{subentryOf}
 use Rattle.rules_roles.specs.declared.fault.Fault.the-variants.{Fine}
@@ -24,11 +24,6 @@ use Rattle.rules.specs.Order.{faultOf}
 use Rattle.rules.specs.Clean.{Clean}
 use Rattle.rules.proofs.NoColumns.{when-none, whens-none}
 use Rattle.rules.proofs.Clean.{fine-clean}
-
--- a number is within its bounds
-pub within-bounds : (low high n : ℕ) → within low high n ≡ true → (low ≤ n) × (n ≤ high)
-within-bounds low high n e =
-    (leb-true low n (and-left (leb low n) (leb n high) e), leb-true n high (and-right (leb low n) (leb n high) e))
 
 module _ (t : Track) (seen : Seen) (role : ℕ) (fs : List (List ℕ)) (r : List ℕ)
     (fine : faultOf t seen role fs r ≡ Fine) where

@@ -2,16 +2,13 @@
 -- records only; each in both directions.
 -- Assumes nothing.
 use Prim.Native.Nat.{ℕ, zero, suc, _+_, _<_, _≤_}
-use mathlib.Core.Path.{_≡_, refl, ap}
+use mathlib.Core.Path.{_≡_, refl}
 use mathlib.Core.Bool.{Bool, true, false, cond}
 use mathlib.Core.List.{List, [], _∷_, _++_}
 use native.Mathlib.Omega.{arith}
-use lib.ListN.{length}
 use Rattle.laws.proofs.Search.{either}
 use Rattle.rules_roles.specs.Fault.{on, when, columnsFrom, columnsWhere}
-
-pub some-column : {X : Type 0} (k : ℕ) (ks : List ℕ) → (k ∷ ks) ≡ [] → X
-some-column k ks e = let z : suc (length ks) ≡ 0 = ap length e in absurd (omega arith)
+use Rattle.rules_section.proofs.SomeColumns.{some-column}
 
 -- one test
 pub when-none : (b : Bool) (k : ℕ) → when b k ≡ [] → b ≡ false

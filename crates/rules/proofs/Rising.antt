@@ -5,17 +5,16 @@ use Prim.Native.Nat.{ℕ, zero, suc, _+_, _<_, _≤_}
 use mathlib.Core.Bool.{Bool, true, false, cond, not, _&&_, _||_}
 use mathlib.Core.List.{List, [], _∷_, _++_}
 use native.Mathlib.Omega.{arith}
-use borrow.Author.Tests.{leb-true}
-use lib.Dec.{eqb, leb}
+use lib.Dec.{eqb}
 use lib.ListN.{getD}
-use Rattle.laws.proofs.Booleans.{either-as}
 use Rattle.classes.specs.Class.{notPermitted}
 use Rattle.columns.specs.Columns.{hasLineFeed}
 use Rattle.columns.specs.Fields.{n1, n2}
 use Rattle.record_expected.specs.Expected.{identificationOf, sequenceOf, inDigits}
-use Rattle.record.specs.Identifier.{isEnd}
+use Rattle.record_names.specs.Identifier.{isEnd}
 use Rattle.record.specs.System.{subentryOf}
-use Rattle.record_words.specs.Word.{equalTo, badPointer}
+use Rattle.record_words.specs.Word.{equalTo}
+use Rattle.record_faults.specs.Faults.{badPointer}
 use Rattle.rules_state.specs.declared.state.Track.{Track}
 use Rattle.rules_state.specs.State.{Seen, used}
 use Rattle.rules_roles.specs.Roles.{TEXT, DATA-HEADING, NOT-DUE, isSystem, opensSubentry, opensSection, isHeading}
@@ -29,6 +28,7 @@ use Rattle.rules_section.specs.Headings.{rule11Heading, rule12Heading, rule12Un
 use Rattle.rules_pointers.specs.Pointers.{rule14}
 use Rattle.rules_values.specs.Values.{lineBlank, rule15}
 use Rattle.rules_state.proofs.EitherWay.{either-way}
+use Rattle.rules_section.proofs.SomeColumns.{used-few}
 use Rattle.rules.specs.Order.{findings}
 use Rattle.rules.specs.Rising.{LAST-RULE, LAST-COLUMN, Rising, no-column, column, Sorted, no-more, also}
 use Rattle.rules.specs.Rising.{FindingsRise}
@@ -79,10 +79,6 @@ fields-rising test n h =
 pointers-rising : (test : ℕ → Bool) → Rising 1 (columnsWhere test pointerColumn 6)
 pointers-rising test =
     where-rising test pointerColumn (λ k. omega arith) 6 (omega arith) (λ k l. omega arith)
-
-pub used-few : (t : Track) → used t ≤ 6
-unfolding used
-used-few t = either-as (λ n. n ≤ 6) (leb (t .table .rest) 6) _ _ (leb-true (t .table .rest) 6) (λ e. omega arith)
 
 -- ---- the rules
 

@@ -6,7 +6,7 @@ ghost use lib.Dec.{eqb};
 ghost use lib.ListN.{length, getD, drop};
 ghost use Rattle.columns.specs.Columns.{Whole};
 ghost use Rattle.classes.specs.Class.{ClassesLent};
-ghost use Rattle.record.specs.Identifier.{NamesLent};
+ghost use Rattle.record_names.specs.Identifier.{NamesLent};
 ghost use Rattle.number.specs.Form.{Tables};
 ghost use Rattle.rules_state.specs.Ranging.{Stands, seenOf};
 ghost use Rattle.rules_roles.specs.Parts.{bytesOf};
@@ -15,7 +15,7 @@ ghost use Rattle.rules_roles.specs.Fault.{leftmost, on, faultAnswer, firstFault
 ghost use Rattle.rules_text.specs.Text.{rule11Text};
 ghost use Rattle.rules_section.specs.Headings.{rule11Heading};
 ghost use Rattle.rules.specs.Order.{findings, faultOf, Judged};
-use record::identifier::Names;
+use record_names::identifier::Names;
 use record_values::numbers::Values;
 use rules_counts::counts::rule8;
 use rules_every::every::rule2;

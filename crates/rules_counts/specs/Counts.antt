@@ -5,9 +5,9 @@ use mathlib.Core.Bool.{Bool, cond, not, _&&_, _||_}
 use mathlib.Core.List.{_++_}
 use lib.Dec.{eqb, leb}
 use Rattle.columns.specs.Text.{within}
-use Rattle.columns.specs.Columns.{recordsFor}
+use Rattle.columns_places.specs.Places.{recordsFor}
 use Rattle.columns.specs.Fields.{n1, n2}
-use Rattle.record.specs.Identifier.{BIB, ENDBIB, COMMON, ENDSUBENT, ENDENTRY, isEnd}
+use Rattle.record_names.specs.Identifier.{BIB, ENDBIB, COMMON, ENDSUBENT, ENDENTRY, isEnd}
 use Rattle.record.specs.System.{countOf, numberOf}
 use Rattle.rules_state.specs.declared.state.Track.{Track}
 use Rattle.rules_counts.specs.declared.counts.Limit.{Limit}

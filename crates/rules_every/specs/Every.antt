@@ -6,7 +6,7 @@ use lib.Dec.{eqb}
 use Rattle.columns.specs.Columns.{hasLineFeed}
 use Rattle.classes.specs.Class.{notPermitted}
 use Rattle.columns.specs.Fields.{n1}
-use Rattle.record.specs.Identifier.{ENTRY, ENDSUBENT, ENDENTRY}
+use Rattle.record_names.specs.Identifier.{ENTRY, ENDSUBENT, ENDENTRY}
 use Rattle.record_words.specs.Word.{equalTo}
 use Rattle.record_expected.specs.Expected.{identificationOf, sequenceOf, inDigits, identificationFor, entryAccession}
 use Rattle.record_expected.specs.Expected.{subentIdentification}

@@ -7,7 +7,7 @@ use mathlib.Core.List.{[], _∷_}
 use mathlib.Core.Logic.{_↔_}
 use Rattle.laws.proofs.Booleans.{differ}
 use Rattle.rules_roles.specs.Fault.{when}
-use Rattle.rules.proofs.NoColumns.{some-column}
+use Rattle.rules_section.proofs.SomeColumns.{some-column}
 
 pub when-exactly : {P : Type 0} (b : Bool) (k : ℕ) → (b ≡ true) ↔ P → (when b k ≡ k ∷ []) ↔ P
 when-exactly true k h = (λ e. h .0 refl, λ p. refl)

@@ -15,12 +15,12 @@ use Rattle.columns.specs.Fields.{fieldAt, fieldsOf}
 use Rattle.columns.specs.Text.{isBlank}
 use Rattle.columns.proofs.ReadColumns.{field-of}
 use Rattle.record_words.specs.Word.{pointerOf}
-use Rattle.record.specs.Plain.{SameColumns}
+use Rattle.record_words.specs.Same.{SameColumns}
 use Rattle.record.proofs.PlainColumns.{equal-exactly}
 use Rattle.rules_state.specs.declared.state.Track.{Track}
 use Rattle.rules_state.specs.State.{Seen, used}
 use Rattle.rules_roles.specs.Fault.{Record, fieldColumn}
-use Rattle.rules.proofs.Rising.{used-few}
+use Rattle.rules_section.proofs.SomeColumns.{used-few}
 use Rattle.rules_section.specs.declared.headings.Found.{Found}
 use Rattle.rules_section.specs.Headings.{equalHeading, isFound, headingRepeated, rule13}
 use Rattle.rules_pointers.specs.Pointers.{pointersFor, pointerLost, lostAt, rule14}
@@ -125,7 +125,7 @@ module _ (s : Seen) (t : Track) (b : RecordsBefore) (r : Record) (seen : SeenBef
         pointers-joined (b .bib001) (seen .long-bib001),
         pointers-on (b .common) (seen .long .common),
         pointers-on (b .common001) (seen .long .common001),
-      )
+      ) refl
 
   abbrev lostHere : ℕ → Bool
   lostHere k = lostAt (pointersFor (s .bib) (s .bib001) (s .common) (s .common001)) (fieldsOf r) k

@@ -19,8 +19,10 @@ use Rattle.columns.specs.Fields.{fieldsOf}
 use Rattle.columns.specs.Text.{isBlank}
 use Rattle.columns.proofs.ReadColumns.{field-of}
 use Rattle.record_words.proofs.WordsAndBlanks.{word-blank}
-use Rattle.record_words.specs.Word.{blankTo, equalTo, isWord, pointerOf, badPointer}
-use Rattle.record.specs.Plain.{SameColumns, Word}
+use Rattle.record_words.specs.Word.{blankTo, equalTo, isWord, pointerOf}
+use Rattle.record_faults.specs.Faults.{badPointer}
+use Rattle.record_words.specs.Same.{SameColumns}
+use Rattle.record.specs.Plain.{Word}
 use Rattle.record.proofs.PlainColumns.{and-both, or-first, or-second, blank-exactly, equal-exactly, word-exactly}
 use Rattle.record.proofs.PlainColumns.{pointer-exactly}
 use Rattle.rules_state.specs.declared.state.Track.{Track}

@@ -12,7 +12,7 @@ use mathlib.Core.Logic.{_↔_, _⊎_}
 use lib.Dec.{eqb}
 use lib.ListN.{length, getD}
 use Rattle.laws.specs.Blocks.{joined}
-use Rattle.record.specs.Plain.{SameColumns}
+use Rattle.record_words.specs.Same.{SameColumns}
 use Rattle.rules_roles.specs.Fault.{Record}
 use Rattle.rules_section.specs.declared.headings.Found.the-variants.{At, Nothing}
 use Rattle.rules_section.specs.Headings.{Earlier, equalHeading, earlier}

@@ -13,7 +13,7 @@ use Rattle.laws.specs.Blocks.{joined}
 use Rattle.laws.specs.Walk.{All}
 use Rattle.columns.specs.Fields.{fieldAt, fieldsOf}
 use Rattle.record_words.specs.Word.{pointerOf}
-use Rattle.record.specs.Plain.{SameColumns}
+use Rattle.record_words.specs.Same.{SameColumns}
 use Rattle.rules_state.specs.declared.state.Track.{Track}
 use Rattle.rules_state.specs.State.{Seen, used}
 use Rattle.rules_roles.specs.Fault.{Record, Columns, fieldColumn}

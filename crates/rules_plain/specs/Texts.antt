@@ -12,7 +12,8 @@ use Rattle.laws.specs.Blocks.{joined}
 use Rattle.laws.specs.Walk.{All}
 use Rattle.columns.specs.Fields.{fieldsOf}
 use Rattle.record_words.specs.Word.{pointerOf}
-use Rattle.record.specs.Plain.{BlankColumns, SameColumns, Word, PointerOrBlank}
+use Rattle.record_words.specs.Same.{SameColumns}
+use Rattle.record.specs.Plain.{BlankColumns, Word, PointerOrBlank}
 use Rattle.rules_state.specs.declared.state.Track.{Track}
 use Rattle.rules_roles.specs.Fault.{Record}
 use Rattle.rules_state.specs.State.{Seen}

@@ -2,7 +2,7 @@
 use Prim.Native.Nat.{ℕ, _+_}
 use mathlib.Core.Bool.{Bool, _||_}
 use lib.Dec.{eqb, ltb}
-use Rattle.record.specs.Identifier.{SUBENT, NOSUBENT, BIB, COMMON, DATA, OTHER}
+use Rattle.record_names.specs.Identifier.{SUBENT, NOSUBENT, BIB, COMMON, DATA, OTHER}
 
 -- ---- the roles: a system record has its identifier's number; the records inside sections have these
 

@@ -2,8 +2,8 @@
 ghost use mathlib.Core.Path.{_≡_};
 ghost use Prim.Native.Nat.{_<_};
 ghost use Rattle.rules_roles.specs.Parts.{bytesOf, Lent};
-use columns::columns::Index;
-use columns::columns::offset_of;
+use columns_places::places::Index;
+use columns_places::places::offset_of;
 
 // Records from one index up to another, that one not among them.
 pub struct Range {

@@ -2,12 +2,12 @@
 ghost use mathlib.Core.Path.{_≡_};
 ghost use Prim.Native.Nat.{_+_, _-_, _<_};
 ghost use Rattle.rules_roles.specs.Roles.{isSystem, opensSubentry, opensSection, isHeading, isUnit, isValue};
-use record::identifier::BIB;
-use record::identifier::COMMON;
-use record::identifier::DATA;
-use record::identifier::NOSUBENT;
-use record::identifier::OTHER;
-use record::identifier::SUBENT;
+use record_names::identifier::BIB;
+use record_names::identifier::COMMON;
+use record_names::identifier::DATA;
+use record_names::identifier::NOSUBENT;
+use record_names::identifier::OTHER;
+use record_names::identifier::SUBENT;
 
 // The roles of the records inside sections; a system record has its identifier's number.
 pub const TEXT: usize = OTHER + 1;

@@ -1,1 +1,2 @@
 pub mod EarlierParts
+pub mod SomeColumns

@@ -9,7 +9,8 @@ use Rattle.laws.specs.Search.{first}
 use Rattle.laws.specs.Turns.{Turn, go, out, run}
 use Rattle.columns.specs.Columns.{columnsAt}
 use Rattle.columns.specs.Fields.{inField}
-use Rattle.record_words.specs.Word.{equalTo, pointerFault, headingFault, unitFault}
+use Rattle.record_words.specs.Word.{equalTo}
+use Rattle.record_faults.specs.Faults.{pointerFault, headingFault, unitFault}
 use Rattle.rules_state.specs.declared.state.Track.{Track}
 use Rattle.rules_section.specs.declared.headings.Found.{Found}
 use Rattle.rules_section.specs.declared.headings.Found.the-variants.{At, Nothing}

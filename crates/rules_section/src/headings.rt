@@ -12,10 +12,10 @@ ghost use Rattle.rules_section.specs.Headings.{rule11Heading, rule12Head
 ghost use Rattle.rules_section.specs.Headings.{partOf, headingCount, Left, FAR, Near, headingFound, equalHeading};
 ghost use Rattle.rules_section.specs.Headings.{isFound, headingRepeated, rule13};
 use columns::fields::field;
-use record_words::word::heading_fault;
-use record_words::word::pointer_fault;
+use record_faults::faults::heading_fault;
+use record_faults::faults::pointer_fault;
+use record_faults::faults::unit_fault;
 use record_words::word::same_heading;
-use record_words::word::unit_fault;
 use rules_roles::fault::field_column;
 use rules_roles::fault::pointer_column;
 use rules_roles::ranging::Ranges;

@@ -5,8 +5,8 @@ ghost use Rattle.rules_state.specs.Limits.{MOST-RECORDS};
 ghost use Rattle.rules_state.specs.State.{startTrack, withAccession, withTotals, withSubentry, withSection};
 ghost use Rattle.rules_state.specs.State.{withBib, withTable, counted, used, rowEnds};
 ghost use Rattle.rules_state.specs.Ranging.{Bounded};
-use columns::columns::Index;
-use columns::columns::LineNo;
+use columns_places::places::Index;
+use columns_places::places::LineNo;
 
 // What is due next.
 pub enum Phase {

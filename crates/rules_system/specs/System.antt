@@ -5,7 +5,7 @@ use mathlib.Core.List.{List, _++_}
 use lib.Dec.{eqb, ltb, leb}
 use Rattle.columns.specs.Fields.{n1, n2}
 use Rattle.record_words.specs.Word.{equalTo}
-use Rattle.record.specs.Identifier.{ENTRY, isEnd}
+use Rattle.record_names.specs.Identifier.{ENTRY, isEnd}
 use Rattle.record.specs.System.{countOf, isCount, isDate, isEntryN1, isSubentN1, subentryOf}
 use Rattle.record_expected.specs.Expected.{subentAccession}
 use Rattle.rules_state.specs.declared.state.Track.{Track}

@@ -1,13 +1,10 @@
 // The rules for the fields of system records: refusals 7 and 9. Each gives the leftmost column at fault, 0 where there is none.
 ghost use mathlib.Core.Path.{_≡_};
 ghost use Prim.Native.Nat.{_-_, _<_};
-ghost use Rattle.record.specs.Identifier.{NamesLent};
+ghost use Rattle.record_names.specs.Identifier.{NamesLent};
 ghost use Rattle.rules_roles.specs.Roles.{isSystem, opensSubentry};
 ghost use Rattle.rules_roles.specs.Fault.{leftmost, on};
 ghost use Rattle.rules_system.specs.System.{formN1, formN2, inForm, rule7, numberDue, rule9};
-use record::identifier::ENTRY;
-use record::identifier::Names;
-use record::identifier::is_end;
 use record::system::count_of;
 use record::system::is_count;
 use record::system::is_date;
@@ -16,6 +13,9 @@ use record::system::is_subent_n1;
 use record::system::subentry_of;
 use record_expected::expected::same_five;
 use record_expected::expected::subent_accession;
+use record_names::identifier::ENTRY;
+use record_names::identifier::Names;
+use record_names::identifier::is_end;
 use rules_roles::roles::is_system;
 use rules_roles::roles::opens_section;
 use rules_roles::roles::opens_subentry;

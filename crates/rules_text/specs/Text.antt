@@ -7,7 +7,8 @@ use lib.ListN.{length, getD}
 use Rattle.laws.specs.Members.{listOf, anyOf}
 use Rattle.columns.specs.Columns.{columnsAt}
 use Rattle.columns.specs.Text.{isBlank}
-use Rattle.record_words.specs.Word.{blankTo, equalTo, eightAt, isWord, pointerOf, badPointer}
+use Rattle.record_words.specs.Word.{blankTo, equalTo, eightAt, isWord, pointerOf}
+use Rattle.record_faults.specs.Faults.{badPointer}
 use Rattle.rules_state.specs.declared.state.Track.{Track}
 use Rattle.rules_roles.specs.Fault.{Fields, Columns, when}
 

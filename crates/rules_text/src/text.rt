@@ -13,7 +13,7 @@ ghost use Rattle.rules_roles.specs.Fault.{leftmost, on};
 ghost use Rattle.rules_text.specs.Text.{placesOf, eightsOf, pointersOf, keywordFault, rule10, pointerRepeated};
 ghost use Rattle.rules_text.specs.Text.{rule11Text};
 use columns::fields::field;
-use record_words::word::bad_pointer;
+use record_faults::faults::bad_pointer;
 use record_words::word::eight_columns;
 use record_words::word::is_keyword_blank;
 use record_words::word::is_word;

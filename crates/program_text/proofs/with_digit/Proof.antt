@@ -1,3 +1,4 @@
+use mathlib.Core.Path.{refl}
 use native.Mathlib.Omega.{arith}
 use borrow.Author.Needs.{needs}
 use borrow.Author.Tests.{le-ltb, lt-ltb}
@@ -40,7 +41,7 @@ returns-4 c = (
     le-ltb _ _ (c .before .before .if1 .left),
     le-ltb _ _ (c .before .if2 .left),
     le-ltb _ _ (c .if3 .left),
-  ),
+  ) refl,
   omega arith,
 )
 

@@ -1,7 +1,7 @@
 use Prim.Native.Nat.{_-_}
 use Rattle.number.specs.Form.{Tables}
 use Rattle.classes.specs.Class.{ClassesLent}
-use Rattle.record.specs.Identifier.{NamesLent}
+use Rattle.record_names.specs.Identifier.{NamesLent}
 use borrow.Author.Needs.{needs}
 use lib.ListN.{length}
 use mathlib.Core.Path.{_∙_, _≡_, refl, sym}
@@ -15,7 +15,7 @@ use Rattle.number.proofs.form.kinds.Reads as kinds-reads
 use Rattle.number.proofs.form.nexts.Reads as nexts-reads
 use Rattle.classes.proofs.class.classes.Reads as classes-reads
 use Rattle.columns.proofs.fields.fields.Reads as fields-reads
-use Rattle.record.proofs.identifier.names.Reads as names-reads
+use Rattle.record_names.proofs.identifier.names.Reads as names-reads
 use Rattle.record_cases.proofs.say_classes.Reads as say-classes-reads
 use Rattle.record_cases.proofs.say_places.Reads as say-places-reads
 use Rattle.record_cases.proofs.say_record.Reads as say-record-reads

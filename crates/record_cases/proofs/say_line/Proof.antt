@@ -1,6 +1,6 @@
 use Prim.Native.Nat.{_-_, _≤_}
 use Rattle.number.specs.Reading.{column}
-use Rattle.columns.proofs.TablePlaces.{in-table}
+use Rattle.columns_places.proofs.TablePlaces.{in-table}
 use borrow.Author.Needs.{needs}
 use native.Mathlib.Omega.{arith}
 use Rattle.record_cases.proofs.say_line.Statement.{statement}
@@ -8,7 +8,7 @@ use Rattle.record_cases.proofs.say_line.Tie as tie
 use Rattle.record_cases.proofs.say_line.Reads as reads
 use Rattle.record_cases.proofs.say_line.Lts as lts
 use Rattle.io.proofs.write_all.Reads as write-all-reads
-use Rattle.columns.proofs.columns.place_of.Reads as place-of-reads
+use Rattle.columns_places.proofs.places.place_of.Reads as place-of-reads
 
 abbrev Inv-loop : tie.InvT-loop
 Inv-loop line column₀ t5 t6 t7 column = (1 ≤ line) × (line ≤ 2) × (1 ≤ column)

@@ -6,7 +6,7 @@ use Rattle.record_cases.proofs.say_places.Tie as tie
 use Rattle.record_cases.proofs.say_places.Reads as reads
 use Rattle.record_cases.proofs.say_places.Lts as lts
 use Rattle.io.proofs.write_all.Reads as write-all-reads
-use Rattle.columns.proofs.columns.records_for.Reads as records-for-reads
+use Rattle.columns_places.proofs.places.records_for.Reads as records-for-reads
 use Rattle.record_cases.proofs.say_line.Reads as say-line-reads
 
 abbrev Inv-loop : tie.InvT-loop

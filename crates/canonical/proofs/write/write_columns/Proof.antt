@@ -11,8 +11,8 @@ use Rattle.canonical.proofs.write.write_columns.Tie as tie
 use Rattle.canonical.proofs.write.write_columns.Reads as reads
 use Rattle.canonical.proofs.write.write_columns.Lts as lts
 use Rattle.canonical_layout.proofs.layout.prepare.Reads as prepare-reads
-use Rattle.canonical.proofs.store.layout_columns.Reads as layout-columns-reads
-use Rattle.canonical.proofs.store.put_field.Reads as put-field-reads
+use Rattle.canonical_parts.proofs.parts.layout_columns.Reads as layout-columns-reads
+use Rattle.canonical_store.proofs.store.put_field.Reads as put-field-reads
 
 prepare-requires : tie.Need-prepare-requires
 prepare-requires c κs = search needs

@@ -1,11 +1,11 @@
-use Rattle.copy.proofs.Made.{made-copied, made-room, refused-copied, short-copied}
+use Rattle.copy_laws.proofs.Made.{made-copied, made-room, refused-copied, short-copied}
 use mathlib.Core.Path.{_∙_}
 use borrow.Author.Needs.{needs}
 use Rattle.copy.proofs.copy.copy.Statement.{statement}
 use Rattle.copy.proofs.copy.copy.Tie as tie
 use Rattle.copy.proofs.copy.copy.Reads as reads
 use Rattle.copy.proofs.copy.copy.Lts as lts
-use Rattle.copy.proofs.copy.copy_records.Reads as copy-records-reads
+use Rattle.copy_walk.proofs.walk.copy_records.Reads as copy-records-reads
 use Rattle.entry.proofs.judge.judge.Reads as judge-reads
 
 judge-requires : tie.Need-judge-requires

@@ -1,4 +1,4 @@
-use Rattle.canonical.proofs.WriteBack.{canonical-read}
+use Rattle.canonical_laws.proofs.WriteBack.{canonical-read}
 use Rattle.copy_records.proofs.StoredNumbers.{written}
 use mathlib.Core.Path.{_∙_, sym}
 use borrow.Author.Needs.{needs}

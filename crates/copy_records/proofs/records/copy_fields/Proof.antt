@@ -1,7 +1,7 @@
 use mathlib.Core.List.{List}
 use Rattle.copy_records.proofs.WholeRecords.{field-pasted}
 use Prim.Native.Nat.{ℕ, _+_, _*_, _-_, _≤_}
-use Rattle.copy_records.specs.Copy.{copyField, valueField}
+use Rattle.copy_records.specs.CopyField.{copyField, valueField}
 use Rattle.copy_records.specs.Replaced.{mask, replaced}
 use lib.ListN.{length}
 use lib.Seq.{paste, paste-zero}

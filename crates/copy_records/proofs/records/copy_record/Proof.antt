@@ -1,5 +1,5 @@
 use Rattle.copy_records.proofs.WholeRecords.{rest-pasted}
-use Rattle.copy_records.specs.Copy.{valueField}
+use Rattle.copy_records.specs.CopyField.{valueField}
 use mathlib.Core.Path.{_∙_}
 use native.Mathlib.Omega.{arith}
 use borrow.Author.Needs.{needs}

@@ -26,8 +26,8 @@ use Rattle.entry_verdict.proofs.verdict.refused.Reads as refused-reads
 use Rattle.number.proofs.form.kinds.Reads as kinds-reads
 use Rattle.number.proofs.form.nexts.Reads as nexts-reads
 use Rattle.classes.proofs.class.classes.Reads as classes-reads
-use Rattle.columns.proofs.columns.record_of.Reads as record-of-reads
-use Rattle.record.proofs.identifier.names.Reads as names-reads
+use Rattle.columns_places.proofs.places.record_of.Reads as record-of-reads
+use Rattle.record_names.proofs.identifier.names.Reads as names-reads
 
 abbrev Inv-loop : tie.InvT-loop
 Inv-loop entry bytes n classes names kinds nexts j₀ i₀ j i =
@@ -157,7 +157,7 @@ returns-2 c =
       c .before .before .found .given .1,
       c .before .before .before .before .before .before .before .before .before .before .before .before .record-of
           .ensures,
-    )) ∙ ranges-judge _
+    ) refl) ∙ ranges-judge _
 
 add-i : tie.Need-add-i Inv-loop μ-loop
 add-i c = search needs

@@ -1,3 +1,4 @@
+use mathlib.Core.Path.{refl}
 use Rattle.entry_next.specs.Ranging.{rangesAfter}
 use borrow.Author.Needs.{needs}
 use Rattle.entry_next.proofs.parts.ranges_after.Statement.{statement}
@@ -64,7 +65,7 @@ returns c =
       c .before .before .common-after .ensures,
       c .range-after3 .ensures,
       c .before .table-change .ensures,
-    )
+    ) refl
 
 pub ranges-after-spec : {M : Type 1} → statement M
 ranges-after-spec =

@@ -1,3 +1,4 @@
+use mathlib.Core.Path.{refl}
 use borrow.Author.Needs.{needs}
 use Rattle.entry_tally.proofs.tally.numbers_read.Statement.{statement}
 use Rattle.entry_tally.proofs.tally.numbers_read.Tie as tie
@@ -32,7 +33,7 @@ returns c =
       c .before .before .before .more-numbers .ensures,
       c .before .before .values-read .ensures,
       ← c .before .before .before .before .lines-read .ensures .0,
-    )
+    ) refl
 
 pub numbers-read-spec : {M : Type 1} → statement M
 numbers-read-spec =

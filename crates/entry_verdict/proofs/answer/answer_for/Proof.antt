@@ -1,4 +1,4 @@
-use mathlib.Core.Path.{_≡_}
+use mathlib.Core.Path.{_≡_, refl}
 use native.Mathlib.Omega.{arith}
 use borrow.Author.Tests.{eq-eqb, ne-eqb}
 use borrow.Author.Needs.{needs}
@@ -9,7 +9,7 @@ returns : tie.Need-returns
 returns c =
     let t = c .before .if1 .taken in
     let e : c .before .before .args .number ≡ 31 = omega arith in
-    rw (eq-eqb _ 31 e)
+    rw (eq-eqb _ 31 e) refl
 
 answer-of-requires : tie.Need-answer-of-requires
 answer-of-requires c κs = search needs

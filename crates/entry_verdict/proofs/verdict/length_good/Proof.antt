@@ -1,3 +1,4 @@
+use mathlib.Core.Path.{refl}
 use Rattle.entry_verdict.specs.Verdict.{lengthGood}
 use borrow.Author.Tests.{eq-eqb, ne-eqb}
 use Rattle.entry_verdict.proofs.verdict.length_good.Statement.{statement}
@@ -15,7 +16,7 @@ returns-2 c = rw (ne-eqb _ _ (c .before .if1 .left), ne-eqb _ _ (c .if2 .taken))
 
 returns-3 : tie.Need-returns-3
 unfolding lengthGood
-returns-3 c = rw (ne-eqb _ _ (c .before .if1 .left), eq-eqb _ _ (c .if2 .left))
+returns-3 c = rw (ne-eqb _ _ (c .before .if1 .left), eq-eqb _ _ (c .if2 .left)) refl
 
 pub length-good-spec : {M : Type 1} → statement M
 length-good-spec = tie.close (tie.spec returns returns-2 returns-3)

@@ -1,5 +1,5 @@
 use mathlib.Core.Path.{_≡_}
-use Rattle.columns.specs.declared.columns.LineNo.{LineNo}
+use Rattle.columns_places.specs.declared.places.LineNo.{LineNo}
 use Rattle.questions.specs.Ask.{valueAsked}
 use borrow.Author.Needs.{needs}
 use Rattle.exports_questions.proofs.asking.x4_value.Statement.{statement}

@@ -5,7 +5,7 @@ use Rattle.questions.proofs.ask.heading.Statement.{statement}
 use Rattle.questions.proofs.ask.heading.Tie as tie
 use Rattle.questions.proofs.ask.heading.Reads as reads
 use Rattle.questions.proofs.ask.heading.Lts as lts
-use Rattle.questions_answers.proofs.answers.heading_by.Reads as heading-by-reads
+use Rattle.questions_parts.proofs.answers.heading_by.Reads as heading-by-reads
 use Rattle.questions_rows.proofs.row.locate.Reads as locate-reads
 
 locate-requires : tie.Need-locate-requires

@@ -5,7 +5,7 @@ use Rattle.questions.proofs.ask.passage.Statement.{statement}
 use Rattle.questions.proofs.ask.passage.Tie as tie
 use Rattle.questions.proofs.ask.passage.Reads as reads
 use Rattle.questions.proofs.ask.passage.Lts as lts
-use Rattle.questions_answers.proofs.answers.passage_by.Reads as passage-by-reads
+use Rattle.questions_parts.proofs.answers.passage_by.Reads as passage-by-reads
 use Rattle.questions_rows.proofs.row.locate.Reads as locate-reads
 
 locate-requires : tie.Need-locate-requires

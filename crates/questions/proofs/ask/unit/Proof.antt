@@ -5,7 +5,7 @@ use Rattle.questions.proofs.ask.unit.Statement.{statement}
 use Rattle.questions.proofs.ask.unit.Tie as tie
 use Rattle.questions.proofs.ask.unit.Reads as reads
 use Rattle.questions.proofs.ask.unit.Lts as lts
-use Rattle.questions_answers.proofs.answers.unit_by.Reads as unit-by-reads
+use Rattle.questions_parts.proofs.answers.unit_by.Reads as unit-by-reads
 use Rattle.questions_rows.proofs.row.locate.Reads as locate-reads
 
 locate-requires : tie.Need-locate-requires

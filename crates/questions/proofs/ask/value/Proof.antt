@@ -1,12 +1,12 @@
 use mathlib.Core.Path.{_∙_, ap}
 use Rattle.questions.specs.Ask.{valueAsked}
-use Rattle.questions_answers.specs.Answers.{valueSaid}
+use Rattle.questions_values.specs.Answers.{valueSaid}
 use borrow.Author.Needs.{needs}
 use Rattle.questions.proofs.ask.value.Statement.{statement}
 use Rattle.questions.proofs.ask.value.Tie as tie
 use Rattle.questions.proofs.ask.value.Reads as reads
 use Rattle.questions.proofs.ask.value.Lts as lts
-use Rattle.questions_answers.proofs.answers.value_by.Reads as value-by-reads
+use Rattle.questions_values.proofs.answers.value_by.Reads as value-by-reads
 use Rattle.questions_rows.proofs.row.locate.Reads as locate-reads
 
 locate-requires : tie.Need-locate-requires

@@ -1,3 +1,4 @@
+use mathlib.Core.Path.{refl}
 use Rattle.questions_noted.specs.Row.{noted}
 use borrow.Author.Tests.{eq-eqb, ne-eqb}
 use borrow.Author.Needs.{needs}
@@ -20,7 +21,7 @@ returns-2 c = rw (← c .before .before .opens-subentry .ensures, c .before .if1
 
 returns-3 : tie.Need-returns-3
 unfolding noted
-returns-3 c = rw (← c .before .before .before .opens-subentry .ensures, c .before .before .if1 .left, ne-eqb _ _ (c .before .if2 .left), eq-eqb _ _ (c .if3 .taken))
+returns-3 c = rw (← c .before .before .before .opens-subentry .ensures, c .before .before .if1 .left, ne-eqb _ _ (c .before .if2 .left), eq-eqb _ _ (c .if3 .taken)) refl
 
 returns-4 : tie.Need-returns-4
 unfolding noted

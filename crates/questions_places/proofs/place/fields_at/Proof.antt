@@ -2,7 +2,7 @@ use Rattle.laws.proofs.Table.{at}
 use Rattle.questions_places.proofs.Records.{record-there}
 use Rattle.questions_places.specs.Place.{fieldsAt}
 use borrow.Author.Tests.{not-false, not-true}
-use mathlib.Core.Path.{_∙_, sym}
+use mathlib.Core.Path.{_∙_, refl, sym}
 use native.Mathlib.Nat.{add-sub-cancel-left}
 use native.Mathlib.Omega.{arith}
 use borrow.Author.Needs.{needs}
@@ -18,7 +18,7 @@ has-record-requires c κs = search needs
 
 returns : tie.Need-returns
 unfolding fieldsAt
-returns c = rw (← c .before .has-record .ensures, not-true (c .before .has-record .result) (c .if1 .taken))
+returns c = rw (← c .before .has-record .ensures, not-true (c .before .has-record .result) (c .if1 .taken)) refl
 
 cast-before : tie.Need-cast-before
 cast-before c = search needs

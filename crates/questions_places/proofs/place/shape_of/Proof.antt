@@ -1,3 +1,4 @@
+use mathlib.Core.Path.{refl}
 use Rattle.questions_places.specs.Place.{shapeOf}
 use borrow.Author.Tests.{eq-eqb, ne-eqb}
 use native.Mathlib.Omega.{arith}
@@ -23,7 +24,7 @@ count-to-requires c κs = search needs
 
 returns : tie.Need-returns
 unfolding shapeOf
-returns c = (rw (← c .before .before .before .fields-at .ensures, eq-eqb _ _ (c .if1 .taken), ← c .before .count-to .ensures .0), (c .before .count-to .ensures .1, omega arith))
+returns c = (rw (← c .before .before .before .fields-at .ensures, eq-eqb _ _ (c .if1 .taken), ← c .before .count-to .ensures .0) refl, (c .before .count-to .ensures .1, omega arith))
 
 array-copy-out-n2 : tie.Need-array-copy-out-n2
 array-copy-out-n2 c = search needs
@@ -36,7 +37,7 @@ count-to-requires-2 c κs = search needs
 
 returns-2 : tie.Need-returns-2
 unfolding shapeOf
-returns-2 c = (rw (← c .before .before .before .before .before .fields-at .ensures, ne-eqb _ _ (c .before .before .if1 .left), ← c .before .before .before .count-to .ensures .0, ← c .count-to2 .ensures .0), (c .before .before .before .count-to .ensures .1, c .count-to2 .ensures .1))
+returns-2 c = (rw (← c .before .before .before .before .before .fields-at .ensures, ne-eqb _ _ (c .before .before .if1 .left), ← c .before .before .before .count-to .ensures .0, ← c .count-to2 .ensures .0) refl, (c .before .before .before .count-to .ensures .1, c .count-to2 .ensures .1))
 
 pub shape-of-spec : {M : Type 1} → statement M
 shape-of-spec =

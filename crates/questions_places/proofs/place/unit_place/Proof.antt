@@ -1,3 +1,4 @@
+use mathlib.Core.Path.{refl}
 use Rattle.questions_places.specs.Place.{unitPlace}
 use native.Mathlib.Omega.{arith}
 use borrow.Author.Needs.{needs}
@@ -5,7 +6,7 @@ use Rattle.questions_places.proofs.place.unit_place.Statement.{statemen
 use Rattle.questions_places.proofs.place.unit_place.Tie as tie
 use Rattle.questions_places.proofs.place.unit_place.Reads as reads
 use Rattle.questions_places.proofs.place.unit_place.Lts as lts
-use Rattle.columns.proofs.columns.records_for.Reads as records-for-reads
+use Rattle.columns_places.proofs.places.records_for.Reads as records-for-reads
 
 records-for-requires : tie.Need-records-for-requires
 records-for-requires c κs = search needs
@@ -24,7 +25,7 @@ add-number-3 c = search needs
 
 returns : tie.Need-returns
 unfolding unitPlace
-returns c = (rw (← c .before .records-for .ensures), omega arith)
+returns c = (rw (← c .before .records-for .ensures) refl, omega arith)
 
 pub unit-place-spec : {M : Type 1} → statement M
 unit-place-spec =

@@ -5,8 +5,8 @@ use Rattle.questions_refusals.proofs.refusals.is_subent.Tie as tie
 use Rattle.questions_refusals.proofs.refusals.is_subent.Reads as reads
 use Rattle.questions_refusals.proofs.refusals.is_subent.Lts as lts
 use Rattle.questions_places.proofs.place.fields_at.Reads as fields-at-reads
-use Rattle.record.proofs.identifier.identifier_of.Reads as identifier-of-reads
-use Rattle.record.proofs.identifier.names.Reads as names-reads
+use Rattle.record_names.proofs.identifier.identifier_of.Reads as identifier-of-reads
+use Rattle.record_names.proofs.identifier.names.Reads as names-reads
 
 names-requires : tie.Need-names-requires
 names-requires c κs = search needs

@@ -12,14 +12,14 @@ use Rattle.questions_rows.proofs.row.row_of.Statement.{statement}
 use Rattle.questions_rows.proofs.row.row_of.Tie as tie
 use Rattle.questions_rows.proofs.row.row_of.Reads as reads
 use Rattle.questions_rows.proofs.row.row_of.Lts as lts
-use Rattle.columns.proofs.columns.record_of.Reads as record-of-reads
+use Rattle.columns_places.proofs.places.record_of.Reads as record-of-reads
 use Rattle.entry_step.proofs.step.Judge.new.Reads as new-reads
 use Rattle.entry_step.proofs.step.Judge.pass.Reads as pass-reads
 use Rattle.number.proofs.form.kinds.Reads as kinds-reads
 use Rattle.number.proofs.form.nexts.Reads as nexts-reads
 use Rattle.questions_noted.proofs.row.empty_row.Reads as empty-row-reads
 use Rattle.questions_noted.proofs.row.noted_in.Reads as noted-in-reads
-use Rattle.record.proofs.identifier.names.Reads as names-reads
+use Rattle.record_names.proofs.identifier.names.Reads as names-reads
 
 abbrev Inv-loop : tie.InvT-loop
 Inv-loop entry number n names kinds nexts j₀ row₀ i₀ j row i =

@@ -1,3 +1,4 @@
+use mathlib.Core.Path.{refl}
 use Rattle.record_expected.specs.Expected.{inDigits}
 use borrow.Author.Needs.{needs}
 use native.Mathlib.Nat.{div-one}
@@ -38,7 +39,7 @@ cast-e c = search needs
 
 returns : tie.Need-returns
 unfolding inDigits
-returns c = rw div-one
+returns c = rw div-one refl
 
 pub five-digits-spec : {M : Type 1} → statement M
 five-digits-spec =

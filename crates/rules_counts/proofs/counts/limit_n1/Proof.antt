@@ -1,3 +1,4 @@
+use mathlib.Core.Path.{refl}
 use Rattle.rules_counts.specs.Counts.{limitN1}
 use borrow.Author.Tests.{eq-eqb, ne-eqb}
 use Rattle.rules_counts.proofs.counts.limit_n1.Statement.{statement}
@@ -11,7 +12,7 @@ returns c = rw (eq-eqb _ _ (c .if1 .taken))
 
 returns-2 : tie.Need-returns-2
 unfolding limitN1
-returns-2 c = rw (ne-eqb _ _ (c .if1 .left))
+returns-2 c = rw (ne-eqb _ _ (c .if1 .left)) refl
 
 pub limit-n1-spec : {M : Type 1} → statement M
 limit-n1-spec = tie.close (tie.spec returns returns-2)

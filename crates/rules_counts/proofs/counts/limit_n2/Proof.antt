@@ -1,3 +1,4 @@
+use mathlib.Core.Path.{refl}
 use Rattle.rules_counts.specs.Counts.{limitN2}
 use borrow.Author.Tests.{eq-eqb, ne-eqb}
 use borrow.Author.Needs.{needs}
@@ -5,7 +6,7 @@ use Rattle.rules_counts.proofs.counts.limit_n2.Statement.{statement}
 use Rattle.rules_counts.proofs.counts.limit_n2.Tie as tie
 use Rattle.rules_counts.proofs.counts.limit_n2.Reads as reads
 use Rattle.rules_counts.proofs.counts.limit_n2.Lts as lts
-use Rattle.columns.proofs.columns.records_for.Reads as records-for-reads
+use Rattle.columns_places.proofs.places.records_for.Reads as records-for-reads
 
 returns : tie.Need-returns
 unfolding limitN2
@@ -30,11 +31,11 @@ returns-2 c =
       ne-eqb _ _ (c .before .before .if1 .left),
       eq-eqb _ _ (c .before .if2 .taken),
       ← c .records-for .ensures,
-    )
+    ) refl
 
 returns-3 : tie.Need-returns-3
 unfolding limitN2
-returns-3 c = rw (ne-eqb _ _ (c .before .if1 .left), ne-eqb _ _ (c .if2 .left))
+returns-3 c = rw (ne-eqb _ _ (c .before .if1 .left), ne-eqb _ _ (c .if2 .left)) refl
 
 pub limit-n2-spec : {M : Type 1} → statement M
 limit-n2-spec =

@@ -1,3 +1,4 @@
+use mathlib.Core.Path.{refl}
 use borrow.Author.Needs.{needs}
 use Rattle.rules_counts.proofs.counts.meets.Statement.{statement}
 use Rattle.rules_counts.proofs.counts.meets.Tie as tie
@@ -15,7 +16,7 @@ is-within-requires : tie.Need-is-within-requires
 is-within-requires c κs = search needs
 
 returns : tie.Need-returns
-returns c = rw (c .before .limit .given .1)
+returns c = rw (c .before .limit .given .1) refl
 
 returns-2 : tie.Need-returns-2
 returns-2 c = rw (c .before .before .limit2 .given .1) (c .is-within .ensures)

@@ -5,7 +5,7 @@ use Rattle.rules_counts.proofs.counts.rule8.Statement.{statement}
 use Rattle.rules_counts.proofs.counts.rule8.Tie as tie
 use Rattle.rules_counts.proofs.counts.rule8.Reads as reads
 use Rattle.rules_counts.proofs.counts.rule8.Lts as lts
-use Rattle.record.proofs.identifier.is_end.Reads as is-end-reads
+use Rattle.record_names.proofs.identifier.is_end.Reads as is-end-reads
 use Rattle.record.proofs.system.count_of.Reads as count-of-reads
 use Rattle.record.proofs.system.number_of.Reads as number-of-reads
 use Rattle.rules_roles.proofs.roles.is_system.Reads as is-system-reads

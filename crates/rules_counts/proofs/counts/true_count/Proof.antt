@@ -1,3 +1,4 @@
+use mathlib.Core.Path.{refl}
 use Rattle.rules_counts.specs.Counts.{trueCount}
 use borrow.Author.Tests.{eq-eqb, ne-eqb}
 use borrow.Author.Needs.{needs}
@@ -18,7 +19,7 @@ cast-result-2 c = search needs
 
 returns-2 : tie.Need-returns-2
 unfolding trueCount
-returns-2 c = rw (ne-eqb _ _ (c .before .before .before .if1 .left), eq-eqb _ _ (c .before .before .if2 .taken))
+returns-2 c = rw (ne-eqb _ _ (c .before .before .before .if1 .left), eq-eqb _ _ (c .before .before .if2 .taken)) refl
 
 cast-result-3 : tie.Need-cast-result-3
 cast-result-3 c = search needs

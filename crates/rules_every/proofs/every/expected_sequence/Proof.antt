@@ -1,3 +1,4 @@
+use mathlib.Core.Path.{refl}
 use Rattle.rules_every.specs.Every.{expectedSequence}
 use borrow.Author.Tests.{eq-eqb, ne-eqb}
 use borrow.Author.Needs.{needs}
@@ -51,7 +52,7 @@ returns-5 c =
       c .before .before .before .before .if2 .left,
       ne-eqb _ _ (c .before .before .before .if3 .left),
       ne-eqb _ _ (c .before .before .if4 .left),
-    )
+    ) refl
 
 pub expected-sequence-spec : {M : Type 1} → statement M
 expected-sequence-spec =

@@ -6,7 +6,7 @@ use Rattle.rules_section.proofs.headings.rule11_heading.Statement.{stat
 use Rattle.rules_section.proofs.headings.rule11_heading.Tie as tie
 use Rattle.rules_section.proofs.headings.rule11_heading.Reads as reads
 use Rattle.rules_section.proofs.headings.rule11_heading.Lts as lts
-use Rattle.record_words.proofs.word.pointer_fault.Reads as pointer-fault-reads
+use Rattle.record_faults.proofs.faults.pointer_fault.Reads as pointer-fault-reads
 use Rattle.rules_roles.proofs.fault.pointer_column.Reads as pointer-column-reads
 use Rattle.rules_roles.proofs.roles.is_heading.Reads as is-heading-reads
 use Rattle.rules_state.proofs.state.Track.used.Reads as used-reads

@@ -5,8 +5,8 @@ use Rattle.rules_section.proofs.headings.rule12.Statement.{statement}
 use Rattle.rules_section.proofs.headings.rule12.Tie as tie
 use Rattle.rules_section.proofs.headings.rule12.Reads as reads
 use Rattle.rules_section.proofs.headings.rule12.Lts as lts
-use Rattle.record_words.proofs.word.heading_fault.Reads as heading-fault-reads
-use Rattle.record_words.proofs.word.unit_fault.Reads as unit-fault-reads
+use Rattle.record_faults.proofs.faults.heading_fault.Reads as heading-fault-reads
+use Rattle.record_faults.proofs.faults.unit_fault.Reads as unit-fault-reads
 use Rattle.rules_roles.proofs.fault.field_column.Reads as field-column-reads
 use Rattle.rules_roles.proofs.roles.is_heading.Reads as is-heading-reads
 use Rattle.rules_roles.proofs.roles.is_unit.Reads as is-unit-reads

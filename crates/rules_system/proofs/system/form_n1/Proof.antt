@@ -5,7 +5,7 @@ use Rattle.rules_system.proofs.system.form_n1.Statement.{statement}
 use Rattle.rules_system.proofs.system.form_n1.Tie as tie
 use Rattle.rules_system.proofs.system.form_n1.Reads as reads
 use Rattle.rules_system.proofs.system.form_n1.Lts as lts
-use Rattle.record.proofs.identifier.is_end.Reads as is-end-reads
+use Rattle.record_names.proofs.identifier.is_end.Reads as is-end-reads
 use Rattle.rules_roles.proofs.roles.opens_section.Reads as opens-section-reads
 use Rattle.rules_roles.proofs.roles.opens_subentry.Reads as opens-subentry-reads
 

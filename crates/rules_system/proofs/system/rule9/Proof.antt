@@ -1,3 +1,4 @@
+use mathlib.Core.Path.{refl}
 use Rattle.rules_system.specs.System.{rule9}
 use borrow.Author.Tests.{not-false, not-true}
 use borrow.Author.Needs.{needs}
@@ -36,7 +37,7 @@ returns-2 c =
       ← c .before .before .before .subent-accession .ensures,
       ← c .before .same-five .ensures,
       not-true (c .before .same-five .result) (c .if2 .taken),
-    )
+    ) refl
 
 subentry-of-requires : tie.Need-subentry-of-requires
 subentry-of-requires c κs = search needs

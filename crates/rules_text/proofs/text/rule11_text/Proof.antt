@@ -6,7 +6,7 @@ use Rattle.rules_text.proofs.text.rule11_text.Statement.{statement}
 use Rattle.rules_text.proofs.text.rule11_text.Tie as tie
 use Rattle.rules_text.proofs.text.rule11_text.Reads as reads
 use Rattle.rules_text.proofs.text.rule11_text.Lts as lts
-use Rattle.record_words.proofs.word.bad_pointer.Reads as bad-pointer-reads
+use Rattle.record_faults.proofs.faults.bad_pointer.Reads as bad-pointer-reads
 use Rattle.rules_roles.proofs.ranging.part.Reads as part-reads
 use Rattle.rules_text.proofs.text.pointer_repeated.Reads as pointer-repeated-reads
 

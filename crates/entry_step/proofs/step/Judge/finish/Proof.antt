@@ -6,7 +6,7 @@ use Rattle.entry_step.proofs.step.Judge.finish.Reads as reads
 use Rattle.entry_step.proofs.step.Judge.finish.Lts as lts
 use Rattle.entry_verdict.proofs.verdict.is_done.Reads as is-done-reads
 use Rattle.entry_verdict.proofs.verdict.refused.Reads as refused-reads
-use Rattle.columns.proofs.columns.record_of.Reads as record-of-reads
+use Rattle.columns_places.proofs.places.record_of.Reads as record-of-reads
 
 is-done-requires : tie.Need-is-done-requires
 is-done-requires c κs = search needs

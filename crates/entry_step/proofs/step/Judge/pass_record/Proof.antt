@@ -1,3 +1,5 @@
+use mathlib.Core.Path.{ap}
+use Rattle.entry_step.specs.declared.step.Judge.{Judge}
 use Rattle.entry_step.specs.Pass.{passOf}
 use borrow.Author.Needs.{needs}
 use Rattle.entry_step.proofs.step.Judge.pass_record.Statement.{statement}
@@ -6,7 +8,7 @@ use Rattle.entry_step.proofs.step.Judge.pass_record.Reads as reads
 use Rattle.entry_step.proofs.step.Judge.pass_record.Lts as lts
 use Rattle.columns.proofs.fields.fields.Reads as fields-reads
 use Rattle.entry_step.proofs.step.Judge.after.Reads as after-reads
-use Rattle.record.proofs.identifier.identifier_of.Reads as identifier-of-reads
+use Rattle.record_names.proofs.identifier.identifier_of.Reads as identifier-of-reads
 use Rattle.rules_values.proofs.values.values.Reads as values-reads
 use Rattle.rules_state.proofs.state.Track.role.Reads as role-reads
 
@@ -31,12 +33,12 @@ after-requires c κs = search needs
 returns : tie.Need-returns
 unfolding passOf
 returns c =
+    let role = c .before .before .role .result in
     rw (
-      c .after .ensures,
       ← c .before .before .before .before .before .before .fields .ensures,
       ← c .before .before .before .before .identifier-of .ensures,
       ← c .before .before .role .ensures,
-    )
+    ) (ap (λ (j : Judge). record { role = role; next = j }) (c .after .ensures))
 
 pub pass-record-spec : {M : Type 1} → statement M
 pass-record-spec =

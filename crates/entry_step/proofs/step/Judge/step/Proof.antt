@@ -8,7 +8,7 @@ use Rattle.entry_step.proofs.step.Judge.step.Reads as reads
 use Rattle.entry_step.proofs.step.Judge.step.Lts as lts
 use Rattle.entry_step.proofs.step.Judge.step_as.Reads as step-as-reads
 use Rattle.columns.proofs.fields.fields.Reads as fields-reads
-use Rattle.record.proofs.identifier.identifier_of.Reads as identifier-of-reads
+use Rattle.record_names.proofs.identifier.identifier_of.Reads as identifier-of-reads
 use Rattle.rules_state.proofs.state.Track.role.Reads as role-reads
 
 fields-requires : tie.Need-fields-requires

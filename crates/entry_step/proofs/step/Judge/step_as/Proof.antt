@@ -1,3 +1,4 @@
+use mathlib.Core.Path.{refl}
 use Rattle.entry_step.proofs.Stepping.{stands-after}
 use Rattle.entry_step.specs.ByRanges.{stepAs}
 use Rattle.number.proofs.Bounds.{within}
@@ -49,7 +50,7 @@ returns c =
         ← c .before .before .before .fault .ensures .0,
         c .before .enum-told .given .1,
         ← c .after .ensures,
-      );
+      ) refl;
       within = rw (c .after .ensures)
           (stands-after _ _ _ (c .before .before .before .before .before .before .before .before .before .pre .1 .1 .1)
           _ _);

@@ -1,3 +1,4 @@
+use mathlib.Core.Path.{refl}
 use Rattle.rules_state.specs.Role.{bibRole}
 use borrow.Author.Tests.{eq-eqb, ne-eqb}
 use borrow.Author.Needs.{needs}
@@ -23,7 +24,7 @@ returns-2 c = rw (ne-eqb _ _ (c .before .if1 .left), eq-eqb _ _ (c .if2 .taken))
 
 returns-3 : tie.Need-returns-3
 unfolding bibRole
-returns-3 c = rw (ne-eqb _ _ (c .before .if1 .left), ne-eqb _ _ (c .if2 .left))
+returns-3 c = rw (ne-eqb _ _ (c .before .if1 .left), ne-eqb _ _ (c .if2 .left)) refl
 
 pub bib-role-spec : {M : Type 1} → statement M
 bib-role-spec = tie.close (tie.spec cast-if1 only-requires returns returns-2 returns-3)

@@ -6,7 +6,7 @@ use Rattle.rules_state.proofs.state.Track.table_role.Statement.{stateme
 use Rattle.rules_state.proofs.state.Track.table_role.Tie as tie
 use Rattle.rules_state.proofs.state.Track.table_role.Reads as reads
 use Rattle.rules_state.proofs.state.Track.table_role.Lts as lts
-use Rattle.record.proofs.identifier.is_end.Reads as is-end-reads
+use Rattle.record_names.proofs.identifier.is_end.Reads as is-end-reads
 use Rattle.rules_state.proofs.role.only.Reads as only-reads
 
 only-requires : tie.Need-only-requires

@@ -1,3 +1,4 @@
+use mathlib.Core.Path.{refl}
 use Rattle.rules_state.specs.State.{used}
 use borrow.Author.Tests.{le-leb, lt-leb}
 use native.Mathlib.Omega.{arith}
@@ -16,7 +17,7 @@ returns c = (rw (le-leb _ _ (c .before .if1 .taken)), omega arith)
 
 returns-2 : tie.Need-returns-2
 unfolding used
-returns-2 c = (rw (lt-leb _ _ (c .if1 .left)), omega arith)
+returns-2 c = (rw (lt-leb _ _ (c .if1 .left)) refl, omega arith)
 
 pub used-spec : {M : Type 1} → statement M
 used-spec = tie.close (tie.spec cast-result returns returns-2)

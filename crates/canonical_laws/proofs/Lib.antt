@@ -1,0 +1,5 @@
+pub mod Theorems
+pub mod Characters
+pub mod Promises
+pub mod Laws
+pub mod WriteBack

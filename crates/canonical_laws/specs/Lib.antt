@@ -1,0 +1,3 @@
+pub mod Replacing
+pub mod Marked
+pub mod Claims

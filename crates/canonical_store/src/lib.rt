@@ -1,0 +1,2 @@
+// Number fields: storing the bytes of a canonical field that is laid out.
+pub mod store;

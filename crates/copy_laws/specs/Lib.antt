@@ -1,0 +1,4 @@
+pub mod Copy
+pub mod Storing
+pub mod Call
+pub mod Demand

@@ -1,0 +1,113 @@
+-- What the code's loop keeps: it has come to a record of an accepted entry, and the buffer holds the copy up to there.
+-- Assumes nothing.
+use Prim.Native.Nat.{ℕ, _+_, _-_, _*_, _/_, _<_, _≤_}
+use mathlib.Core.Path.{_≡_, refl, sym, _∙_, ap}
+use mathlib.Core.List.{List}
+use native.Mathlib.Omega.{arith}
+use lib.ListN.{length, take, drop, length-drop}
+use lib.Seq.{paste, paste-zero, length-take-le, take-all, take-take}
+use Rattle.laws.specs.Blocks.{blockAt}
+use Rattle.copy_records.specs.Replaced.{replaced, mask}
+use Rattle.columns.specs.Columns.{Whole}
+use Rattle.rules_state.specs.Limits.{MOST-RECORDS}
+use Rattle.entry_step.specs.declared.step.Judge.{Judge}
+use Rattle.entry_step.specs.declared.pass.Passed.{Passed}
+use Rattle.entry_judging.specs.Judging.{Accepted}
+use Rattle.entry_step.specs.ByRanges.{startJudge}
+use Rattle.entry_judging.specs.Contexts.{contextAt}
+use Rattle.entry_step.specs.Pass.{Walking, PassedAt}
+use Rattle.entry_step.proofs.Numbered.{whole-records}
+use Rattle.entry_step.proofs.Walking.{walking-start, track-stands}
+use Rattle.copy_records.specs.CopyField.{valueField, copyField}
+use Rattle.copy_laws.specs.Copy.{copyRecord, copyOf}
+use Rattle.copy_laws.specs.Call.{copiedInto}
+use Rattle.copy_laws.specs.Storing.{Room}
+use Rattle.copy_laws.proofs.Demand.{passed, copy-long}
+use Rattle.copy_records.proofs.Pasted.{paste-more}
+use Rattle.copy_laws.proofs.RecordCopied.{record-copied}
+use Rattle.copy_laws.proofs.CopiedBlocks.{copied-block}
+
+-- the loop over n records has come to the record with the index i
+pub record Copied (s lent : List ℕ) (n : ℕ) (j : Judge) (out : List ℕ) (i : ℕ) : Type 0 where
+  pub accepted : Accepted s
+  pub whole : length s ≡ n * 81
+  pub few : n ≤ MOST-RECORDS
+  pub fits : length s ≤ length lent
+  pub long : length out ≡ length lent
+  pub walking : Walking j s i
+  pub same : out ≡ paste lent 0 (copyOf s) (i * 81)
+
+pub copied-start : (s lent : List ℕ) → Room s lent → Copied s lent (length s / 81) startJudge lent 0
+copied-start s lent h =
+    let p = passed s (h .accepted) in
+    let g = whole-records (length s) (p .good) in
+    record {
+      accepted = h .accepted;
+      whole = g .0;
+      few = g .1;
+      fits = h .room;
+      long = refl;
+      walking = walking-start s (p .good);
+      same = paste-zero lent 0 (copyOf s);
+    }
+
+-- the record in hand, as the code takes it
+abbrev recordAt : List ℕ → ℕ → List ℕ
+recordAt s i = take (i * 81 + 81 - i * 81) (drop (i * 81) s)
+
+record-at : (s : List ℕ) (i : ℕ) → recordAt s i ≡ blockAt 81 s i
+record-at s i = let e : i * 81 + 81 - i * 81 ≡ 81 = omega arith in rw e
+
+-- one record more behind the copy of the first i
+next-pasted : (s lent : List ℕ) (i : ℕ) → Accepted s → i < length s / 81
+    → paste (paste lent 0 (copyOf s) (i * 81)) (i * 81) (copyRecord (contextAt s i) (blockAt 81 s i)) 81
+    ≡ paste lent 0 (copyOf s) ((i + 1) * 81)
+next-pasted s lent i f l =
+    let long = copy-long s (passed s f) in
+    let new = copyRecord (contextAt s i) (blockAt 81 s i) in
+    let z : 0 + i * 81 ≡ i * 81 = omega arith in
+    let e : i * 81 + 81 ≡ (i + 1) * 81 = omega arith in
+    let same : take 81 new ≡ take 81 (drop (i * 81) (copyOf s)) =
+    ap (take 81) (sym (copied-block s f i l)) ∙ take-take 81 81 (drop (i * 81) (copyOf s)) (omega arith) in
+    ap (λ (at : ℕ). paste (paste lent 0 (copyOf s) (i * 81)) at new 81) (sym z)
+    ∙ paste-more lent (copyOf s) new 0 (i * 81) 81 (omega arith) (omega arith) same
+    ∙ ap (λ (m : ℕ). paste lent 0 (copyOf s) m) e
+
+module _ {s lent : List ℕ} {n : ℕ} {j : Judge} {out : List ℕ} {i : ℕ} (k : Copied s lent n j out i) where
+  pub copied-done : n ≤ i → out ≡ copiedInto s lent
+  copied-done h =
+      let w = k .whole in
+      let u = k .walking .upto in
+      let e : i * 81 ≡ length s = omega arith in
+      let long = copy-long s (passed s (k .accepted)) in
+      let z : 0 + length s ≡ length s = omega arith in
+      k .same ∙ rw (e, z, take-all (length s) (copyOf s) (omega arith))
+
+  module _ (less : i < n) where
+    pub copied-there : i < length s / 81
+    copied-there = let w = k .whole in omega arith
+
+    pub copied-whole : Whole (recordAt s i)
+    copied-whole =
+        let w = k .whole in
+        rw (record-at s i) (record { long = length-take-le 81 (drop (i * 81) s) (simp length-drop (omega arith)) })
+
+    -- a record that is passed and stored
+    pub copied-next : (x : Passed) → PassedAt x s i → (new : List ℕ)
+        → new ≡ paste out (i * 81) (replaced copyField (mask (valueField (j .track) (x .role)) 0 6) (recordAt s i)) 81
+        → length new ≡ length out → Copied s lent n (x .next) new (i + 1)
+    copied-next x p new e long =
+        let role = ap (λ (y : Passed). y .role) (p .same) in
+        let stored = record-copied (contextAt s i) (blockAt 81 s i) (j .track) (x .role) (track-stands (k .walking))
+        role in
+        record {
+          accepted = k .accepted;
+          whole = k .whole;
+          few = k .few;
+          fits = k .fits;
+          long = long ∙ k .long;
+          walking = p .walking;
+          same =
+              e
+              ∙ rw (record-at s i, stored, k .same) (next-pasted s lent i (k .accepted) copied-there);
+        }

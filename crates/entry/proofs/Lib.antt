@@ -1,5 +1,0 @@
-pub mod GoingOn
-pub mod Contexts
-pub mod AcceptedWalk
-pub mod FirstRefused
-pub mod FirstAlone

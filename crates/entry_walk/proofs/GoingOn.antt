@@ -1,0 +1,84 @@
+-- The judge's turn at a record: it goes on exactly where no rule is broken, and hands out nothing but refusals. Behind
+-- a value record the context goes by what the fields read to.
+-- Assumes nothing.
+use mathlib.Core.Path.{_≡_, refl, ap}
+use mathlib.Core.Bool.{Bool, true, false, cond}
+use mathlib.Core.List.{List, []}
+use Prim.Native.Nat.{ℕ, _<_}
+use native.Mathlib.Omega.{arith}
+use lib.ListN.{getD}
+use Rattle.laws.specs.Turns.{go, out}
+use Rattle.laws.specs.Copies.{Passing}
+use Rattle.number.specs.Reading.{readField}
+use Rattle.columns_places.specs.Places.{recordOf}
+use Rattle.columns.specs.Fields.{fieldsOf}
+use Rattle.rules_roles.specs.declared.fault.Fault.{Fault}
+use Rattle.rules_roles.specs.declared.fault.Fault.the-variants.{Fine, At}
+use Rattle.rules_state.specs.State.{Context, used}
+use Rattle.rules_roles.specs.Roles.{COMMON-VALUE, DATA-VALUE, isValue}
+use Rattle.rules_values.specs.Values.{optional, valuesFor}
+use Rattle.rules.specs.Order.{faultOf}
+use Rattle.entry_verdict.specs.declared.verdict.Verdict.{Verdict}
+use Rattle.entry_counted.specs.Counted.{trackAfter, afterInside}
+use Rattle.entry_next.specs.Parts.{partAfter, bibChange, underChange, tableChange, seenAfter}
+use Rattle.entry_next.specs.Next.{contextAfter}
+use Rattle.entry_judging.specs.Judging.{roleOf, onFault, turnAs, turnOf, endOf}
+use Rattle.entry_verdict.specs.Verdict.{accepted, refused, isDone}
+use Rattle.record_values.proofs.Readings.{values-same}
+use Rattle.rules.proofs.ByKind.{of-values}
+use Rattle.rules.proofs.Least.{fault-bounds}
+
+pub go-fine : Passing turnOf
+    (λ c i r d. (faultOf (c .track) (c .seen) (roleOf c r) (fieldsOf r) r ≡ Fine)
+    × (contextAfter c (roleOf c r) (fieldsOf r) r ≡ d))
+unfolding turnOf turnAs
+go-fine c i r d h = by-fault (faultOf (c .track) (c .seen) (roleOf c r) (fieldsOf r) r) h
+  where
+    by-fault : (x : Fault)
+        → onFault (recordOf (c .track .records)) x (contextAfter c (roleOf c r) (fieldsOf r) r) ≡ go d
+        → (x ≡ Fine) × (contextAfter c (roleOf c r) (fieldsOf r) r ≡ d)
+    by-fault Fine e = (refl, cc)
+    by-fault (At n k) e = let z : _≡_ {A = ℕ} 0 1 = cc in absurd (omega arith)
+
+pub fine-go : (c : Context) (i : ℕ) (r : List ℕ) (role : ℕ) → roleOf c r ≡ role
+    → faultOf (c .track) (c .seen) role (fieldsOf r) r ≡ Fine
+    → turnOf c i r ≡ go (contextAfter c role (fieldsOf r) r)
+unfolding turnOf turnAs
+fine-go c i r role e h = rw (e, h)
+
+-- a walk that ends without refusal has met the end of the entry
+pub done-of : (c : Context) → endOf c .refusal ≡ 0 → isDone (c .phase) ≡ true
+unfolding endOf
+done-of c e = by-test (isDone (c .phase)) e
+  where
+    by-test : (b : Bool)
+        → cond b (accepted (c .track .totals)) (refused 16 (recordOf (c .track .records)) 0) .refusal ≡ 0 → b ≡ true
+    by-test true h = refl
+    by-test false h = absurd (omega arith)
+
+-- what a turn hands out is a refusal
+pub out-refused : (c : Context) (i : ℕ) (r : List ℕ) (v : Verdict) → turnOf c i r ≡ out v → v .refusal ≡ 0 → ⊥
+unfolding turnOf turnAs
+out-refused c i r v e z = by-fault (faultOf (c .track) (c .seen) (roleOf c r) (fieldsOf r) r) refl e
+  where
+    by-fault : (x : Fault) → faultOf (c .track) (c .seen) (roleOf c r) (fieldsOf r) r ≡ x
+        → onFault (recordOf (c .track .records)) x (contextAfter c (roleOf c r) (fieldsOf r) r) ≡ out v → ⊥
+    by-fault Fine q h = let z : _≡_ {A = ℕ} 0 1 = cc in omega arith
+    by-fault (At n k) q h =
+        let w : refused n (recordOf (c .track .records)) k ≡ v = cc in
+        let m : n ≡ v .refusal = ap (λ (x : Verdict). x .refusal) w in
+        let b = fault-bounds (c .track) (c .seen) (roleOf c r) (fieldsOf r) r n k q .from-two in
+        omega arith
+
+module _ (c : Context) (r t : List ℕ)
+    (reads : (k : ℕ) → k < 6 → readField (getD (fieldsOf t) k []) ≡ readField (getD (fieldsOf r) k [])) where
+  values-for : (role : ℕ) → valuesFor (c .track) role (fieldsOf t) ≡ valuesFor (c .track) role (fieldsOf r)
+  unfolding valuesFor
+  values-for role = rw (values-same (fieldsOf t) (fieldsOf r) reads (optional role) (used (c .track)))
+
+  pub next-alike : (role : ℕ) → isValue role ≡ true
+      → contextAfter c role (fieldsOf t) t ≡ contextAfter c role (fieldsOf r) r
+  unfolding contextAfter trackAfter afterInside seenAfter partAfter bibChange underChange tableChange
+  next-alike =
+      of-values (λ role. contextAfter c role (fieldsOf t) t ≡ contextAfter c role (fieldsOf r) r)
+      (rw (values-for COMMON-VALUE)) (rw (values-for DATA-VALUE))

@@ -1,3 +1,0 @@
-pub mod NearFaults
-pub mod Sizes
-pub mod Laws

@@ -1,2 +1,0 @@
-pub mod Verdicts
-pub mod Claims

@@ -1,0 +1,166 @@
+-- No answer is lost: it comes back from the word and the lent array, whatever stood in the array before.
+-- Assumes nothing.
+use mathlib.Core.Path.{_≡_, refl, ap, _∙_}
+use mathlib.Core.Bool.{Bool, true, false}
+use mathlib.Core.List.{List}
+use Prim.Native.Nat.{ℕ, _+_, _*_, _/_, _%_, _^_, _<_}
+use native.Mathlib.Omega.{arith}
+use borrow.Author.Tests.{eqb-true, eqb-false, ne-eqb}
+use lib.Dec.{eqb}
+use lib.IntN.{pos, negℤ}
+use lib.ListN.{length}
+use lib.Signed.{_≤ℤ_}
+use Rattle.number.specs.declared.value.Reading.{Reading}
+use Rattle.number.specs.declared.value.Reading.the-variants.{Blank, Number, Refused}
+use Rattle.number.specs.Value.{Says, blank, number, malformed}
+use Rattle.number.specs.Reading.{readField, readNumber}
+use Rattle.number.proofs.Laws.{read-bounds-eleven, reads-exactly, says-exactly, eleven-read, others-refused}
+use Rattle.columns_places.specs.declared.places.RecordNo.{RecordNo}
+use Rattle.rules_state.specs.declared.state.Totals.{Totals}
+use Rattle.rules_state.proofs.EitherWay.{either-way}
+use Rattle.entry_verdict.specs.declared.answer.Answer.{Answer}
+use Rattle.entry_verdict.specs.declared.verdict.Verdict.{Verdict}
+use Rattle.entry_verdict.specs.Answer.{answerOf, answerFor}
+use Rattle.entry_verdict.specs.Verdict.{refused, accepted}
+use Rattle.entry_judging.specs.Judging.{judgeOf}
+use Rattle.exports_words.specs.Words.{answerWord, answerIn, lentAfter}
+use Rattle.exports_words.specs.Values.{bit, twos, valueNumbers, readingAnswer, readingStored, readingIn}
+use Rattle.exports_verdicts.specs.Verdicts.{verdictAnswer, totalsNumbers, verdictIn}
+use Rattle.exports_back.specs.Claims.{ReadingBack, VerdictBack}
+use Rattle.exports_back.proofs.Sizes.{NearRefusal, Fitting, accepting, refusing, judge-fits}
+use Rattle.exports_words.proofs.Twos.{twos-back}
+
+-- ---- words
+
+-- an answer that fits its rooms
+pub record Fits (a : Answer) : Type 0 where
+  pub number : a .number < 2 ^ 8
+  pub beside : NearRefusal (a .refusal) (a .«record») (a .column)
+
+-- the numbers in the rooms
+module _ (a b c d : ℕ) (h : a < 256) (i : b < 256) (j : c < 256) (k : d < 16777216) where
+  abbrev full : ℕ
+  full = a + 256 * (b + 256 * (c + 256 * d))
+
+  room-1 : full % 256 ≡ a
+  room-1 = omega arith
+
+  room-2 : full / 256 % 256 ≡ b
+  room-2 = omega arith
+
+  room-3 : full / 65536 % 256 ≡ c
+  room-3 = omega arith
+
+  room-4 : full / 16777216 % 16777216 ≡ d
+  room-4 = omega arith
+
+  room-5 : full < 281474976710656
+  room-5 = omega arith
+
+pub word-back : (a : Answer) → Fits a → answerIn (answerWord a) ≡ a
+unfolding answerIn answerWord
+word-back a h =
+    let n = a .number in
+    let r = a .refusal in
+    let k = a .column in
+    let m = a .«record» .0 in
+    let x = h .number in
+    let y = h .beside .number in
+    let z = h .beside .column in
+    let u = h .beside .«record» in
+    rw (room-1 n r k m x y z u, room-2 n r k m x y z u, room-3 n r k m x y z u, room-4 n r k m x y z u) refl
+
+-- the bits from 48 on are 0
+pub word-room : (a : Answer) → Fits a → answerWord a < 2 ^ 48
+unfolding answerWord
+word-room a h =
+    room-5 (a .number) (a .refusal) (a .column) (a .«record» .0) (h .number) (h .beside .number) (h .beside .column)
+    (h .beside .«record»)
+
+pub plain-fits : (n : ℕ) → n < 2 ^ 8 → Fits (answerOf n)
+plain-fits n h =
+    record { number = h; beside = record { number = omega arith; «record» = omega arith; column = omega arith } }
+
+-- what stands beside a number, by the verdict on an entry
+near-of : {v : Verdict} → Fitting v → NearRefusal (v .refusal) (v .«record») (v .column)
+near-of (accepting t) = record { number = omega arith; «record» = omega arith; column = omega arith }
+near-of (refusing n at k z h) = h
+
+pub answer-fits : (s : List ℕ) (n : ℕ) → n < 2 ^ 8 → Fits (answerFor (judgeOf s) n)
+answer-fits s n h =
+    either-way Fits (eqb n 31) _ _ (record { number = omega arith; beside = near-of (judge-fits s) })
+    (plain-fits n h)
+
+-- ---- readings
+
+bit-back : (b : Bool) → eqb (bit b) 1 ≡ b
+bit-back true = refl
+bit-back false = refl
+
+-- what comes back
+abbrev pub Held : Reading → Type 0
+Held Blank = Unit {0}
+Held (Number v) = (negℤ (pos 100000000) ≤ℤ v .power) × (v .power ≤ℤ pos 99999999)
+Held (Refused n) = (0 < n) × (n < 2 ^ 8)
+
+refused-held : (n : ℕ) (xs : List ℕ) → 0 < n → n < 2 ^ 8 → readingIn (answerWord (answerOf n)) xs ≡ Refused n
+unfolding readingIn
+refused-held n xs z h = rw (word-back (answerOf n) (plain-fits n h), ne-eqb n 0 (λ e. omega arith)) refl
+
+pub held-back : (before : List ℕ) (r : Reading) → Held r
+    → readingIn (answerWord (readingAnswer r)) (readingStored before r) ≡ r
+unfolding readingIn readingAnswer readingStored valueNumbers answerIn answerWord
+held-back before Blank h = refl
+held-back before (Number v) h = rw (bit-back (v .negative), twos-back (v .power) (h .0) (h .1)) refl
+held-back before (Refused n) h = refused-held n before (h .0) (h .1)
+
+-- every reading of eleven columns is held
+pub held : (l : List ℕ) → length l ≡ 11 → (r : Reading) → Says l r → Held r
+held l w Blank x = tt
+held l w (Number v) (number x) =
+    let b = read-bounds-eleven l v w (reads-exactly l v .1 x) in
+    (b .1, b .2)
+held l w (Refused n) (malformed x y) = (omega arith, omega arith)
+
+-- what a slice says comes back
+pub reading-back : ReadingBack
+reading-back l before = held-back before (readNumber l) (by-length (eqb (length l) 11) refl)
+  where
+    by-length : (t : Bool) → eqb (length l) 11 ≡ t → Held (readNumber l)
+    by-length true e =
+        let w = eqb-true (length l) 11 e in
+        rw (eleven-read l w) (held l w (readField l) (says-exactly l (readField l) .0 refl))
+    by-length false e = rw (others-refused l (eqb-false (length l) 11 e)) (omega arith, omega arith)
+
+-- ---- verdicts
+
+-- the answer of a refused verdict
+abbrev refusedAnswer : ℕ → RecordNo → ℕ → Answer
+refusedAnswer n at k = record { number = n; refusal = n; «record» = at; column = k }
+
+answer-refused : (n : ℕ) (at : RecordNo) (k : ℕ) → 0 < n → verdictAnswer (refused n at k) ≡ refusedAnswer n at k
+unfolding verdictAnswer
+answer-refused n at k z = rw (ne-eqb n 0 (λ e. omega arith)) refl
+
+refused-in : (n : ℕ) (at : RecordNo) (k : ℕ) → 0 < n → NearRefusal n at k → (xs : List ℕ)
+    → verdictIn (answerWord (refusedAnswer n at k)) xs ≡ refused n at k
+unfolding verdictIn
+refused-in n at k z h xs =
+    rw (
+      word-back (refusedAnswer n at k) (record { number = h .number; beside = h }),
+      ne-eqb n 0 (λ e. omega arith),
+    ) refl
+
+accepted-back : (before : List ℕ) (t : Totals)
+    → verdictIn (answerWord (verdictAnswer (accepted t))) (lentAfter 0 before (totalsNumbers t)) ≡ accepted t
+unfolding verdictIn verdictAnswer answerIn answerWord lentAfter totalsNumbers
+accepted-back before t = refl
+
+fitting-back : (before : List ℕ) {v : Verdict} → Fitting v
+    → verdictIn (answerWord (verdictAnswer v)) (lentAfter (v .refusal) before (totalsNumbers (v .totals))) ≡ v
+fitting-back before (accepting t) = accepted-back before t
+fitting-back before (refusing n at k z h) = rw (answer-refused n at k z) (refused-in n at k z h _)
+
+-- the verdict on an entry comes back
+pub verdict-back : VerdictBack
+verdict-back s before = fitting-back before (judge-fits s)

@@ -1,0 +1,65 @@
+-- A keyword that is not ten bytes is none: no passage stands under it, and the question is refused by 36 at the latest.
+-- Assumes nothing.
+use Prim.Native.Nat.{ℕ, _+_, _-_, _*_}
+use mathlib.Core.Path.{_≡_, refl, _∙_, ap}
+use mathlib.Core.Bool.{Bool, true, false, not, _&&_}
+use mathlib.Core.List.{List, [], _∷_, _++_}
+use native.Mathlib.Omega.{arith}
+use borrow.Author.Tests.{ne-eqb, le-ltb}
+use lib.Dec.{eqb}
+use lib.ListN.{length, getD-replicate}
+use Rattle.laws.specs.Search.{first}
+use Rattle.laws.proofs.Search.{first-same, pass-first}
+use Rattle.number.specs.Grammar.{blanks}
+use Rattle.columns_places.specs.declared.places.RecordNo.{RecordNo}
+use Rattle.record_words.specs.Word.{filledAt, differAt, blankTo, equalTo}
+use Rattle.entry_judging.specs.Judging.{judgeOf}
+use Rattle.entry_verdict.specs.Answer.{refusal, firstOf}
+use Rattle.questions_passages.specs.declared.passage.Passage.{Passage}
+use Rattle.questions_places.specs.Place.{firstByte}
+use Rattle.questions_passages.specs.Passage.{passageOf, textAt, isKeyword, textRecords, NO-PASSAGE}
+use Rattle.questions_rows.specs.Row.{rowOf}
+use Rattle.questions_refusals.specs.Refused.{passageRefusal, sectionRefusals, noPassage}
+use Rattle.questions_parts.specs.Answers.{passageBy}
+use Rattle.questions.specs.Ask.{passageAsked}
+use Rattle.questions_parts.proofs.Parts.{part-number}
+use Rattle.exports_parts.specs.Questions.{keywordPlace}
+use Rattle.exports_back.specs.NoPlace.{NoPlace}
+
+-- blanks are no keyword
+never : (f : List ℕ) → isKeyword (blanks 10) f ≡ false
+unfolding blankTo equalTo
+never f =
+    let same : first (differAt f (blanks 10)) 0 10 ≡ first (filledAt f) 0 10 =
+    first-same (differAt f (blanks 10)) (filledAt f) 0 10
+    (λ k l m. rw (getD-replicate {A = ℕ} 10 k 32 0 (omega arith))) in
+    rw same (by-test (eqb (first (filledAt f) 0 10) 10))
+  where
+    by-test : (b : Bool) → (not b && b) ≡ false
+    by-test true = refl
+    by-test false = refl
+
+none-there : (s : List ℕ) (bib : RecordNo) (pointer : ℕ) → passageOf s bib (blanks 10) pointer ≡ NO-PASSAGE
+unfolding passageOf
+none-there s bib pointer =
+    let n = textRecords s bib in
+    let k = first (λ m. isKeyword (blanks 10) (textAt s bib m)) 0 (n - 0) in
+    let e : k ≡ 0 + (n - 0) =
+    pass-first (λ m. isKeyword (blanks 10) (textAt s bib m)) 0 (n - 0) (λ m l h. never (textAt s bib m)) in
+    rw (le-ltb k n (omega arith))
+
+-- the number of a question whose passage is p
+abbrev numberBy : List ℕ → ℕ → Passage → ℕ
+numberBy s n p =
+    firstOf (sectionRefusals s (judgeOf s) (rowOf s n) (rowOf s n .bib) ++ (refusal 36 (noPassage p) ∷ []))
+
+-- THE THEOREM
+pub no-place : NoPlace
+unfolding passageAsked passageBy passageRefusal keywordPlace
+no-place s n keyword pointer wrong =
+    let x = rowOf s n in
+    let k : keywordPlace keyword ≡ blanks 10 = rw (ne-eqb (length keyword) 10 wrong) in
+    let p = passageOf s (x .bib) (keywordPlace keyword) pointer in
+    let none : p ≡ NO-PASSAGE = rw k (none-there s (x .bib) pointer) in
+    part-number s (judgeOf s) (numberBy s n p) (firstByte (p .first)) (p .records * 81) pointer
+    ∙ ap (numberBy s n) none

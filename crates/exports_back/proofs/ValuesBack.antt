@@ -1,0 +1,122 @@
+-- No value is lost, and no answer to a copy: they come back from the word and the lent array.
+-- Assumes nothing.
+use Prim.Native.Nat.{ℕ, _-_, _*_, _≤_}
+use mathlib.Core.Path.{_≡_, refl}
+use mathlib.Core.Bool.{Bool, true, false, cond}
+use mathlib.Core.List.{List, [], _∷_, _++_}
+use native.Mathlib.Omega.{arith}
+use borrow.Author.Tests.{eqb-true, eqb-false, le-leb}
+use lib.Dec.{eqb, leb, ltb}
+use lib.ListN.{length, getD, drop, replicate, getD-replicate, length-drop}
+use lib.Seq.{length-take-le}
+use Rattle.laws.specs.Blocks.{blockAt}
+use Rattle.number.specs.declared.value.Reading.{Reading}
+use Rattle.number.specs.declared.value.Reading.the-variants.{Blank, Number, Refused}
+use Rattle.number.specs.Value.{Says, malformed}
+use Rattle.number.specs.Reading.{readField}
+use Rattle.number.proofs.Laws.{says-exactly}
+use Rattle.columns_places.specs.declared.places.Place.{Place}
+use Rattle.columns_places.specs.Places.{placeOf}
+use Rattle.columns.specs.Fields.{fieldAt, fieldsOf}
+use Rattle.columns.proofs.ReadColumns.{field-of}
+use Rattle.entry_judging.specs.Judging.{judgeOf}
+use Rattle.entry_verdict.specs.Answer.{refusal, firstOf, isRefused, answerOf, answerFor}
+use Rattle.entry_verdict.specs.declared.answer.Answer.{Answer}
+use Rattle.questions_values.specs.declared.answers.ValueAnswer.{ValueAnswer}
+use Rattle.questions_rows.specs.Row.{rowOf}
+use Rattle.questions_places.specs.Place.{hasRecord, fieldsAt, shapeOf, fieldOf}
+use Rattle.questions_refusals.specs.Refused.{sectionIn, valueRefusal, sectionRefusals, noColumn, noLine}
+use Rattle.questions_values.specs.Answers.{valueWith, valueBy}
+use Rattle.questions.specs.Ask.{valueAsked}
+use Rattle.questions_places.proofs.Records.{record-there}
+use Rattle.questions_values.proofs.ValuePlaces.{value-field}
+use Rattle.copy_laws.specs.Call.{copied}
+use Rattle.exports_words.specs.Words.{answerWord, answerIn, lentAfter}
+use Rattle.exports_words.specs.Values.{readingAnswer, readingStored}
+use Rattle.exports_back.specs.QuestionClaims.{ValueBack, CopiedBack}
+use Rattle.exports_parts.specs.Questions.{valueAnswer, valueStored, valueAnswerIn}
+use Rattle.exports_back.proofs.Laws.{Fits, word-back, answer-fits, held, held-back}
+use Rattle.entry_verdict.proofs.Answers.{answer-number}
+use Rattle.exports_back.proofs.Refusals.{Numbered, one, first-numbered, section-numbered}
+
+-- a field of an entry is that of a record, or blank
+field-cases : (P : List ℕ → Type 0) (s : List ℕ) (p : Place) → p .field ≤ 5
+    → (hasRecord s (p .at) ≡ true → P (fieldAt (blockAt 81 s (p .at .0 - 1)) (p .field)))
+    → P (replicate 11 32) → P (fieldOf s p)
+unfolding fieldsAt
+field-cases P s p f there blank = by-record (hasRecord s (p .at)) refl
+  where
+    by-record : (b : Bool) → hasRecord s (p .at) ≡ b
+        → P (getD (cond b (fieldsOf (blockAt 81 s (p .at .0 - 1))) (replicate 6 (replicate 11 32))) (p .field) [])
+    by-record true e = rw (field-of (blockAt 81 s (p .at .0 - 1)) (p .field) (omega arith)) (there e)
+    by-record false e = rw (getD-replicate 6 (p .field) (replicate {A = ℕ} 11 32) [] (omega arith)) blank
+
+-- a field of an entry is eleven columns
+field-wide : (s : List ℕ) (p : Place) → p .field ≤ 5 → length (fieldOf s p) ≡ 11
+field-wide s p f =
+    let r = blockAt 81 s (p .at .0 - 1) in
+    field-cases (λ l. length l ≡ 11) s p f
+    (λ e.
+    let (a, b) = record-there s (p .at) e in
+    let w : length r ≡ 81 = length-take-le 81 (drop ((p .at .0 - 1) * 81) s) (simp length-drop (omega arith)) in
+    length-take-le 11 (drop (p .field * 11) r) (simp length-drop (omega arith)))
+    refl
+
+-- what a field says refuses no question
+says-low : (l : List ℕ) (r : Reading) → Says l r → leb 31 (answerIn (answerWord (readingAnswer r)) .number) ≡ false
+unfolding readingAnswer answerIn answerWord
+says-low l Blank h = refl
+says-low l (Number v) h = refl
+says-low l (Refused n) (malformed x y) = refl
+
+said-back : (before l : List ℕ) → length l ≡ 11
+    → valueAnswerIn (answerWord (readingAnswer (readField l))) (readingStored before (readField l))
+    ≡ record { answer = answerOf 0; value = readField l }
+unfolding valueAnswerIn
+said-back before l w =
+    let h = says-exactly l (readField l) .0 refl in
+    rw (says-low l (readField l) h, held-back before (readField l) (held l w (readField l) h)) refl
+
+refused-value : (xs : List ℕ) (a : Answer) → Fits a → 31 ≤ a .number
+    → valueAnswerIn (answerWord a) xs ≡ record { answer = a; value = Blank }
+unfolding valueAnswerIn
+refused-value xs a h far = rw (word-back a h, le-leb 31 (a .number) far) refl
+
+-- a value comes back, whatever stood in the array before
+abbrev Back : List ℕ → ValueAnswer → Type 0
+Back before v = valueAnswerIn (answerWord (valueAnswer v)) (valueStored before v) ≡ v
+
+value-with : (s before : List ℕ) (number : ℕ) (l : List ℕ) → Numbered number → length l ≡ 11
+    → Back before (valueWith (judgeOf s) number (readField l))
+unfolding valueAnswer valueStored lentAfter
+value-with s before number l h w = by-number (eqb number 0) refl
+  where
+    by-number : (b : Bool) → eqb number 0 ≡ b → Back before (valueWith (judgeOf s) number (readField l))
+    by-number true e = rw (eqb-true number 0 e) (said-back before l w)
+    by-number false e =
+        let same = answer-number (judgeOf s) number in
+        let far : 31 ≤ number = h .far (eqb-false number 0 e) in
+        rw (same, e)
+        (refused-value before (answerFor (judgeOf s) number) (answer-fits s number (h .few)) (rw same far))
+
+pub value-back : ValueBack
+unfolding valueAsked valueBy valueRefusal
+value-back s before n section line column =
+    let x = rowOf s n in
+    let at = sectionIn x section in
+    let shape = shapeOf s section at in
+    let last = refusal 34 (noLine shape line) ∷ refusal 35 (noColumn shape column) ∷ [] in
+    let place = placeOf at (shape .columns) line column in
+    value-with s before (firstOf (sectionRefusals s (judgeOf s) x at ++ last)) (fieldOf s place)
+    (section-numbered s x at last
+    (one 34 (omega arith) (omega arith), (one 35 (omega arith) (omega arith), tt)))
+    (field-wide s place (value-field at (shape .columns) line column))
+
+-- ---- a copy
+
+pub copied-back : CopiedBack
+unfolding copied
+copied-back s room =
+    let list = refusal 31 (isRefused (judgeOf s)) ∷ refusal 37 (ltb room (length s)) ∷ [] in
+    let numbered = first-numbered list (one 31 (omega arith) (omega arith), (one 37 (omega arith) (omega arith), tt)) in
+    word-back (copied s room) (answer-fits s (firstOf list) (numbered .few))

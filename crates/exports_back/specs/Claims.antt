@@ -1,0 +1,22 @@
+-- What is claimed of the words and arrays: they say all of the answer, for every input and whatever the array held. Each
+-- type is that of a law in proofs/Laws, under the law's name.
+use Prim.Native.Nat.{ℕ}
+use mathlib.Core.Path.{_≡_}
+use mathlib.Core.List.{List}
+use Rattle.number.specs.Reading.{readNumber}
+use Rattle.entry_judging.specs.Judging.{judgeOf}
+use Rattle.exports_words.specs.Words.{answerWord, lentAfter}
+use Rattle.exports_words.specs.Values.{readingAnswer, readingStored, readingIn}
+use Rattle.exports_verdicts.specs.Verdicts.{verdictAnswer, totalsNumbers, verdictIn}
+
+abbrev pub ReadingBack : Type 0
+ReadingBack =
+    (l before : List ℕ)
+    → readingIn (answerWord (readingAnswer (readNumber l))) (readingStored before (readNumber l)) ≡ readNumber l
+
+abbrev pub VerdictBack : Type 0
+VerdictBack =
+    (s before : List ℕ)
+    → verdictIn (answerWord (verdictAnswer (judgeOf s)))
+    (lentAfter (judgeOf s .refusal) before (totalsNumbers (judgeOf s .totals)))
+    ≡ judgeOf s

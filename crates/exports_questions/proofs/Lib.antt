@@ -1,4 +1,0 @@
-pub mod Refusals
-pub mod PartsBack
-pub mod NoPlace
-pub mod ValuesBack

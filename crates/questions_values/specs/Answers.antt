@@ -1,0 +1,54 @@
+-- The answer to a question for a value, by the verdict on the entry and the row of the subentry (document 01, "Refusal
+-- numbers and their order"):
+--
+--   "Value gives blank or number. [..] a refused value is blank beside its number. COMMON has line 1 only; [..]"
+use Prim.Native.Nat.{ℕ}
+use mathlib.Core.Bool.{Bool, true, cond}
+use mathlib.Core.List.{List}
+use lib.Dec.{eqb}
+use Rattle.columns_places.specs.Places.{placeOf}
+use Rattle.columns_places.specs.declared.places.LineNo.{LineNo}
+use Rattle.number.specs.Value.{zeroDecimal}
+use Rattle.number.specs.Reading.{readField, answer as readingSaid}
+use Rattle.number.specs.declared.value.Decimal.{Decimal}
+use Rattle.number.specs.declared.value.Reading.{Reading}
+use Rattle.number.specs.declared.value.Reading.the-variants.{Blank}
+use Rattle.entry_verdict.specs.declared.verdict.Verdict.{Verdict}
+use Rattle.entry_verdict.specs.Answer.{answerFor}
+use Rattle.questions_noted.specs.declared.row.Row.{Row}
+use Rattle.questions_values.specs.declared.answers.ValueAnswer.{ValueAnswer}
+use Rattle.questions_places.specs.Place.{shapeOf, fieldOf}
+use Rattle.questions_refusals.specs.Refused.{sectionIn, valueRefusal}
+
+-- "a refused value is blank beside its number"
+abbrev pub valueWith : Verdict → ℕ → Reading → ValueAnswer
+valueWith v number value =
+    record { answer = answerFor v number; value = cond (eqb number 0) value Blank }
+
+-- "Value gives blank or number": that an answered one is never malformed is the law `answered-said`
+unfoldable pub valueBy : List ℕ → Verdict → Row → ℕ → LineNo → ℕ → ValueAnswer
+valueBy s v x section line column =
+    let at = sectionIn x section in
+    let shape = shapeOf s section at in
+    valueWith v (valueRefusal s v x at shape line column)
+    (readField (fieldOf s (placeOf at (shape .columns) line column)))
+
+-- document 01's number and values for each answer about a value, whatever case its reading is. Beside another number
+-- than 0 it is blank (`refused-said`); 15 would stand for a malformed field, and no answered one is (`answered-said`)
+pub record ValueSaid : Type 0 where
+  pub number : ℕ
+  pub blank : Bool
+  pub decimal : Decimal
+
+abbrev pub valueSaid : ValueAnswer → ValueSaid
+valueSaid v =
+    let field = readingSaid (v .value) in
+    record {
+      number = cond (eqb (v .answer .number) 0) (field .refusal) (v .answer .number);
+      blank = field .blank;
+      decimal = field .value;
+    }
+
+-- "a refused value is blank beside its number"
+abbrev pub blankBeside : ℕ → ValueSaid
+blankBeside number = record { number = number; blank = true; decimal = zeroDecimal }

@@ -1,0 +1,56 @@
+// The answer about a value, by the verdict on the entry and the row of the subentry.
+ghost use mathlib.Core.Path.{_≡_};
+ghost use Rattle.questions_noted.specs.Row.{Met};
+ghost use Rattle.questions_values.specs.Answers.{valueBy};
+use columns_places::places::LineNo;
+use columns_places::places::place_of;
+use entry_verdict::answer::Answer;
+use entry_verdict::answer::answer_for;
+use entry_verdict::answer::answer_of;
+use entry_verdict::verdict::Verdict;
+use number::value::Reading;
+use number_reading::read::read_field;
+use questions_noted::row::Row;
+use questions_places::place::field_of;
+use questions_places::place::shape_of;
+use questions_refusals::refusals::section_in;
+use questions_refusals::refusals::value_refusal;
+
+// The number of each answer is 0 or 31 to 36.
+pub struct ValueAnswer {
+    pub answer: Answer,
+    pub value: Reading,
+}
+
+// The answers, by the verdict on the entry and the row of the subentry.
+pub fn value_by(
+    entry: &[u8],
+    v: Verdict,
+    row: Row,
+    section: u32,
+    line: LineNo,
+    column: u32,
+) -> ValueAnswer
+    requires { ⌜ Met row ⌝ }
+    ensures { λ r. ⌜ r ≡ valueBy (now (entry .entry)) v row section line column ⌝ }
+{
+    let at = section_in(row, section);
+    let shape = shape_of(entry, section, at);
+    let refusal = value_refusal(entry, v, row, at, shape, line, column);
+    if refusal != 0 {
+        let refused = answer_for(v, refusal);
+        return ValueAnswer {
+            answer: refused,
+            value: Reading::Blank,
+        };
+    }
+    let columns = shape.columns;
+    let place = place_of(at, columns, line, column);
+    let f = field_of(entry, place);
+    let value = read_field(f);
+    let answered = answer_of(0);
+    ValueAnswer {
+        answer: answered,
+        value,
+    }
+}

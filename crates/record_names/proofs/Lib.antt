@@ -1,0 +1,3 @@
+pub mod NameTable
+pub mod Found
+pub mod PlainNames
