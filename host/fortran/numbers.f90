@@ -1,4 +1,5 @@
-! Reads each line of standard input as a number field and prints what it says; a number is written again.
+! Reads each line of standard input as a number field and prints what it says and the count of its digits; a number is
+! written again.
 program numbers
   use x4, only: x4_value, x4_read, x4_write
   implicit none
@@ -13,16 +14,18 @@ program numbers
 10  continue
     v = x4_read(line(:length))
     if (v%refused%number /= 0) then
+      ! no digit is counted beside a refusal
+      if (v%digits /= 0) stop 3
       write (*, '(a,i0)') 'refused ', v%refused%number
     else if (v%blank) then
-      write (*, '(a)') 'blank'
+      write (*, '(a,i0)') 'blank digits ', v%digits
     else
       field = repeat('#', 11)
       refusal = x4_write(v, field)
       write (coefficient, '(i0)') v%coefficient
       write (power, '(i0)') v%power
-      write (*, '(a,a,a,a,1x,i0,1x,a)') trim(merge('-', ' ', v%negative)), trim(coefficient), 'E', trim(power), refusal, &
-          "'" // field // "'"
+      write (*, '(5a,i0,1x,i0,1x,a)') trim(merge('-', ' ', v%negative)), trim(coefficient), 'E', trim(power), &
+          ' digits ', v%digits, refusal, "'" // field // "'"
     end if
   end do
 end program numbers

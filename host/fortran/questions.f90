@@ -67,13 +67,15 @@ contains
     type(x4_value), intent(in) :: v
     character(len=20) :: coefficient, power
     if (v%refused%number /= 0) then
+      ! no digit is counted beside a refusal
+      if (v%digits /= 0) stop 3
       call say_refused(v%refused)
     else if (v%blank) then
-      write (*, '(a)') 'blank'
+      write (*, '(a,i0)') 'blank digits ', v%digits
     else
       write (coefficient, '(i0)') v%coefficient
       write (power, '(i0)') v%power
-      write (*, '(4a)') trim(merge('-', ' ', v%negative)), trim(coefficient), 'E', trim(power)
+      write (*, '(5a,i0)') trim(merge('-', ' ', v%negative)), trim(coefficient), 'E', trim(power), ' digits ', v%digits
     end if
   end subroutine say_value
 

@@ -1,10 +1,11 @@
-! The functions of the proved archives (rt staticlib) for Fortran. The numbers are document 01's.
+! The functions of the proved archives (rt staticlib) for Fortran. The numbers are document 01's; the count of digits is
+! that of document 02, M-104.
 !
 ! A call returns a word, 0 where it is answered, and then stores what it answers in an array that is lent to it:
 ! totals(4) are subentries, keywords, DATA lines, numbers; value(8) are kind (0 blank, 1 number), 1 if below zero,
-! coefficient, power of ten, four zeros; part(3) are the first byte counted from 0, the length, the pointer. A refused
-! call stores nothing. The word has the number of the refusal in bits 0-7, the entry's refusal in 8-15, its column in
-! 16-23, its record in 24-47.
+! coefficient, power of ten, count of digits, three zeros; part(3) are the first byte counted from 0, the length, the
+! pointer. A refused call stores nothing. The word has the number of the refusal in bits 0-7, the entry's refusal in
+! 8-15, its column in 16-23, its record in 24-47.
 module x4
   use, intrinsic :: iso_c_binding, only: c_char, c_int8_t, c_int32_t, c_int64_t, c_size_t
   implicit none
@@ -13,7 +14,7 @@ module x4
   public :: x4_judged, x4_ask_value, x4_ask_heading, x4_ask_unit, x4_ask_passage, x4_copied, x4_read, x4_write
 
   ! The interface that this module describes; x4_version() is the same of the archives.
-  integer(c_int32_t), parameter :: x4_interface = 2
+  integer(c_int32_t), parameter :: x4_interface = 3
 
   ! A refusal by its number, 0 where there is none; beside 31 why the entry is refused, else zeros.
   type :: x4_refused
@@ -21,13 +22,15 @@ module x4
     integer(c_int32_t) :: refusal = 0, place = 0, column = 0
   end type x4_refused
 
-  ! What a number field says: blank, a number, or a refusal beside a blank.
+  ! What a number field says: blank, a number, or a refusal beside a blank; and the count of digits written, from the
+  ! first that is not zero to the last, none of the exponent: 3 in 0.140, 2 in 0.14, 0 in zero, a blank and a refusal.
   type :: x4_value
     type(x4_refused) :: refused
     logical :: blank = .true.
     logical :: negative = .false.
     integer(c_int64_t) :: coefficient = 0
     integer(c_int32_t) :: power = 0
+    integer(c_int32_t) :: digits = 0
   end type x4_value
 
   ! A part of an entry, entry(first:last), and the pointer beside it; a refused one is empty.
@@ -195,7 +198,7 @@ contains
     r = refused_in(c_copy(entry, len(entry, c_size_t), copy, len(copy, c_size_t)))
   end function x4_copied
 
-  ! Reads a number field.
+  ! Reads a number field, and counts its digits.
   function x4_read(field) result(v)
     character(len=*, kind=c_char), intent(in) :: field
     type(x4_value) :: v
@@ -205,7 +208,8 @@ contains
     v = value_in(word, numbers)
   end function x4_read
 
-  ! Writes the canonical field of a value: 0 done, 40 not eleven characters, 41 no field reads to the value.
+  ! Writes the canonical field of a value, whatever the count of its digits: 0 done, 40 not eleven characters, 41 no
+  ! field reads to the value.
   function x4_write(v, field) result(refusal)
     type(x4_value), intent(in) :: v
     character(len=*, kind=c_char), intent(inout) :: field
@@ -234,6 +238,7 @@ contains
     v%negative = numbers(2) == 1
     v%coefficient = numbers(3)
     v%power = int(numbers(4), c_int32_t)
+    v%digits = int(numbers(5), c_int32_t)
   end function value_in
 
   pure function part_in(word, numbers) result(p)

@@ -1,7 +1,8 @@
 /* The functions of the proved archives (rt staticlib) for C.
  *
  * A slice of bytes is a pointer and a length. Every call answers for every argument: nothing has to be tested before,
- * but a pointer must be that of so many bytes or numbers. The numbers are document 01's.
+ * but a pointer must be that of so many bytes or numbers. The numbers are document 01's; the count of digits is that of
+ * document 02, M-104.
  *
  * A call returns a word, 0 where it is answered, and then stores what it answers in the array that is lent to it, as
  * long as its parameter says. A refused call stores nothing.
@@ -17,7 +18,12 @@
  *     totals[1] keywords      value[1] 1 below zero, else 0                  part[1] length in bytes
  *     totals[2] DATA lines    value[2] coefficient                           part[2] the pointer; a blank is none
  *     totals[3] numbers       value[3] power of ten, two's complement
- *                             value[4] to value[7] zeros
+ *                             value[4] count of digits written
+ *                             value[5] to value[7] zeros
+ *
+ * Digits count from the first that is not zero to the last written, before and behind the point, none of the exponent:
+ * 3 in 0.140, 2 in 0.14, 3 in 100., 1 in 1.+2, 0 in zero and in a blank, at most 10. The canonical copy has the same
+ * values, but may have other counts.
  */
 #ifndef X4_H
 #define X4_H
@@ -30,15 +36,15 @@ extern "C" {
 #endif
 
 /* What this header describes; x4_version() is the same of the archives. */
-#define X4_VERSION 2
+#define X4_VERSION 3
 
 uint32_t x4_version(void);
 
 /* The verdict on an entry: its totals, or refusal 1 to 16 with its record and column. */
 uint64_t x4_judge(const uint8_t *entry, size_t length, uint64_t totals[4]);
 
-/* The value in a line and a column of section 1 (COMMON, line 1 only) or 2 (DATA) of a subentry. Refusals: 31 entry
- * refused, 32 no such subentry, 33 no such section, 34 no such line, 35 no such column. */
+/* The value in a line and a column of section 1 (COMMON, line 1 only) or 2 (DATA) of a subentry, and the count of its
+ * digits. Refusals: 31 entry refused, 32 no such subentry, 33 no such section, 34 no such line, 35 no such column. */
 uint64_t x4_value(const uint8_t *entry, size_t length, uint32_t subentry, uint32_t section, uint32_t line,
                   uint32_t column, uint64_t value[8]);
 
@@ -58,7 +64,7 @@ uint64_t x4_passage(const uint8_t *entry, size_t length, uint32_t subentry, cons
  * than the entry. */
 uint64_t x4_copy(const uint8_t *entry, size_t length, uint8_t *out, size_t out_length);
 
-/* What a number field says. Refusals: 40 not eleven bytes, 15 malformed. */
+/* What a number field says, and the count of its digits. Refusals: 40 not eleven bytes, 15 malformed. */
 uint64_t x4_read_number(const uint8_t *field, size_t length, uint64_t value[8]);
 
 /* Writes the canonical field of negative (0 no, else yes), coefficient and power of ten. Returns the number alone: 0
@@ -85,6 +91,9 @@ static inline uint64_t x4_coefficient(const uint64_t value[8]) { return value[2]
 static inline int32_t x4_power(const uint64_t value[8]) {
     return value[3] >> 63 ? -1 - (int32_t)~value[3] : (int32_t)value[3];
 }
+
+/* the count of digits written: 0 to 10 */
+static inline uint32_t x4_digits(const uint64_t value[8]) { return (uint32_t)value[4]; }
 
 #ifdef __cplusplus
 }

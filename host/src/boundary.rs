@@ -6,7 +6,7 @@
 //! of the tests, `stack` is too.
 
 #[cfg(proved)]
-use crate::{words, Decimal, NoAnswer, Part, Value, Verdict};
+use crate::{words, Decimal, FieldRead, NoAnswer, Part, Verdict};
 use std::ffi::{c_char, c_double, CStr};
 
 extern "C" {
@@ -68,7 +68,7 @@ pub fn judge(entry: &[u8]) -> Verdict {
 
 /// What stands in a column of a line.
 #[cfg(proved)]
-pub fn value(entry: &[u8], subentry: u32, section: u32, line: u32, column: u32) -> Result<Value, NoAnswer> {
+pub fn value(entry: &[u8], subentry: u32, section: u32, line: u32, column: u32) -> Result<FieldRead, NoAnswer> {
     let mut value = [0; 8];
     // SAFETY: the pointer and the length are those of one slice, which is only read; the array is this call's own.
     let word = unsafe { x4_value(entry.as_ptr(), entry.len(), subentry, section, line, column, &mut value) };
@@ -113,7 +113,7 @@ pub fn canonical_copy(entry: &[u8], buffer: &mut [u8]) -> Result<(), NoAnswer> {
 
 /// Reads one number field.
 #[cfg(proved)]
-pub fn read_number(field: &[u8]) -> Result<Value, NoAnswer> {
+pub fn read_number(field: &[u8]) -> Result<FieldRead, NoAnswer> {
     let mut value = [0; 8];
     // SAFETY: the pointer and the length are those of one slice, which is only read; the array is this call's own.
     let word = unsafe { x4_read_number(field.as_ptr(), field.len(), &mut value) };
@@ -190,12 +190,12 @@ mod tests {
         // 1.45-1 in line 1, column 2 of DATA; subentry 1 has the passage, subentry 2 none with a blank pointer
         let [judged, value, heading, unit, passage] = asked(DATA, 1, 2, b"REACTION  ");
         assert_eq!(judged, (0, vec![2, 3, 2, 6]));
-        assert_eq!(value, (0, vec![1, 0, 145, u64::MAX - 2, 0, 0, 0, 0]));
+        assert_eq!(value, (0, vec![1, 0, 145, u64::MAX - 2, 3, 0, 0, 0]));
         assert_eq!(heading, (0, vec![19 * 81 + 11, 10, u64::from(b'1')]));
         assert_eq!(unit, (0, vec![20 * 81 + 11, 10, u64::from(b'1')]));
         assert_eq!(number(&passage), (36, true));
         assert_eq!(ask(sample, 1, DATA, 1, 2, b"TITLE     ")[4], (0, vec![3 * 81, 81, u64::from(b' ')]));
-        // a blank stores eight zeros
+        // a blank stores eight zeros, no count among them
         assert_eq!(asked(DATA, 1, 3, b"")[1], (0, vec![0; 8]));
         assert_eq!(
             asked(DATA, 3, 1, b"").map(|answer| number(&answer))[1..],
@@ -211,6 +211,23 @@ mod tests {
         let cut = ask(&sample[..20 * RECORD], 2, DATA, 1, 1, b"REACTION  ");
         let beside = (16 << 8) + (21 << 24);
         assert_eq!(cut.each_ref().map(number), [16, 31, 31, 31, 31].map(|number| (number + beside, true)));
+    }
+
+    /// The array behind a reading that is answered.
+    #[test]
+    fn the_count_is_stored() {
+        for (field, stored) in [
+            ("      0.140", [1, 0, 14, u64::MAX - 1, 3, 0, 0, 0]),
+            ("       -.0 ", [1, 0, 0, 0, 0, 0, 0, 0]),
+            ("-123456789.", [1, 1, 123_456_789, 0, 9, 0, 0, 0]),
+            (".1234567890", [1, 0, 123_456_789, u64::MAX - 8, 10, 0, 0, 0]),
+            ("           ", [0; 8]),
+        ] {
+            let mut value = [BEFORE; 8];
+            // SAFETY: the pointer and the length are those of one slice, which is only read.
+            let word = unsafe { x4_read_number(field.as_ptr(), field.len(), &mut value) };
+            assert_eq!((word, value), (0, stored), "{field:?}");
+        }
     }
 
     #[test]

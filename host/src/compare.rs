@@ -38,6 +38,8 @@ pub struct Difference {
     pub kind: Option<String>,
     /// The column, from 1; none if the whole row is missing.
     pub column: Option<usize>,
+    /// Whether it is the count of digits behind that column.
+    pub digits: bool,
     /// What the first has there; none if it has nothing there, which is not the same as a blank.
     pub first: Option<String>,
     /// What the second has there.
@@ -53,7 +55,7 @@ impl fmt::Display for Difference {
             None => {}
         }
         if let Some(column) = self.column {
-            write!(f, ", column {column}")?;
+            write!(f, ", column {column}{}", if self.digits { ", digits" } else { "" })?;
         }
         let said = |side: &Option<String>| match side.as_deref() {
             None => "nothing".to_string(),
@@ -62,6 +64,15 @@ impl fmt::Display for Difference {
         };
         write!(f, ": first {}, second {}", said(&self.first), said(&self.second))
     }
+}
+
+/// What else is a difference.
+#[derive(Clone, Copy, Debug, Default, PartialEq, Eq)]
+pub struct Asked {
+    /// Numbers that differ as decimals, also where they have the same nearest double.
+    pub exact: bool,
+    /// Counts of digits, which then stand behind each column of both.
+    pub digits: bool,
 }
 
 /// A table as rows that follow each other.
@@ -74,13 +85,13 @@ fn groups(rows: &[Row]) -> Vec<Group<'_>> {
 
 /// Compares table by table, row by row, column by column. Unless `exact` is asked for, two numbers are the same also
 /// where their nearest doubles are, since most programs write doubles.
-pub fn compare(first: &[Row], second: &[Row], exact: bool) -> Result<Same, Box<Difference>> {
+pub fn compare(first: &[Row], second: &[Row], asked: Asked) -> Result<Same, Box<Difference>> {
     let (ones, others) = (groups(first), groups(second));
     let mut same = Same::default();
     for place in 0..ones.len().max(others.len()) {
         match (ones.get(place), others.get(place)) {
             (Some(one), Some(other)) if key(one) == key(other) => {
-                same_table(one, other, exact, &mut same)?;
+                same_table(one, other, asked, &mut same)?;
                 same.tables += 1;
             }
             // A table that the second does not have at all is missing there; else the second has one too many here.
@@ -95,6 +106,22 @@ pub fn compare(first: &[Row], second: &[Row], exact: bool) -> Result<Same, Box<D
     Ok(same)
 }
 
+impl Asked {
+    /// Whether a cell of a row, from 0, is a count of digits: they stand behind the values.
+    fn counts(self, cell: usize) -> bool {
+        self.digits && cell % 2 == 1
+    }
+
+    /// The column that a cell belongs to, from 1.
+    fn column(self, cell: usize) -> usize {
+        if self.digits {
+            cell / 2 + 1
+        } else {
+            cell + 1
+        }
+    }
+}
+
 /// Subentry and section.
 fn key<'a>(group: &Group<'a>) -> (&'a str, &'a str) {
     (&group[0].subentry, &group[0].section)
@@ -105,17 +132,18 @@ fn missing_table(group: Group, in_first: bool) -> Box<Difference> {
     let said = |there: bool| there.then(|| "a table".to_string());
     let (subentry, section) = (group[0].subentry.clone(), group[0].section.clone());
     let (first, second) = (said(in_first), said(!in_first));
-    Box::new(Difference { subentry, section, kind: None, column: None, first, second })
+    Box::new(Difference { subentry, section, kind: None, column: None, digits: false, first, second })
 }
 
 /// Compares two tables of the same subentry and section.
-fn same_table(one: Group, other: Group, exact: bool, same: &mut Same) -> Result<(), Box<Difference>> {
+fn same_table(one: Group, other: Group, asked: Asked, same: &mut Same) -> Result<(), Box<Difference>> {
     for place in 0..one.len().max(other.len()) {
         let (a, b) = (one.get(place), other.get(place));
         let row = a.or(b).expect("one of them has this row");
-        let difference = |column, first, second| {
+        let difference = |cell: Option<usize>, first, second| {
             let (subentry, section) = (row.subentry.clone(), row.section.clone());
-            Box::new(Difference { subentry, section, kind: Some(row.kind.clone()), column, first, second })
+            let (column, digits) = (cell.map(|cell| asked.column(cell)), cell.is_some_and(|cell| asked.counts(cell)));
+            Box::new(Difference { subentry, section, kind: Some(row.kind.clone()), column, digits, first, second })
         };
         let (Some(a), Some(b)) = (a, b) else {
             return Err(difference(None, a.map(|_| "a row".into()), b.map(|_| "a row".into())));
@@ -123,14 +151,15 @@ fn same_table(one: Group, other: Group, exact: bool, same: &mut Same) -> Result<
         if a.kind != b.kind {
             return Err(difference(None, Some(a.kind.clone()), Some(b.kind.clone())));
         }
-        for column in 0..a.cells.len().max(b.cells.len()) {
-            let (x, y) = (a.cells.get(column), b.cells.get(column));
+        for cell in 0..a.cells.len().max(b.cells.len()) {
+            let (x, y) = (a.cells.get(cell), b.cells.get(cell));
             let equal = match (x, y) {
-                (Some(x), Some(y)) => same_cell(x, y, row, exact, same),
+                (Some(x), Some(y)) if asked.counts(cell) => x == y,
+                (Some(x), Some(y)) => same_cell(x, y, row, asked.exact, same),
                 _ => false,
             };
             if !equal {
-                return Err(difference(Some(column + 1), x.cloned(), y.cloned()));
+                return Err(difference(Some(cell), x.cloned(), y.cloned()));
             }
         }
     }
@@ -163,8 +192,29 @@ mod tests {
                          90001002,DATA,1,10,0.145\n90001002,DATA,2,20,\n";
 
     fn compared(second: &str, exact: bool) -> Result<Same, String> {
-        let (one, other) = (from_csv(TABLE).unwrap(), from_csv(second).unwrap());
-        compare(&one, &other, exact).map_err(|difference| difference.to_string())
+        both(TABLE, second, Asked { exact, digits: false })
+    }
+
+    fn both(first: &str, second: &str, asked: Asked) -> Result<Same, String> {
+        let (one, other) = (from_csv(first).unwrap(), from_csv(second).unwrap());
+        compare(&one, &other, asked).map_err(|difference| difference.to_string())
+    }
+
+    #[test]
+    fn counts_are_compared_where_they_are_asked_for() {
+        let table = "90001002,DATA,heading,ANG,digits,DATA,digits\n90001002,DATA,pointer,,,1,\n\
+                     90001002,DATA,unit,ADEG,,MB/SR,\n90001002,DATA,1,10,2,0.14,2\n90001002,DATA,2,20,2,,0\n";
+        let asked = Asked { exact: false, digits: true };
+        assert_eq!(both(table, table, asked), Ok(Same { tables: 1, exact: 3, doubles: 0 }));
+        for (from, to, words) in [
+            ("0.14,2", "0.14,3", "line 1, column 2, digits: first 2, second 3"),
+            ("0.14,2", "1.4,2", "line 1, column 2: first 0.14, second 1.4"),
+            (",,0\n", ",,\n", "line 2, column 2, digits: first 0, second a blank"),
+            ("DATA,digits", "DATA", "heading, column 2, digits: first digits, second nothing"),
+        ] {
+            let second = table.replace(from, to);
+            assert_eq!(both(table, &second, asked), Err(format!("subentry 90001002, DATA, {words}")));
+        }
     }
 
     #[test]

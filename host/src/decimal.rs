@@ -1,4 +1,4 @@
-//! Exact decimals: what a number field says.
+//! Exact decimals: what a number field says, and the count of digits beside it.
 
 use std::fmt;
 use std::str::FromStr;
@@ -24,6 +24,23 @@ pub enum Value {
     Blank,
     /// A number.
     Number(Decimal),
+}
+
+/// What the number reader tells of a field: its value, and "the count of digits from the first non-zero one to the last
+/// written (0 for zero)" (document 02, M-104). `0.140` and `0.14` have one value; their counts are 3 and 2.
+///
+/// The count is no part of the value: the canonical copy has the same values, and may have other counts.
+#[derive(Clone, Copy, Debug, PartialEq, Eq, Hash)]
+pub struct FieldRead {
+    /// What the field says.
+    pub value: Value,
+    /// The digits written before and behind the point, none of the exponent: 0 for zero and for a blank, at most 10.
+    pub digits: u32,
+}
+
+impl FieldRead {
+    /// A blank field.
+    pub const BLANK: FieldRead = FieldRead { value: Value::Blank, digits: 0 };
 }
 
 /// Digits beyond which a decimal is shown with a power of ten: enough for every field within 1E-38 to 9.999E+38.

@@ -3,7 +3,7 @@
 //! Each case has a seed of its own, which a difference names, so that the case can be made again.
 
 use crate::generate::{self, Kind, Random, Sheet, CAUSES};
-use crate::{library, reference, Decimal, NoAnswer, Part, Value, Verdict};
+use crate::{library, reference, Decimal, FieldRead, NoAnswer, Part, Verdict};
 use std::collections::BTreeMap;
 use std::fmt;
 
@@ -13,8 +13,8 @@ pub trait Implementation {
     fn judge(&self, entry: &[u8]) -> Verdict {
         reference::judge(entry)
     }
-    /// The value in a place.
-    fn value(&self, entry: &[u8], place: [u32; 4]) -> Result<Value, NoAnswer> {
+    /// The value in a place, and its count of digits.
+    fn value(&self, entry: &[u8], place: [u32; 4]) -> Result<FieldRead, NoAnswer> {
         let [subentry, section, line, column] = place;
         reference::value(entry, subentry, section, line, column)
     }
@@ -36,8 +36,8 @@ pub trait Implementation {
     fn canonical_copy(&self, entry: &[u8], buffer: &mut [u8]) -> Result<(), NoAnswer> {
         reference::canonical_copy(entry, buffer)
     }
-    /// The reading of a field.
-    fn read_number(&self, field: &[u8]) -> Result<Value, NoAnswer> {
+    /// The reading of a field, and its count of digits.
+    fn read_number(&self, field: &[u8]) -> Result<FieldRead, NoAnswer> {
         reference::read_number(field)
     }
     /// The writing of a field.
@@ -58,7 +58,7 @@ impl Implementation for Library {
     fn judge(&self, entry: &[u8]) -> Verdict {
         library::judge(entry)
     }
-    fn value(&self, entry: &[u8], place: [u32; 4]) -> Result<Value, NoAnswer> {
+    fn value(&self, entry: &[u8], place: [u32; 4]) -> Result<FieldRead, NoAnswer> {
         let [subentry, section, line, column] = place;
         library::value(entry, subentry, section, line, column)
     }
@@ -76,7 +76,7 @@ impl Implementation for Library {
     fn canonical_copy(&self, entry: &[u8], buffer: &mut [u8]) -> Result<(), NoAnswer> {
         library::canonical_copy(entry, buffer)
     }
-    fn read_number(&self, field: &[u8]) -> Result<Value, NoAnswer> {
+    fn read_number(&self, field: &[u8]) -> Result<FieldRead, NoAnswer> {
         library::read_number(field)
     }
     fn write_number(&self, decimal: Decimal, buffer: &mut [u8]) -> Result<(), NoAnswer> {

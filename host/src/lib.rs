@@ -1,10 +1,10 @@
 //! Reads one EXFOR entry, from ENTRY to ENDENTRY: judges it, answers questions about its tables and passages,
 //! reads and writes number fields, and copies the entry canonically.
 //!
-//! "The paper" is document 01, `Build requirements and exact rules`. Its numbers are kept: a refusal here has the
-//! number that the paper gives it, records, lines and columns count from 1, and an accepted entry has the paper's
-//! four totals. Programs call [`library`]; [`reference`] is a second implementation, written from the paper alone,
-//! which the tests hold against the first.
+//! "The paper" is document 01, `Build requirements and exact rules`, with M-104 of document 02, which adds the count of
+//! digits. Its numbers are kept: a refusal here has the number that the paper gives it, records, lines and columns
+//! count from 1, and an accepted entry has the paper's four totals. Programs call [`library`]; [`reference`] is a
+//! second implementation, written from the paper alone, which the tests hold against the first.
 //!
 //! ```
 //! use glockenbeacon::{library, Value, Verdict, DATA};
@@ -14,8 +14,9 @@
 //!     Verdict::Accepted(totals) => assert_eq!(totals.numbers, 6),
 //!     Verdict::Refused(refusal) => panic!("{refusal}"),
 //! }
-//! if let Value::Number(decimal) = library::value(&entry, 2, DATA, 1, 2)? {
-//!     assert_eq!(decimal.to_string(), "0.145");
+//! let read = library::value(&entry, 2, DATA, 1, 2)?;
+//! if let Value::Number(decimal) = read.value {
+//!     assert_eq!((decimal.to_string().as_str(), read.digits), ("0.145", 3));
 //! }
 //! # Ok::<(), Box<dyn std::error::Error>>(())
 //! ```
@@ -39,7 +40,7 @@ pub mod tables;
 pub mod words;
 
 pub use answers::{NoAnswer, Part, Refusal, Totals, Verdict};
-pub use decimal::{Decimal, Value};
+pub use decimal::{Decimal, FieldRead, Value};
 
 /// "A record is 80 columns and one line feed (81 bytes)."
 pub const RECORD: usize = 81;

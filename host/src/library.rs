@@ -5,7 +5,7 @@
 use crate::boundary as archives_or_reference;
 #[cfg(not(proved))]
 use crate::reference as archives_or_reference;
-use crate::{Decimal, NoAnswer, Part, Value, Verdict};
+use crate::{Decimal, FieldRead, NoAnswer, Part, Verdict};
 
 /// Every call, in the order of this module.
 pub const CALLS: [&str; 8] =
@@ -37,8 +37,8 @@ pub fn judge(entry: &[u8]) -> Verdict {
     archives_or_reference::judge(entry)
 }
 
-/// What stands in a column of a line of COMMON (section 1, line 1 only) or DATA (section 2).
-pub fn value(entry: &[u8], subentry: u32, section: u32, line: u32, column: u32) -> Result<Value, NoAnswer> {
+/// What stands in a column of a line of COMMON (section 1, line 1 only) or DATA (section 2), and its count of digits.
+pub fn value(entry: &[u8], subentry: u32, section: u32, line: u32, column: u32) -> Result<FieldRead, NoAnswer> {
     archives_or_reference::value(entry, subentry, section, line, column)
 }
 
@@ -63,8 +63,8 @@ pub fn canonical_copy(entry: &[u8], buffer: &mut [u8]) -> Result<(), NoAnswer> {
     archives_or_reference::canonical_copy(entry, buffer)
 }
 
-/// Reads one number field of eleven bytes.
-pub fn read_number(field: &[u8]) -> Result<Value, NoAnswer> {
+/// Reads one number field of eleven bytes, and counts the digits written in it.
+pub fn read_number(field: &[u8]) -> Result<FieldRead, NoAnswer> {
     archives_or_reference::read_number(field)
 }
 

@@ -10,10 +10,19 @@
 //! 90001002,DATA,2,20,0.14,25
 //! ```
 //!
-//! Numbers are exact decimals as text; a blank field is empty, and zero is `0`.
+//! Numbers are exact decimals as text; a blank field is empty, and zero is `0`. Asked for, a column of the digits that
+//! were written stands behind each column:
+//!
+//! ```text
+//! 90001002,DATA,heading,ANG,digits,DATA,digits,DATA,digits
+//! 90001002,DATA,pointer,,,1,,2,
+//! 90001002,DATA,unit,ADEG,,MB/SR,,MB/SR,
+//! 90001002,DATA,1,10,2,0.145,3,,0
+//! 90001002,DATA,2,20,2,0.14,2,25,2
+//! ```
 
 use crate::json::{array, object, text};
-use crate::{library, NoAnswer, Value, Verdict, COMMON, DATA, RECORD};
+use crate::{library, FieldRead, NoAnswer, Value, Verdict, COMMON, DATA, RECORD};
 
 /// A column of a table.
 #[derive(Clone, Debug, PartialEq, Eq)]
@@ -26,6 +35,9 @@ pub struct Column {
     pub unit: String,
 }
 
+/// Lines, each with a value and its count of digits for each column.
+pub type Lines = Vec<Vec<FieldRead>>;
+
 /// A COMMON or DATA section.
 #[derive(Clone, Debug, PartialEq, Eq)]
 pub struct Table {
@@ -35,8 +47,8 @@ pub struct Table {
     pub section: &'static str,
     /// The columns.
     pub columns: Vec<Column>,
-    /// The lines, a value for each column.
-    pub lines: Vec<Vec<Value>>,
+    /// The lines.
+    pub lines: Lines,
 }
 
 /// All tables of an entry, in its order. The library is asked where each stands, and what each of its number fields
@@ -67,7 +79,7 @@ fn owners(entry: &[u8]) -> Vec<&[u8]> {
 }
 
 /// The columns and lines of a section, if there is one: refusal 32 or 33 says that there is none.
-fn table(entry: &[u8], number: u32, section: u32) -> Result<Option<(Vec<Column>, Vec<Vec<Value>>)>, NoAnswer> {
+fn table(entry: &[u8], number: u32, section: u32) -> Result<Option<(Vec<Column>, Lines)>, NoAnswer> {
     let first = match library::heading(entry, number, section, 1) {
         Err(NoAnswer { number: 32 | 33, .. }) => return Ok(None),
         answer => answer?.offset,
@@ -109,6 +121,9 @@ pub fn value_text(value: &Value) -> String {
     }
 }
 
+/// The heading of a column of digits.
+const DIGITS: &str = "digits";
+
 /// One row of comma-separated values.
 #[derive(Clone, Debug, PartialEq, Eq)]
 pub struct Row {
@@ -123,31 +138,35 @@ pub struct Row {
 }
 
 impl Table {
-    /// The rows of this table.
-    pub fn rows(&self) -> Vec<Row> {
+    /// The rows of this table, with the digits behind each column where they are asked for.
+    pub fn rows(&self, digits: bool) -> Vec<Row> {
         let row = |kind: String, cells: Vec<String>| Row {
             subentry: self.subentry.clone(),
             section: self.section.to_string(),
             kind,
             cells,
         };
-        let each = |text: fn(&Column) -> String| self.columns.iter().map(text).collect::<Vec<_>>();
+        let cells = |own: String, behind: String| if digits { vec![own, behind] } else { vec![own] };
+        let each = |text: fn(&Column) -> String, behind: &str| {
+            self.columns.iter().flat_map(|column| cells(text(column), behind.into())).collect()
+        };
         let mut rows = vec![
-            row("heading".into(), each(|column| column.heading.clone())),
-            row("pointer".into(), each(|column| column.pointer.map(String::from).unwrap_or_default())),
-            row("unit".into(), each(|column| column.unit.clone())),
+            row("heading".into(), each(|column| column.heading.clone(), DIGITS)),
+            row("pointer".into(), each(|column| column.pointer.map(String::from).unwrap_or_default(), "")),
+            row("unit".into(), each(|column| column.unit.clone(), "")),
         ];
         for (index, line) in self.lines.iter().enumerate() {
-            rows.push(row((index + 1).to_string(), line.iter().map(value_text).collect()));
+            let texts = line.iter().flat_map(|read| cells(value_text(&read.value), read.digits.to_string()));
+            rows.push(row((index + 1).to_string(), texts.collect()));
         }
         rows
     }
 }
 
-/// Tables as comma-separated values.
-pub fn to_csv(tables: &[Table]) -> String {
+/// Tables as comma-separated values, with the digits behind each column where they are asked for.
+pub fn to_csv(tables: &[Table], digits: bool) -> String {
     let mut text = String::new();
-    for row in tables.iter().flat_map(Table::rows) {
+    for row in tables.iter().flat_map(|table| table.rows(digits)) {
         let fields = [&row.subentry, &row.section, &row.kind].into_iter().chain(&row.cells);
         text += &fields.map(|field| csv_field(field)).collect::<Vec<_>>().join(",");
         text.push('\n');
@@ -196,8 +215,9 @@ fn csv_fields(line: &str) -> Option<Vec<String>> {
     (!inside).then(|| fields.iter().map(|field| field.trim().to_string()).collect())
 }
 
-/// Tables as JSON: numbers are texts, so that no reader rounds them; blank is null.
-pub fn to_json(tables: &[Table]) -> String {
+/// Tables as JSON: numbers are texts, so that no reader rounds them; blank is null. With digits a value is an object of
+/// both.
+pub fn to_json(tables: &[Table], digits: bool) -> String {
     let tables = tables.iter().map(|table| {
         let columns = table.columns.iter().map(|column| {
             object(&[
@@ -206,9 +226,13 @@ pub fn to_json(tables: &[Table]) -> String {
                 ("unit", text(&column.unit)),
             ])
         });
-        let cell = |value: &Value| match value {
+        let value = |value: &Value| match value {
             Value::Blank => "null".to_string(),
             Value::Number(decimal) => text(&decimal.to_string()),
+        };
+        let cell = |read: &FieldRead| match digits {
+            false => value(&read.value),
+            true => object(&[("value", value(&read.value)), (DIGITS, read.digits.to_string())]),
         };
         let lines = table.lines.iter().map(|line| array(line.iter().map(cell)));
         object(&[

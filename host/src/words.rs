@@ -9,13 +9,14 @@
 //! | 24-47 | its record |
 //! | 48-63 | zeros |
 //!
-//! A value is kind (0 blank, 1 number), whether it is below zero, coefficient, power of ten in two's complement, and
-//! four zeros; a part is first byte, length and pointer; the totals are subentries, keywords, lines and numbers.
+//! A value is kind (0 blank, 1 number), whether it is below zero, coefficient, power of ten in two's complement, the
+//! count of digits written, and three zeros; a part is first byte, length and pointer; the totals are subentries,
+//! keywords, lines and numbers.
 
-use crate::{Decimal, NoAnswer, Part, Refusal, Totals, Value, Verdict};
+use crate::{Decimal, FieldRead, NoAnswer, Part, Refusal, Totals, Value, Verdict};
 
 /// The version of the interface that this module takes apart.
-pub const VERSION: u32 = 2;
+pub const VERSION: u32 = 3;
 
 /// Answered, or why not.
 pub fn answered(word: u64) -> Result<(), NoAnswer> {
@@ -41,11 +42,12 @@ pub fn verdict(word: u64, totals: [u64; 4]) -> Verdict {
 }
 
 /// What the array of a value says, where the call is answered.
-pub fn value([kind, negative, coefficient, power, ..]: [u64; 8]) -> Value {
-    match kind {
+pub fn value([kind, negative, coefficient, power, digits, ..]: [u64; 8]) -> FieldRead {
+    let value = match kind {
         0 => Value::Blank,
         _ => Value::Number(Decimal { negative: negative == 1, coefficient, power: power as i64 as i32 }),
-    }
+    };
+    FieldRead { value, digits: digits as u32 }
 }
 
 /// What the array of a heading, a unit or a passage says, where the call is answered.
@@ -66,11 +68,14 @@ mod tests {
         assert_eq!(verdict(16 + beside, [7; 4]), Verdict::Refused(refusal));
         let totals = Totals { subentries: 998, keywords: 19_993, lines: 20_000, numbers: 120_000 };
         assert_eq!(verdict(0, [998, 19_993, 20_000, 120_000]), Verdict::Accepted(totals));
-        let number = |negative, coefficient, power| Value::Number(Decimal { negative, coefficient, power });
-        assert_eq!(value([0; 8]), Value::Blank);
-        assert_eq!(value([1, 0, 145, u64::MAX - 2, 0, 0, 0, 0]), number(false, 145, -3));
-        assert_eq!(value([1, 1, 9_999_999_999, 99_999_999, 0, 0, 0, 0]), number(true, 9_999_999_999, 99_999_999));
-        assert_eq!(value([1, 0, 1, u64::MAX - 99_999_999, 0, 0, 0, 0]), number(false, 1, -100_000_000));
+        let number = |negative, coefficient, power, digits| {
+            let value = Value::Number(Decimal { negative, coefficient, power });
+            FieldRead { value, digits }
+        };
+        assert_eq!(value([0; 8]), FieldRead::BLANK);
+        assert_eq!(value([1, 0, 145, u64::MAX - 2, 3, 0, 0, 0]), number(false, 145, -3, 3));
+        assert_eq!(value([1, 1, 9_999_999_999, 99_999_999, 10, 0, 0, 0]), number(true, 9_999_999_999, 99_999_999, 10));
+        assert_eq!(value([1, 0, 1, u64::MAX - 99_999_999, 1, 0, 0, 0]), number(false, 1, -100_000_000, 1));
         let place = Part { offset: 1_619_919, length: 1_620_000, pointer: b'Z' };
         assert_eq!(part([1_619_919, 1_620_000, u64::from(b'Z')]), place);
     }

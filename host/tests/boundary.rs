@@ -23,15 +23,19 @@ fn printed(program: &Path, lines: &[String]) -> Vec<String> {
 
 /// The same by the reference.
 fn expected(field: &str) -> String {
-    match reference::read_number(field.as_bytes()) {
-        Ok(Value::Blank) => "blank".into(),
-        Err(refused) => format!("refused {}", refused.number),
-        Ok(Value::Number(decimal)) => {
+    let read = match reference::read_number(field.as_bytes()) {
+        Ok(read) => read,
+        Err(refused) => return format!("refused {}", refused.number),
+    };
+    match read.value {
+        Value::Blank => format!("blank digits {}", read.digits),
+        Value::Number(decimal) => {
             let mut out = *b"###########";
             let number = reference::write_number(decimal, &mut out).map_or_else(|refused| refused.number, |()| 0);
             let sign = if decimal.negative { "-" } else { "" };
             let (coefficient, power) = (decimal.coefficient, decimal.power);
-            format!("{sign}{coefficient}E{power} {number} '{}'", String::from_utf8_lossy(&out))
+            let digits = read.digits;
+            format!("{sign}{coefficient}E{power} digits {digits} {number} '{}'", String::from_utf8_lossy(&out))
         }
     }
 }

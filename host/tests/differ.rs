@@ -1,7 +1,7 @@
 //! The library beside the reference; and slips planted on purpose, to see that they would be found.
 
 use glockenbeacon::differ::{Implementation, Library, Pair, Reference};
-use glockenbeacon::{reference, Decimal, NoAnswer, Part, Refusal, Totals, Value, Verdict};
+use glockenbeacon::{reference, Decimal, FieldRead, NoAnswer, Part, Refusal, Totals, Value, Verdict};
 
 /// The short run: a long one is `cargo run --release --bin differ`.
 const SEED: u64 = 7;
@@ -34,7 +34,7 @@ fn found(slip: &dyn Implementation) -> bool {
 struct ExponentLost;
 
 impl Implementation for ExponentLost {
-    fn read_number(&self, field: &[u8]) -> Result<Value, NoAnswer> {
+    fn read_number(&self, field: &[u8]) -> Result<FieldRead, NoAnswer> {
         let answer = reference::read_number(field);
         let text = String::from_utf8_lossy(field).to_string();
         match text.trim_start().get(1..).and_then(|rest| rest.find(['+', '-', 'E'])) {
@@ -51,7 +51,7 @@ impl Implementation for ExponentLost {
 struct RecordsAsLines;
 
 impl Implementation for RecordsAsLines {
-    fn value(&self, entry: &[u8], place: [u32; 4]) -> Result<Value, NoAnswer> {
+    fn value(&self, entry: &[u8], place: [u32; 4]) -> Result<FieldRead, NoAnswer> {
         let [subentry, section, line, column] = place;
         match reference::value(entry, subentry, section, line, column) {
             Ok(_) if column > 6 => reference::value(entry, subentry, section, line, column - 6),
@@ -80,10 +80,10 @@ impl Implementation for EndSearched {
 struct ZeroAsBlank;
 
 impl Implementation for ZeroAsBlank {
-    fn value(&self, entry: &[u8], place: [u32; 4]) -> Result<Value, NoAnswer> {
+    fn value(&self, entry: &[u8], place: [u32; 4]) -> Result<FieldRead, NoAnswer> {
         let [subentry, section, line, column] = place;
         match reference::value(entry, subentry, section, line, column) {
-            Ok(Value::Number(Decimal::ZERO)) => Ok(Value::Blank),
+            Ok(FieldRead { value: Value::Number(Decimal::ZERO), .. }) => Ok(FieldRead::BLANK),
             answer => answer,
         }
     }
@@ -192,9 +192,59 @@ impl Implementation for FewerDigitsBefore {
     }
 }
 
+/// "100. gives 3": the coefficient's digits counted, after its zeros went to the power.
+struct ZerosUncounted;
+
+impl Implementation for ZerosUncounted {
+    fn read_number(&self, field: &[u8]) -> Result<FieldRead, NoAnswer> {
+        let read = reference::read_number(field)?;
+        match read.value {
+            Value::Number(decimal) if decimal != Decimal::ZERO => {
+                Ok(FieldRead { digits: decimal.coefficient.to_string().len() as u32, ..read })
+            }
+            _ => Ok(read),
+        }
+    }
+}
+
+/// "1.+2 gives 1": the exponent's digits counted too.
+struct ExponentCounted;
+
+impl Implementation for ExponentCounted {
+    fn read_number(&self, field: &[u8]) -> Result<FieldRead, NoAnswer> {
+        let read = reference::read_number(field)?;
+        let digits = field.iter().filter(|byte| byte.is_ascii_digit()).skip_while(|&&digit| digit == b'0').count();
+        Ok(FieldRead { digits: digits as u32, ..read })
+    }
+}
+
+/// "0 for zero": the zeros of `0.00` counted.
+struct ZeroCounted;
+
+impl Implementation for ZeroCounted {
+    fn read_number(&self, field: &[u8]) -> Result<FieldRead, NoAnswer> {
+        let read = reference::read_number(field)?;
+        match read.value {
+            Value::Number(Decimal::ZERO) => Ok(FieldRead { digits: 1, ..read }),
+            _ => Ok(read),
+        }
+    }
+}
+
+/// "Value lookup passes it on": the count of the canonical copy passed on in its place.
+struct CountOfTheCopy;
+
+impl Implementation for CountOfTheCopy {
+    fn value(&self, entry: &[u8], [subentry, section, line, column]: [u32; 4]) -> Result<FieldRead, NoAnswer> {
+        let mut copy = entry.to_vec();
+        reference::canonical_copy(entry, &mut copy)?;
+        reference::value(&copy, subentry, section, line, column)
+    }
+}
+
 #[test]
 fn planted_slips_are_found() {
-    let slips: [(&str, &dyn Implementation); 13] = [
+    let slips: [(&str, &dyn Implementation); 17] = [
         ("ExponentLost", &ExponentLost),
         ("RecordsAsLines", &RecordsAsLines),
         ("EndSearched", &EndSearched),
@@ -208,6 +258,10 @@ fn planted_slips_are_found() {
         ("StoresFirst", &StoresFirst),
         ("NotShortest", &NotShortest),
         ("FewerDigitsBefore", &FewerDigitsBefore),
+        ("ZerosUncounted", &ZerosUncounted),
+        ("ExponentCounted", &ExponentCounted),
+        ("ZeroCounted", &ZeroCounted),
+        ("CountOfTheCopy", &CountOfTheCopy),
     ];
     for (name, slip) in slips {
         assert!(found(slip), "{name} goes unseen");

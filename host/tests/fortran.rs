@@ -42,7 +42,7 @@ fn formatted_read(program: &Path, fields: &[String]) -> Vec<String> {
 
 /// A reading as the table says it.
 fn by_the_paper(field: &str) -> String {
-    match read_number(field.as_bytes()) {
+    match read_number(field.as_bytes()).map(|read| read.value) {
         Ok(Value::Blank) => "blank".into(),
         Ok(Value::Number(decimal)) => decimal.to_string(),
         Err(_) => "malformed".into(),
@@ -91,7 +91,9 @@ fn the_read_agrees_where_a_double_can() {
     assert_eq!(answers.len(), fields.len());
     let mut compared = 0;
     for (field, answer) in fields.iter().zip(answers) {
-        let Ok(Value::Number(decimal)) = read_number(field.as_bytes()) else { panic!("{field:?}") };
+        let Ok(Value::Number(decimal)) = read_number(field.as_bytes()).map(|read| read.value) else {
+            panic!("{field:?}")
+        };
         if let Some(double) = decimal.to_double().filter(|_| decimal != Decimal::ZERO) {
             assert_eq!(answer.parse(), Ok(double), "{field:?}");
             compared += 1;

@@ -6,7 +6,7 @@ use glockenbeacon::generate::{self, damage, Kind, Random, Shape, CAUSES, SHAPES}
 use glockenbeacon::library::{canonical_copy, heading, judge, read_number, unit, value, write_number};
 use glockenbeacon::reference::number::{canonical_text, read, Reading};
 use glockenbeacon::tables::tables;
-use glockenbeacon::{Decimal, Refusal, Totals, Value, Verdict, COMMON, DATA};
+use glockenbeacon::{Decimal, FieldRead, Refusal, Totals, Value, Verdict, COMMON, DATA};
 use std::collections::{BTreeMap, BTreeSet};
 
 const SEED: u64 = 20_240_105;
@@ -120,10 +120,12 @@ fn a_number_field_and_its_canonical_field_read_alike() {
     for _ in 0..100_000 {
         let field = generate::spelling(&mut random);
         let text = String::from_utf8_lossy(&field).to_string();
-        let Ok(Value::Number(decimal)) = read_number(&field) else { panic!("{text:?} is no number") };
+        let read = read_number(&field).unwrap_or_else(|refused| panic!("{text:?}: {refused}"));
+        let Value::Number(decimal) = read.value else { panic!("{text:?} is no number") };
         let mut canonical = [0; 11];
         write_number(decimal, &mut canonical).unwrap_or_else(|refused| panic!("{text:?}: {refused}"));
-        assert_eq!(read_number(&canonical), Ok(Value::Number(decimal)), "{text:?}");
+        // the claim leaves the count of digits out
+        assert_eq!(read_number(&canonical).map(|read| read.value), Ok(read.value), "{text:?}");
         let columns = |field: &[u8]| String::from_utf8_lossy(field).trim().len();
         assert!(columns(&canonical) <= columns(&field), "{text:?}");
     }
@@ -137,7 +139,10 @@ fn a_decimal_is_written_or_refused() {
         let decimal = generate::decimal(&mut random);
         let mut field = [b'#'; 11];
         match write_number(decimal, &mut field) {
-            Ok(()) => assert_eq!(read_number(&field).ok(), decimal.normal().map(Value::Number), "{decimal:?}"),
+            Ok(()) => {
+                let read = read_number(&field).ok().map(|read| read.value);
+                assert_eq!(read, decimal.normal().map(Value::Number), "{decimal:?}");
+            }
             Err(answer) => {
                 refused += 1;
                 assert_eq!((answer.number, field), (41, [b'#'; 11]), "{decimal:?}");
@@ -183,7 +188,7 @@ fn tables_and_questions_agree() {
     for _ in 0..60 {
         let entry = generate::entry(&mut random).bytes;
         let all = tables(&entry).expect("a valid entry has tables");
-        let filled = |value: &&Value| !matches!(value, Value::Blank);
+        let filled = |read: &&FieldRead| !matches!(read.value, Value::Blank);
         let numbers = all.iter().flat_map(|table| &table.lines).flatten().filter(filled).count();
         let lines: usize = all.iter().filter(|table| table.section == "DATA").map(|table| table.lines.len()).sum();
         assert_eq!(judge(&entry).numbers()[5..], [lines as u32, numbers as u32], "the totals are those of the tables");

@@ -4,7 +4,7 @@ mod common;
 
 use common::{changed, entry, put, replaced, sample, wide, SAMPLE};
 use glockenbeacon::library::{canonical_copy, heading, judge, passage, read_number, unit, value, write_number};
-use glockenbeacon::{Decimal, NoAnswer, Part, Refusal, Value, COMMON, DATA};
+use glockenbeacon::{Decimal, FieldRead, NoAnswer, Part, Refusal, Value, COMMON, DATA};
 
 /// The seven numbers as the judging program prints them.
 fn judged(bytes: &[u8]) -> String {
@@ -157,8 +157,8 @@ fn lengths() {
     assert_eq!(judged(&longest(20_001)), "1 0 0 0 0 0 0");
 }
 
-fn number(negative: bool, coefficient: u64, power: i32) -> Result<Value, NoAnswer> {
-    Ok(Value::Number(Decimal { negative, coefficient, power }))
+fn number(negative: bool, coefficient: u64, power: i32, digits: u32) -> Result<FieldRead, NoAnswer> {
+    Ok(FieldRead { value: Value::Number(Decimal { negative, coefficient, power }), digits })
 }
 
 fn refused<T>(number: u32) -> Result<T, NoAnswer> {
@@ -168,12 +168,13 @@ fn refused<T>(number: u32) -> Result<T, NoAnswer> {
 #[test]
 fn values_of_the_sample() {
     let bytes = sample();
-    assert_eq!(value(&bytes, 1, COMMON, 1, 1), number(false, 14, 0));
-    assert_eq!(value(&bytes, 2, DATA, 1, 1), number(false, 1, 1));
-    assert_eq!(value(&bytes, 2, DATA, 1, 2), number(false, 145, -3));
-    assert_eq!(value(&bytes, 2, DATA, 1, 3), Ok(Value::Blank));
-    assert_eq!(value(&bytes, 2, DATA, 2, 3), number(false, 25, 0));
-    assert_eq!(value(&changed(23, 12, "0.0 "), 2, DATA, 2, 2), Ok(Value::Number(Decimal::ZERO)), "zero is not blank");
+    assert_eq!(value(&bytes, 1, COMMON, 1, 1), number(false, 14, 0, 2));
+    assert_eq!(value(&bytes, 2, DATA, 1, 1), number(false, 1, 1, 2));
+    assert_eq!(value(&bytes, 2, DATA, 1, 2), number(false, 145, -3, 3));
+    assert_eq!(value(&bytes, 2, DATA, 1, 3), Ok(FieldRead::BLANK));
+    assert_eq!(value(&bytes, 2, DATA, 2, 2), number(false, 14, -2, 2));
+    assert_eq!(value(&bytes, 2, DATA, 2, 3), number(false, 25, 0, 2));
+    assert_eq!(value(&changed(23, 12, "0.0 "), 2, DATA, 2, 2), number(false, 0, 0, 0), "zero is not blank");
     for (subentry, section, line, column, refusal) in [
         (0, 1, 1, 1, 32),
         (3, 9, 9, 9, 32),
@@ -262,7 +263,8 @@ fn tables_of_several_records_to_a_line() {
                     expected =
                         Decimal { coefficient: expected.coefficient / 10, power: expected.power + 1, ..expected };
                 }
-                assert_eq!(value(&bytes, 2, DATA, line, column), Ok(Value::Number(expected)));
+                let read = FieldRead { value: Value::Number(expected), digits: 3 };
+                assert_eq!(value(&bytes, 2, DATA, line, column), Ok(read));
             }
         }
         assert_eq!(value(&bytes, 2, DATA, 3, 1), refused(34));
@@ -274,23 +276,23 @@ fn tables_of_several_records_to_a_line() {
     }
 }
 
-/// "Marked to be proved, this paragraph (right-adjusted unless shown)": field, value, canonical field.
+/// "Marked to be proved, this paragraph (right-adjusted unless shown)": field, value, digits, canonical field.
 #[test]
 fn the_marked_numbers() {
-    for (field, coefficient, power, canonical) in [
-        ("0.14", 14, -2, ".14"),
-        ("1.45-1", 145, -3, ".145"),
-        ("1.40 E 00", 14, -1, "1.4"),
-        ("1000.", 1, 3, "1.+3"),
-        ("100.", 1, 2, "100."),
-        ("1.-3", 1, -3, ".001"),
-        ("1.+100", 1, 100, "10.+99"),
-        ("-.0", 0, 0, "0."),
-        (".12345678-9", 12_345_678, -17, ".12345678-9"),
-        (".1-99999999", 1, -100_000_000, ".1-99999999"),
+    for (field, coefficient, power, digits, canonical) in [
+        ("0.14", 14, -2, 2, ".14"),
+        ("1.45-1", 145, -3, 3, ".145"),
+        ("1.40 E 00", 14, -1, 3, "1.4"),
+        ("1000.", 1, 3, 4, "1.+3"),
+        ("100.", 1, 2, 3, "100."),
+        ("1.-3", 1, -3, 1, ".001"),
+        ("1.+100", 1, 100, 1, "10.+99"),
+        ("-.0", 0, 0, 0, "0."),
+        (".12345678-9", 12_345_678, -17, 8, ".12345678-9"),
+        (".1-99999999", 1, -100_000_000, 1, ".1-99999999"),
     ] {
         let field = format!("{field:>11}");
-        assert_eq!(read_number(field.as_bytes()), number(false, coefficient, power), "{field}");
+        assert_eq!(read_number(field.as_bytes()), number(false, coefficient, power, digits), "{field}");
         let mut written = [0; 11];
         write_number(Decimal { negative: false, coefficient, power }, &mut written).unwrap();
         assert_eq!(String::from_utf8_lossy(&written), format!("{canonical:>11}"));
@@ -298,7 +300,7 @@ fn the_marked_numbers() {
     for field in ["         14", "          .", "       + 1.", "     1.4-1 ", "       1.5E"] {
         assert_eq!(read_number(field.as_bytes()), refused(15), "{field}");
     }
-    assert_eq!(read_number(b"           "), Ok(Value::Blank));
+    assert_eq!(read_number(b"           "), Ok(FieldRead::BLANK));
     assert_eq!(read_number(b"1."), refused(40));
     assert_eq!(read_number(b""), refused(40));
     for (coefficient, power) in [(12_345_678_901, 0), (1, 100_000_000), (10_000_000_000_000_000_000, i32::MAX)] {
@@ -314,22 +316,64 @@ fn the_marked_numbers() {
     assert_eq!(short, [b'#'; 10]);
 }
 
+/// M-104: "the count of digits from the first non-zero one to the last written (0 for zero): 0.140 gives 3, 100. gives
+/// 3, 1.+2 gives 1".
+#[test]
+fn digits_as_the_author_wrote_them() {
+    for (field, digits) in [
+        ("0.140", 3),
+        ("100.", 3),
+        ("1.+2", 1),
+        // zeros in front do not count, those behind do, on both sides of the point
+        ("0.14", 2),
+        (".0010", 2),
+        ("0010.0", 3),
+        ("10.01", 4),
+        ("100.+3", 3),
+        // none of the exponent, however it is written
+        ("1.+10", 1),
+        ("1.E 10", 1),
+        ("1.40 E-12", 3),
+        // a sign is no digit
+        ("-1.0", 2),
+        ("+1.0", 2),
+        // zero has none
+        ("0.", 0),
+        ("-.0", 0),
+        ("000.000", 0),
+        ("0.E99999999", 0),
+        // eleven columns, one of them the point
+        ("1234567890.", 10),
+        (".0000000001", 1),
+        (".1000000000", 10),
+    ] {
+        let read = read_number(format!("{field:>11}").as_bytes()).unwrap();
+        assert_eq!(read.digits, digits, "{field}");
+    }
+    // "the claim that the canonical copy answers alike leaves this count out"
+    let bytes = changed(23, 12, "0.140");
+    let mut copy = bytes.clone();
+    assert_eq!(canonical_copy(&bytes, &mut copy), Ok(()));
+    assert_eq!(value(&bytes, 2, DATA, 2, 2), number(false, 14, -2, 3));
+    assert_eq!(value(&copy, 2, DATA, 2, 2), number(false, 14, -2, 2), "the copy has .14");
+}
+
 /// Spellings that are told apart by a hair.
 #[test]
 fn spellings() {
-    for (field, coefficient, power) in [
-        ("1.         ", 1, 0),
-        ("     +1.   ", 1, 0),
-        ("   1.40 -01", 14, -2),
-        ("     1.E+05", 1, 5),
-        ("      1.E 5", 1, 5),
-        (" 1.  E    5", 1, 5),
-        ("0.+99999999", 0, 0),
-        ("00000000.10", 1, -1),
-        ("9999999999.", 9_999_999_999, 0),
-        ("1.-00000003", 1, -3),
+    for (field, coefficient, power, digits) in [
+        ("1.         ", 1, 0, 1),
+        ("     +1.   ", 1, 0, 1),
+        ("   1.40 -01", 14, -2, 3),
+        ("     1.E+05", 1, 5, 1),
+        ("      1.E 5", 1, 5, 1),
+        (" 1.  E    5", 1, 5, 1),
+        ("0.+99999999", 0, 0, 0),
+        ("00000000.10", 1, -1, 2),
+        ("9999999999.", 9_999_999_999, 0, 10),
+        ("1.-00000003", 1, -3, 1),
     ] {
-        assert_eq!(read_number(field.as_bytes()), number(false, coefficient, power), "{field}");
+        assert_eq!(read_number(field.as_bytes()), number(false, coefficient, power, digits), "{field}");
     }
     for field in [
         "1.4E -1", "1. 5", "1.4e1", "1.4D1", "1.2.3", "+ .1", "1.+", "1.E", "1.E+", "1.E+ 1", "1.- 1", "E1", "1.5 5",

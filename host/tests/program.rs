@@ -205,6 +205,35 @@ fn tables_are_exact() {
     assert!(complained(&output).starts_with("x4: standard input: refusal 6, record 4, column 75: "));
 }
 
+/// With --digits a count stands beside each value; without it nothing is added.
+#[test]
+fn tables_with_digits() {
+    let csv = "\
+90001001,COMMON,heading,EN,digits
+90001001,COMMON,pointer,,
+90001001,COMMON,unit,MEV,
+90001001,COMMON,1,14,2
+90001002,DATA,heading,ANG,digits,DATA,digits,DATA,digits
+90001002,DATA,pointer,,,1,,2,
+90001002,DATA,unit,ADEG,,MB/SR,,MB/SR,
+90001002,DATA,1,10,2,0.145,3,,0
+90001002,DATA,2,20,2,0.14,2,25,2
+";
+    let output = run(&["tables", "--digits"], &sample());
+    assert_eq!((printed(&output).as_str(), output.status.code()), (csv, Some(0)));
+    let json = printed(&run(&["tables", "--digits", "--json"], &sample()));
+    let lines = "\"lines\":[[{\"value\":\"10\",\"digits\":2},{\"value\":\"0.145\",\"digits\":3},\
+                 {\"value\":null,\"digits\":0}],[{\"value\":\"20\",\"digits\":2},\
+                 {\"value\":\"0.14\",\"digits\":2},{\"value\":\"25\",\"digits\":2}]]}]\n";
+    assert!(json.ends_with(lines), "{json}");
+    // 0.140 is the same value as 0.14, written with one digit more
+    let more = printed(&run(&["tables", "--digits"], &changed(23, 12, "0.140")));
+    assert_eq!(more, csv.replace("0.14,2", "0.14,3"));
+    assert_eq!(run(&["tables"], &changed(23, 12, "0.140")).stdout, run(&["tables"], &sample()).stdout);
+    assert!(printed(&run(&["tables", "--help"], b"")).contains("--digits"));
+    assert_eq!(run(&["judge", "--digits"], &sample()).status.code(), Some(2));
+}
+
 #[test]
 fn canonical_copies() {
     let output = run(&["canon"], &sample());
@@ -232,6 +261,15 @@ fn entries_are_compared() {
     assert_eq!(printed(&run(&["compare", &first, &zero], b"")), words);
     let table = file("first.csv", &run(&["tables", &first], b"").stdout);
     assert_eq!(run(&["compare", "--exact", &first, &table], b"").status.code(), Some(0));
+    // 0.140 has the value of 0.14 and one digit more
+    let more = file("more.x4", &changed(23, 12, "0.140"));
+    assert_eq!(printed(&run(&["compare", &first, &more], b"")), "same: 2 tables, 6 numbers\n");
+    let output = run(&["compare", "--digits", &first, &more], b"");
+    let words = "subentry 90001002, DATA, line 2, column 2, digits: first 2, second 3\n";
+    assert_eq!((printed(&output).as_str(), output.status.code()), (words, Some(1)));
+    let table = file("more.csv", &run(&["tables", "--digits", &more], b"").stdout);
+    let output = run(&["compare", "--digits", &more, &table], b"");
+    assert_eq!((printed(&output).as_str(), output.status.code()), ("same: 2 tables, 6 numbers\n", Some(0)));
     let output = run(&["compare", &first, "-"], b"no table\n");
     assert_eq!(output.status.code(), Some(2));
     assert!(complained(&output).starts_with("x4: standard input: neither an entry nor tables: line 1: "));

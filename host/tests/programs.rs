@@ -2,7 +2,7 @@
 //! compared with the proved functions at every check of the crates, and here with an implementation that shares nothing
 //! with these.
 
-use glockenbeacon::{reference, Decimal, NoAnswer, Part, Value, RECORD};
+use glockenbeacon::{reference, Decimal, FieldRead, NoAnswer, Part, Value, RECORD};
 use std::fmt::Write;
 use std::path::Path;
 
@@ -23,6 +23,11 @@ fn same_lines(program: &str, said: &[u8]) {
     assert_eq!(said.len(), expected.len(), "{program}: the length");
 }
 
+/// The count of digits; none beside a refusal.
+fn digits(read: Result<FieldRead, NoAnswer>) -> u32 {
+    read.map_or(0, |read| read.digits)
+}
+
 fn decimal(value: Decimal, between: &str) -> String {
     let sign = if value.negative { "-" } else { "" };
     format!("{sign}{}{between}{}", value.coefficient, value.power)
@@ -36,12 +41,13 @@ fn fields_are_read_as_stored() {
         let shown = line.iter().map(|&byte| if (32..127).contains(&byte) { byte } else { b'?' });
         said.push(b'[');
         said.extend(shown);
-        let answer = match reference::read_number(line) {
+        let read = reference::read_number(line);
+        let answer = match read.map(|read| read.value) {
             Ok(Value::Blank) => "blank".to_string(),
             Ok(Value::Number(value)) => decimal(value, " e"),
             Err(refused) => format!("refused {}", refused.number),
         };
-        said.extend(format!("] {answer}\n").bytes());
+        said.extend(format!("] {answer} digits {}\n", digits(read)).bytes());
     }
     same_lines("read_fields", &said);
 }
@@ -73,11 +79,11 @@ fn ask(said: &mut Vec<u8>, entry: &[u8], line: &[u8]) {
     match line[0] {
         b'v' => {
             let answer = reference::value(entry, n, asked(line, 11), asked(line, 21), asked(line, 31));
-            let value = match &answer {
-                Ok(Value::Number(value)) => format!("number {}", decimal(*value, " ")),
+            let value = match answer.map(|read| read.value) {
+                Ok(Value::Number(value)) => format!("number {}", decimal(value, " ")),
                 _ => "blank".to_string(),
             };
-            said.extend(format!("{} {value}\n", numbers(answer.as_ref().err())).bytes());
+            said.extend(format!("{} {value} {}\n", numbers(answer.as_ref().err()), digits(answer)).bytes());
         }
         b'h' => say_part(said, entry, reference::heading(entry, n, asked(line, 11), asked(line, 21))),
         b'u' => say_part(said, entry, reference::unit(entry, n, asked(line, 11), asked(line, 21))),

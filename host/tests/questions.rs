@@ -4,7 +4,7 @@ mod common;
 
 use common::{compiled, say, C};
 use glockenbeacon::generate::{self, Random};
-use glockenbeacon::{library, reference, NoAnswer, Part, Value, RECORD};
+use glockenbeacon::{library, reference, FieldRead, NoAnswer, Part, Value, RECORD};
 use std::path::Path;
 use std::process::Command;
 
@@ -50,12 +50,13 @@ fn refused(answer: NoAnswer) -> String {
     format!("refused {} {refusal} {record} {column}", answer.number)
 }
 
-fn value(answer: Result<Value, NoAnswer>) -> String {
-    match answer {
-        Err(answer) => refused(answer),
-        Ok(Value::Blank) => "blank".into(),
-        Ok(Value::Number(d)) => format!("{}{}E{}", if d.negative { "-" } else { "" }, d.coefficient, d.power),
-    }
+fn value(answer: Result<FieldRead, NoAnswer>) -> String {
+    answer.map_or_else(refused, |FieldRead { value, digits }| match value {
+        Value::Blank => format!("blank digits {digits}"),
+        Value::Number(d) => {
+            format!("{}{}E{} digits {digits}", if d.negative { "-" } else { "" }, d.coefficient, d.power)
+        }
+    })
 }
 
 fn part(answer: Result<Part, NoAnswer>) -> String {

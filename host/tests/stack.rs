@@ -189,7 +189,7 @@ mod measured {
             let Decimal { negative, coefficient, power } = decimal;
             let answer = write.call([negative.into(), coefficient, power as u32 as u64, lent(&mut field), 11, 0, 0, 0]);
             let number = reference::write_number(decimal, &mut expected).map_or_else(|refused| refused.number, |()| 0);
-            assert!(answer as u32 == u32::from(number) && field == expected, "{decimal}");
+            assert!(answer as u32 == number && field == expected, "{decimal}");
             seen.insert((branch, number));
         }
         // eight ways, each done and refused by 41, and the two that the given ones have

@@ -12,7 +12,7 @@ use native.Mathlib.Omega.{arith}
 use lib.ListN.{length, getD, take}
 use Rattle.laws.specs.Walk.{All}
 use Rattle.laws.specs.Blocks.{blockAt}
-use Rattle.number.specs.Reading.{readField}
+use Rattle.number_digits.specs.Digits.{fieldRead}
 use Rattle.columns_places.specs.Places.{recordsFor, placeOf}
 use Rattle.columns.specs.Fields.{fieldsOf, fieldAt, n2}
 use Rattle.columns_places.specs.declared.places.LineNo.{LineNo}
@@ -46,7 +46,7 @@ use Rattle.good.specs.Parts.{Record, Table, rowsOf, recordsOf}
 use Rattle.good.specs.Tables.{columnsOf, GoodValues, GoodTable, GoodCommon, GoodData}
 use Rattle.good.specs.Subentries.{ownNumber}
 use Rattle.good.specs.Good.{GoodBytes}
-use Rattle.answered_tables.specs.Tables.{first-common, later-common, later-data, LineIn, ColumnIn, PartOf}
+use Rattle.answered_tables.specs.Tables.{answeredBy, first-common, later-common, later-data, LineIn, ColumnIn, PartOf}
 use Rattle.answered_tables.specs.Tables.{ValueOfTable, HeadingOfTable, UnitOfTable}
 use Rattle.answered_tables.proofs.Indexed.{size, records, block-is, accepted, block-behind, context-behind}
 use Rattle.answered_tables.proofs.Indexed.{there-behind}
@@ -168,11 +168,8 @@ module _ (s : List ℕ) (g : GoodBytes s) (b : Bool) (n : ℕ) (t : Table) (r : 
         (value-answered s n (sectionNo b) line column (accepted s g) inside .0)
 
     value-whole : valueAsked s n (sectionNo b) line column
-        ≡ record {
-          answer = answerOf 0;
-          value = readField (fieldOf s (placeOf (sectionIn (rowOf s n) (sectionNo b)) (countN1 fs) line column));
-        }
-    unfolding valueAsked valueBy
+        ≡ answeredBy (fieldOf s (placeOf (sectionIn (rowOf s n) (sectionNo b)) (countN1 fs) line column))
+    unfolding valueAsked valueBy fieldRead
     value-whole = rw (refused-not, shape-columns s (accepted s g) n b a opening)
 
     abbrev above : ℕ
@@ -192,7 +189,7 @@ module _ (s : List ℕ) (g : GoodBytes s) (b : Bool) (n : ℕ) (t : Table) (r : 
         ∙ line-at (r .before) (t .opening) t (r .behind) k above m h u (laid .rows) l few
 
     table-value : valueAsked s n (sectionNo b) line column
-        ≡ record { answer = answerOf 0; value = readField (cell (getD (t .lines) above []) (column - 1)) }
+        ≡ answeredBy (cell (getD (t .lines) above []) (column - 1))
     unfolding cell
     table-value =
         let c = columns-are in
@@ -200,7 +197,7 @@ module _ (s : List ℕ) (g : GoodBytes s) (b : Bool) (n : ℕ) (t : Table) (r : 
         let field =
         Placed.value-at s (accepted s g) n b a opening column (x .from) (rw c (x .to)) line (y .from) (rw d (y .to)) in
         value-whole
-        ∙ ap (λ (f : List ℕ). record { answer = answerOf 0; value = readField f })
+        ∙ ap answeredBy
         (field ∙ ap (λ (z : List ℕ). fieldAt z ((column - 1) % 6)) (rw (← c) at block-of))
 
   -- ---- headings and units

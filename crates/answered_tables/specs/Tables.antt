@@ -7,9 +7,11 @@ use mathlib.Core.Path.{_≡_}
 use mathlib.Core.List.{List, [], _∷_, _++_}
 use lib.ListN.{length, getD, take}
 use Rattle.number.specs.Reading.{readField}
+use Rattle.number_digits.specs.Digits.{digitCount}
 use Rattle.columns_places.specs.declared.places.LineNo.{LineNo}
 use Rattle.record_words.specs.Word.{pointerOf}
 use Rattle.entry_verdict.specs.Answer.{answerOf}
+use Rattle.questions_values.specs.declared.answers.ValueAnswer.{ValueAnswer}
 use Rattle.questions_parts.specs.declared.answers.PartAnswer.{PartAnswer}
 use Rattle.questions_places.specs.Place.{COMMON-SECTION, DATA-SECTION}
 use Rattle.questions.specs.Ask.{valueAsked, headingAsked, unitAsked}
@@ -41,13 +43,15 @@ pub record ColumnIn (t : Table) (column : ℕ) : Type 0 where
 
 -- ---- the answers
 
--- a value is what the cell in that line and column reads to
+-- a value is what the cell in that line and column reads to, and the digits beside it are those written there
+abbrev pub answeredBy : List ℕ → ValueAnswer
+answeredBy l = record { answer = answerOf 0; value = readField l; digits = digitCount l }
+
 abbrev pub ValueOfTable : Type 0
 ValueOfTable =
     (s : List ℕ) (g : GoodBytes s) (n section : ℕ) (t : Table) → TableOf (g .entry) n section t
     → (line : LineNo) (column : ℕ) → LineIn t line → ColumnIn t column
-    → valueAsked s n section line column
-    ≡ record { answer = answerOf 0; value = readField (cell (getD (t .lines) (line .0 - 1) []) (column - 1)) }
+    → valueAsked s n section line column ≡ answeredBy (cell (getD (t .lines) (line .0 - 1) []) (column - 1))
 
 -- "Heading and unit are handed back as a part of the caller's entry, ten columns, the heading's pointer beside either"
 pub record PartOf (s : List ℕ) (words heading : List ℕ) (p : PartAnswer) : Type 0 where

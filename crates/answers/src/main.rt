@@ -1,8 +1,8 @@
 // Asks questions of entries. The first character of a line of the input says what it is: `*` and 80 columns, the next
 // record of the entry; `!`, a new entry begins; `v`, `h`, `u`, a value, a heading, a unit: the subentry, the section,
 // for a value the line, and the column, ten columns each; `p`, a passage: the subentry in ten columns, the keyword in
-// ten, the pointer in one. Of each question it writes the number, what stands beside it, and the answer: the value, or
-// the first byte, the length, the pointer and the part.
+// ten, the pointer in one. Of each question it writes the number, what stands beside it, and the answer: the value and the
+// count of its digits, or the first byte, the length, the pointer and the part.
 use bytes::scan::find;
 use columns_places::places::LineNo;
 use entry_verdict::answer::Answer;
@@ -75,8 +75,10 @@ fn ask_value(entry: &[u8], line: &[u8]) {
     let v = value(entry, n, section, row, column);
     let a = v.answer;
     let r = v.value;
+    let digits = v.digits;
     say_answer(a);
     say_reading(r);
+    say(b" ", digits as u64);
     io::write_all(1, b"\n");
 }
 

@@ -14,7 +14,8 @@ use Rattle.number.specs.Grammar.{blanks, digitsText, Sign, unsigned, signed, si
 use Rattle.number.specs.Grammar.{Tail, plain, power, tailText, GoodTail, Field, write, GoodField}
 use Rattle.number.specs.Value.{Normal}
 use Rattle.canonical_layout.specs.Canonical.{columns, tailColumns, pastBlanks, oneMore, upToLast, span}
-use Rattle.canonical_layout.specs.Closed.{count, digitsN, shift, layoutOf, signOf, tailOf, laidOut}
+use Rattle.canonical_layout.specs.Closed.{digitsN, shift, layoutOf, signOf, tailOf, laidOut}
+use Rattle.number_digits.specs.Count.{count}
 use Rattle.canonical_layout.specs.Closed.{shortest, canonicalText}
 use Rattle.number.proofs.Bounds.{text-length}
 use Rattle.canonical_layout.proofs.Winner.{shortest-fine, text-columns}

@@ -20,7 +20,8 @@ use Rattle.number.specs.Value.{decimal, trimFrom, trim, valueOf}
 use Rattle.number.specs.Reading.{finish, readField, readNumber}
 use Rattle.canonical.specs.declared.write.Written.{Written}
 use Rattle.canonical.specs.declared.write.Written.the-variants.{Done, Refused}
-use Rattle.canonical_layout.specs.Closed.{countFrom, count, digitsN, shift, layoutUp, layoutDown, laidOut, shortest}
+use Rattle.canonical_layout.specs.Closed.{digitsN, shift, layoutUp, layoutDown, laidOut, shortest}
+use Rattle.number_digits.specs.Count.{countFrom, count}
 use Rattle.canonical_layout.specs.Closed.{canonicalText, canonicalField}
 use Rattle.canonical.specs.Writing.{answered, storedField, written, bytes}
 

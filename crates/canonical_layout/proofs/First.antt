@@ -15,10 +15,12 @@ use lib.IntN.{ℤ, pos, negsuc}
 use Rattle.number.specs.Grammar.{Digits, num, signText, Opening, openText, below}
 use Rattle.number.specs.Grammar.{Tail, plain, power, GoodTail, Field, GoodField}
 use Rattle.canonical_layout.specs.Canonical.{Ahead, columns, marksE, blanksBehind, tailColumns}
-use Rattle.canonical_layout.specs.Closed.{signOf, digitsN, count, plainLayout, raisedBy, laidOut}
+use Rattle.canonical_layout.specs.Closed.{signOf, digitsN, plainLayout, raisedBy, laidOut}
+use Rattle.number_digits.specs.Count.{count}
 use Rattle.number.proofs.Tens.{ten-suc, ten-gap}
 use Rattle.number.proofs.Bounds.{num-lt}
-use Rattle.canonical_layout.proofs.Digits.{num-inj, digitsN-length, digitsN-digits, digitsN-num, Counted}
+use Rattle.canonical_layout.proofs.Digits.{num-inj, digitsN-length, digitsN-digits, digitsN-num}
+use Rattle.number_digits.proofs.Count.{Counted}
 use Rattle.canonical_layout.proofs.Says.{Says, weight, up-plain, up-power, down-plain, down-power}
 use Rattle.canonical_layout.proofs.Ties.{Same, settle, settle-less}
 use Rattle.canonical_layout.proofs.Ties.{sign-least, sign-same, open-least, open-same, same-digits}

@@ -14,17 +14,19 @@ use Rattle.number.specs.declared.value.Decimal.{Decimal}
 use Rattle.number.specs.Value.{Normal, Value, valueOf}
 use Rattle.number.proofs.Laws.{value-found}
 use Rattle.canonical_layout.specs.declared.layout.Layout.{Layout}
-use Rattle.canonical_layout.specs.Closed.{count, countFrom, plainLayout, raisedBy, layoutUp, layoutDown, layoutOf}
+use Rattle.canonical_layout.specs.Closed.{plainLayout, raisedBy, layoutUp, layoutDown, layoutOf}
+use Rattle.number_digits.specs.Count.{count, countFrom}
 use Rattle.canonical_layout.specs.Closed.{places}
 use Rattle.canonical_layout.specs.Closed.{shortest, canonicalText}
 use Rattle.canonical_layout.specs.Storing.{layoutColumns, Sound, ReadyLayout}
 use Rattle.number.proofs.Tens.{ten-suc, ten-le, ten-pos, ten-lt}
-use Rattle.canonical_layout.proofs.Digits.{counts, count-pos, count-short}
+use Rattle.number_digits.proofs.Count.{counts, count-pos, count-short}
 use Rattle.canonical_layout.proofs.Sizes.{more-zeros, drop-zeros}
 use Rattle.canonical_layout.proofs.Laid.{laid-wide}
 use Rattle.canonical_layout.proofs.Shortest.{exponent, power-of-ten, each-up, each-down}
 use Rattle.canonical_layout.proofs.Winner.{text-columns, above-zero}
-use Rattle.canonical_layout.proofs.Numbers.{count-is, suc-less, mag-add}
+use Rattle.canonical_layout.proofs.Numbers.{suc-less, mag-add}
+use Rattle.number_digits.proofs.Count.{count-is}
 
 -- a layout with an exponent, whose digits were counted before
 abbrev pub raisedLong : ℕ → ℕ → ℕ → Bool → ℕ → ℕ → Layout

@@ -12,22 +12,10 @@ use lib.Signed.{mag, nonNeg, ltZ}
 use mir.Syntax.{w32, w64}
 use mir.Val.{Fits, SFits, toZ, ofZ}
 use mir.ValLaws.{toZ-ofZ, toZ-pos}
-use Rattle.canonical_layout.specs.Closed.{count}
+use Rattle.number_digits.specs.Count.{count}
 use Rattle.canonical_layout.specs.Storing.{sizeOf}
 use Rattle.number.proofs.Tens.{ten-pos, ten-lt}
-use Rattle.canonical_layout.proofs.Digits.{counts, count-one}
-
--- ---- how many digits a number has
-
--- by the powers of ten around it
-pub count-is : (i v : ℕ) → (0 < i → 10 ^ i ≤ v) → v < 10 ^ suc i → count v ≡ suc i
-count-is zero v h l = count-one v l
-count-is (suc i) v h l =
-    let p : 10 ^ suc i ≤ v = h (omega arith) in
-    let x = counts v (omega (arith, ten-pos (suc i))) in
-    let a : x .less < suc (suc i) = ten-lt (x .less) (suc (suc i)) (lt-of-le-of-lt (x .least) l) in
-    let b : suc i < suc (x .less) = ten-lt (suc i) (suc (x .less)) (lt-of-le-of-lt p (x .most)) in
-    omega (arith, x .same)
+use Rattle.number_digits.proofs.Count.{counts, count-one}
 
 pub suc-less : (i : ℕ) → suc i - 1 ≡ i
 suc-less i = omega arith

@@ -15,7 +15,8 @@ use Rattle.number.proofs.Laws.{value-found}
 use Rattle.canonical_layout.specs.declared.layout.Layout.{Layout}
 use Rattle.canonical_layout.specs.declared.layout.Size.{Size}
 use Rattle.canonical_layout.specs.declared.layout.Prepared.{Prepared}
-use Rattle.canonical_layout.specs.Closed.{count, plainLayout, layoutUp, layoutDown, layoutOf}
+use Rattle.canonical_layout.specs.Closed.{plainLayout, layoutUp, layoutDown, layoutOf}
+use Rattle.number_digits.specs.Count.{count}
 use Rattle.canonical_layout.specs.Storing.{sizeOf, preparedOf, Sound}
 use Rattle.number.proofs.Tens.{ten-pos}
 use Rattle.canonical_layout.proofs.Sizes.{more-zeros}

@@ -14,12 +14,13 @@ use Rattle.number.specs.Grammar.{num, minus, GoodTail, Field, GoodField}
 use Rattle.number.specs.Value.{decimal, digitsOf, powerOf, Means}
 use Rattle.canonical_layout.specs.declared.layout.Layout.{Layout}
 use Rattle.canonical_layout.specs.Canonical.{blanksBehind}
-use Rattle.canonical_layout.specs.Closed.{count, digitsN, plainLayout, raisedBy, layoutUp, layoutDown, layoutOf}
+use Rattle.canonical_layout.specs.Closed.{digitsN, plainLayout, raisedBy, layoutUp, layoutDown, layoutOf}
+use Rattle.number_digits.specs.Count.{count}
 use Rattle.canonical_layout.specs.Closed.{places}
 use Rattle.canonical_layout.specs.Closed.{signOf, tailOf, laidOut}
 use Rattle.number.proofs.Tens.{ten-suc, ten-pos, ten-le, ten-lt}
 use Rattle.canonical_layout.proofs.Digits.{digitsN-length, digitsN-digits, digitsN-num}
-use Rattle.canonical_layout.proofs.Digits.{Counted, counts, count-pos, count-most}
+use Rattle.number_digits.proofs.Count.{Counted, counts, count-pos, count-most}
 use Rattle.canonical_layout.proofs.Sizes.{pos-to, neg-to}
 use Rattle.canonical_layout.proofs.Says.{Says}
 use Rattle.canonical_layout.proofs.Laid.{laid-digits, laid-length, laid-num}

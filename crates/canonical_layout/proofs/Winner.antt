@@ -13,7 +13,8 @@ use Rattle.number.specs.Grammar.{Sign, unsigned, signed, signText, Tail, plain,
 use Rattle.number.specs.Grammar.{GoodField}
 use Rattle.number.specs.Value.{zeroDecimal, Normal, Means}
 use Rattle.canonical_layout.specs.Canonical.{Fewer, Ahead, columns, tailColumns, blanksBehind, Canonical, NoField}
-use Rattle.canonical_layout.specs.Closed.{count, countFrom, digitsN, shift, layoutUp, laidOut}
+use Rattle.canonical_layout.specs.Closed.{digitsN, shift, layoutUp, laidOut}
+use Rattle.number_digits.specs.Count.{count, countFrom}
 use Rattle.canonical_layout.specs.Closed.{shortest, canonicalText, canonicalField}
 use Rattle.number.proofs.Bounds.{text-length}
 use Rattle.canonical_layout.proofs.Says.{says, zero-digits}

@@ -8,19 +8,10 @@ use lib.ListN.{length}
 use lib.IntN.{ℤ, pos, negsuc}
 use Rattle.number.specs.declared.value.Decimal.{Decimal}
 use Rattle.number.specs.Grammar.{blanks, Sign, unsigned, signed, bySign, Tail, plain, power, Field, write}
+use Rattle.number_digits.specs.Count.{count}
 use Rattle.canonical_layout.specs.declared.layout.Layout.{Layout}
 
 -- ---- digits of a number
-
--- `short` says whether the number is below ten; a number has fewer digits than it is large
-unfoldable pub countFrom : ℕ → Bool → ℕ → ℕ
-countFrom zero short v = 1
-countFrom (suc n) true v = 1
-countFrom (suc n) false v = suc (countFrom n (ltb (v / 10) 10) (v / 10))
-
--- how many digits it has: 0 has one
-unfoldable pub count : ℕ → ℕ
-count v = countFrom v (ltb v 10) v
 
 -- its last n digits
 unfoldable pub digitsN : ℕ → ℕ → List ℕ

@@ -9,7 +9,8 @@ use Rattle.number.specs.Grammar.{blanks, digitsText, write}
 use Rattle.canonical_layout.specs.declared.layout.Layout.{Layout}
 use Rattle.canonical_layout.specs.declared.layout.Size.{Size}
 use Rattle.canonical_layout.specs.declared.layout.Prepared.{Prepared}
-use Rattle.canonical_layout.specs.Closed.{count, digitsN, shift, layoutOf, laidOut}
+use Rattle.canonical_layout.specs.Closed.{digitsN, shift, layoutOf, laidOut}
+use Rattle.number_digits.specs.Count.{count}
 
 -- the size of a power, and whether it is below zero
 abbrev pub sizeOf : ℤ → Size

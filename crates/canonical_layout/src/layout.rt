@@ -3,7 +3,8 @@ ghost use mathlib.Core.Path.{_≡_};
 ghost use Prim.Native.Nat.{_+_, _-_, _*_, _<_, _≤_, _^_};
 ghost use lib.IntN.{ℤ, pos, _+ℤ_};
 ghost use Rattle.number.specs.Value.{valueOf};
-ghost use Rattle.canonical_layout.specs.Closed.{«count» as countOf, layoutUp, layoutDown, layoutOf};
+ghost use Rattle.canonical_layout.specs.Closed.{layoutUp, layoutDown, layoutOf};
+ghost use Rattle.number_digits.specs.Count.{«count» as countOf};
 ghost use Rattle.canonical_layout.specs.Storing.{sizeOf, preparedOf};
 use number::value::without_zeros;
 

@@ -9,7 +9,7 @@ use Rattle.copy_laws.proofs.Demand.{copy-accepted, copy-again, one-copy}
 use Rattle.copy_laws.proofs.Unchanged.{copy-part}
 use Rattle.demand3.specs.Demand3.{Demand3}
 use Rattle.demand3.proofs.CopiedFields.{copy-canonical, copy-blank}
-use Rattle.demand3.proofs.Values.{same-values}
+use Rattle.demand3.proofs.Values.{same-values, count-left-out}
 use Rattle.demand3.proofs.Headings.{same-headings, same-units}
 use Rattle.demand3.proofs.Passages.{same-passages}
 
@@ -32,6 +32,7 @@ demand3 =
       other-bytes = copy-part;
       accepted = copy-accepted;
       same-values = same-values;
+      count-left-out = count-left-out;
       same-headings = same-headings;
       same-units = same-units;
       same-passages = same-passages;

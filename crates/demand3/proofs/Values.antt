@@ -1,16 +1,22 @@
 -- Every question about a value has the same answer in the copy.
 -- Assumes nothing.
 use Prim.Native.Nat.{ℕ}
-use mathlib.Core.Path.{_≡_, ap}
+use mathlib.Core.Path.{_≡_, refl}
 use mathlib.Core.List.{List}
 use Rattle.columns_places.specs.Places.{placeOf}
 use Rattle.columns_places.specs.declared.places.LineNo.{LineNo}
 use Rattle.columns_places.specs.declared.places.RecordNo.{RecordNo}
+use Rattle.number.specs.Reading.{readField, finish}
+use Rattle.number.specs.Value.{trimFrom, trim, valueOf}
+use Rattle.number.specs.Grammar.{write}
+use Rattle.number_digits.specs.Count.{countFrom, count}
+use Rattle.number_digits.specs.Digits.{digitCount, fieldRead}
+use Rattle.canonical_laws.specs.Replacing.{canonical}
+use Rattle.canonical_layout.specs.Closed.{digitsN, shift, layoutUp, layoutDown, laidOut, shortest, canonicalText, canonicalField}
 use Rattle.entry_verdict.specs.declared.verdict.Verdict.{Verdict}
 use Rattle.entry_judging.specs.Judging.{Accepted}
 use Rattle.questions_noted.specs.declared.row.Row.{Row}
 use Rattle.questions_places.specs.declared.place.Shape.{Shape}
-use Rattle.questions_values.specs.declared.answers.ValueAnswer.{ValueAnswer}
 use Rattle.questions_rows.specs.Row.{rowOf}
 use Rattle.questions_places.specs.Place.{shapeOf}
 use Rattle.questions_refusals.specs.Refused.{sectionIn, valueRefusal}
@@ -18,7 +24,7 @@ use Rattle.questions_values.specs.Answers.{valueBy}
 use Rattle.questions.specs.Ask.{valueAsked}
 use Rattle.copy_laws.specs.Copy.{copyOf}
 use Rattle.copy_laws.proofs.Demand.{copy-accepted}
-use Rattle.demand3.specs.Same.{SameValues}
+use Rattle.demand3.specs.Same.{AlikeAnswer, SameValues, CountLeftOut}
 use Rattle.demand3.proofs.CopiedRecords.{copied-identifiers, copied-places}
 use Rattle.demand3.proofs.CopiedRows.{copied-row, shape-kept}
 
@@ -29,29 +35,26 @@ module _ (s : List ℕ) (accepted : Accepted s) where
   refusal-same v x at shape line column = rw (copied-identifiers s accepted (x .first))
 
   value-same : (v : Verdict) (number section : ℕ) (line : LineNo) (column : ℕ)
-      → valueBy (copyOf s) v (rowOf s number) section line column ≡ valueBy s v (rowOf s number) section line column
-  unfolding valueBy
+      → AlikeAnswer (valueBy (copyOf s) v (rowOf s number) section line column)
+      (valueBy s v (rowOf s number) section line column)
+  unfolding valueBy fieldRead
   value-same v number section line column =
       let x = rowOf s number in
       let at = sectionIn x section in
       let shape = shapeOf s section at in
-      rw (
-        shape-kept s accepted number section,
-        refusal-same v x at shape line column,
-        copied-places s accepted (placeOf at (shape .columns) line column),
-      )
-
-  answer-same : (number section : ℕ) (line : LineNo) (column : ℕ)
-      → valueAsked (copyOf s) number section line column ≡ valueAsked s number section line column
-  unfolding valueAsked
-  answer-same number section line column =
-      rw (copy-accepted s accepted, copied-row s accepted number) (value-same _ number section line column)
+      let e = shape-kept s accepted number section in
+      let r = refusal-same v x at shape line column in
+      record {
+        numbers = rw (e, r);
+        values = rw (e, r, copied-places s accepted (placeOf at (shape .columns) line column));
+      }
 
 -- "with the same values [..] at the same places"
 pub same-values : SameValues
+unfolding valueAsked
 same-values s accepted number section line column =
-    let e = answer-same s accepted number section line column in
-    record {
-      numbers = ap (λ (a : ValueAnswer). a .answer) e;
-      values = ap (λ (a : ValueAnswer). a .value) e;
-    }
+    rw (copy-accepted s accepted, copied-row s accepted number) (value-same s accepted _ number section line column)
+
+pub count-left-out : CountLeftOut
+unfolding digitCount readField finish trimFrom trim valueOf write countFrom count canonical digitsN shift layoutUp laidOut layoutDown shortest canonicalText canonicalField
+count-left-out = (refl, refl)

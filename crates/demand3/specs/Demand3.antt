@@ -6,7 +6,7 @@ use Rattle.inside.specs.Inside.{ValueAnswered, HeadingAnswered, UnitAnswered, P
 use Rattle.inside.specs.Asked.{ValueInside, HeadingInside, UnitInside, PassageInside}
 use Rattle.copy_laws.specs.Demand.{CopyMade, CopyPart, CopyAccepted, CopyAgain, OneCopy}
 use Rattle.demand3.specs.Fields.{CopyCanonical, CopyBlank}
-use Rattle.demand3.specs.Same.{SameValues, SameHeadings, SameUnits, SamePassages}
+use Rattle.demand3.specs.Same.{SameValues, CountLeftOut, SameHeadings, SameUnits, SamePassages}
 
 pub record Demand3 : Type 0 where
   -- "For an accepted entry, every question inside its own shape is answered."
@@ -32,6 +32,8 @@ pub record Demand3 : Type 0 where
   pub accepted : CopyAccepted
   -- "answers every such question with the same values and words at the same places,"
   pub same-values : SameValues
+  -- the count of digits is left out, as document 02 says (M-104)
+  pub count-left-out : CountLeftOut
   pub same-headings : SameHeadings
   pub same-units : SameUnits
   pub same-passages : SamePassages

@@ -2,7 +2,9 @@
 -- same values and words at the same places". A question, inside the entry's shape or not, is answered or refused alike.
 use Prim.Native.Nat.{ℕ}
 use mathlib.Core.Path.{_≡_}
-use mathlib.Core.List.{List}
+use mathlib.Core.List.{List, [], _∷_}
+use Rattle.number_digits.specs.Digits.{digitCount}
+use Rattle.canonical_laws.specs.Replacing.{canonical}
 use Rattle.columns_places.specs.declared.places.LineNo.{LineNo}
 use Rattle.entry_judging.specs.Judging.{Accepted}
 use Rattle.questions_values.specs.declared.answers.ValueAnswer.{ValueAnswer}
@@ -14,7 +16,8 @@ use Rattle.copy_laws.specs.Demand.{Alike}
 
 -- ---- values
 
--- two answers to a question about a value: the same numbers, and values that are alike
+-- two answers to a question about a value: the same numbers, and values that are alike. The count of digits may differ
+-- (document 02, M-104): "From then on the claim that the canonical copy answers alike leaves this count out."
 pub record AlikeAnswer (a b : ValueAnswer) : Type 0 where
   pub numbers : a .answer ≡ b .answer
   pub values : Alike (a .value) (b .value)
@@ -23,6 +26,12 @@ abbrev pub SameValues : Type 0
 SameValues =
     (s : List ℕ) → Accepted s → (n section : ℕ) (line : LineNo) (column : ℕ)
     → AlikeAnswer (valueAsked (copyOf s) n section line column) (valueAsked s n section line column)
+
+-- why it is left out: 0.140 has three digits, and its canonical field, .14, has two
+abbrev pub CountLeftOut : Type 0
+CountLeftOut =
+    let field : List ℕ = 32 ∷ 32 ∷ 32 ∷ 32 ∷ 32 ∷ 32 ∷ 48 ∷ 46 ∷ 49 ∷ 52 ∷ 48 ∷ [] in
+    (digitCount field ≡ 3) × (digitCount (canonical field) ≡ 2)
 
 -- ---- words: headings, units and passages
 

@@ -3,7 +3,7 @@ ghost use mathlib.Core.Path.{_≡_};
 ghost use mathlib.Core.Bool.{not};
 ghost use lib.Dec.{eqb};
 ghost use Rattle.number.specs.Value.{valueOf};
-ghost use Rattle.number.specs.Reading.{readNumber};
+ghost use Rattle.number_digits.specs.Digits.{numberRead};
 ghost use Rattle.canonical.specs.Writing.{bytes, writingRefusal};
 ghost use Rattle.exports_words.specs.Words.{answerWord};
 ghost use Rattle.exports_words.specs.Values.{readingAnswer, readingStored};
@@ -12,11 +12,11 @@ use canonical::write::write_number;
 use exports_words::values::put_reading;
 use number_reading::read::read_number;
 
-// What a number field says, stored only where that is a blank or a number.
+// What a number field says and how many digits are written in it, stored only where that is a blank or a number.
 #[no_mangle]
 pub extern "C" fn x4_read_number(field: &[u8], value: &mut [u64; 8]) -> u64
-    ensures { λ r. ⌜ r ≡ answerWord (readingAnswer (readNumber (now (field .entry)))) ⌝ }
-    ensures { λ r. ⌜ now (value .exit) ≡ readingStored (now (value .entry)) (readNumber (now (field .entry))) ⌝ }
+    ensures { λ r. ⌜ r ≡ answerWord (readingAnswer (numberRead (now (field .entry)) .reading)) ⌝ }
+    ensures { λ r. ⌜ now (value .exit) ≡ readingStored (now (value .entry)) (numberRead (now (field .entry))) ⌝ }
 {
     let said = read_number(field);
     put_reading(said, value)

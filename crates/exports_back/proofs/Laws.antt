@@ -1,7 +1,7 @@
 -- No answer is lost: it comes back from the word and the lent array, whatever stood in the array before.
 -- Assumes nothing.
-use mathlib.Core.Path.{_≡_, refl, ap, _∙_}
-use mathlib.Core.Bool.{Bool, true, false}
+use mathlib.Core.Path.{_≡_, refl, sym, ap, _∙_}
+use mathlib.Core.Bool.{Bool, true, false, cond}
 use mathlib.Core.List.{List}
 use Prim.Native.Nat.{ℕ, _+_, _*_, _/_, _%_, _^_, _<_}
 use native.Mathlib.Omega.{arith}
@@ -10,11 +10,15 @@ use lib.Dec.{eqb}
 use lib.IntN.{pos, negℤ}
 use lib.ListN.{length}
 use lib.Signed.{_≤ℤ_}
+use Rattle.number.specs.declared.value.Decimal.{Decimal}
 use Rattle.number.specs.declared.value.Reading.{Reading}
 use Rattle.number.specs.declared.value.Reading.the-variants.{Blank, Number, Refused}
 use Rattle.number.specs.Value.{Says, blank, number, malformed}
 use Rattle.number.specs.Reading.{readField, readNumber}
 use Rattle.number.proofs.Laws.{read-bounds-eleven, reads-exactly, says-exactly, eleven-read, others-refused}
+use Rattle.number_digits.specs.declared.digits.FieldRead.{FieldRead}
+use Rattle.number_digits.specs.Digits.{digitCount, numberRead}
+use Rattle.number_digits.proofs.Laws.{digits-unsaid}
 use Rattle.columns_places.specs.declared.places.RecordNo.{RecordNo}
 use Rattle.rules_state.specs.declared.state.Totals.{Totals}
 use Rattle.rules_state.proofs.EitherWay.{either-way}
@@ -98,39 +102,53 @@ bit-back true = refl
 bit-back false = refl
 
 -- what comes back
-abbrev pub Held : Reading → Type 0
-Held Blank = Unit {0}
-Held (Number v) = (negℤ (pos 100000000) ≤ℤ v .power) × (v .power ≤ℤ pos 99999999)
-Held (Refused n) = (0 < n) × (n < 2 ^ 8)
+abbrev pub Held : ℕ → Reading → Type 0
+Held digits Blank = digits ≡ 0
+Held digits (Number v) = (negℤ (pos 100000000) ≤ℤ v .power) × (v .power ≤ℤ pos 99999999)
+Held digits (Refused n) = ((0 < n) × (n < 2 ^ 8)) × (digits ≡ 0)
 
-refused-held : (n : ℕ) (xs : List ℕ) → 0 < n → n < 2 ^ 8 → readingIn (answerWord (answerOf n)) xs ≡ Refused n
+abbrev field : Reading → ℕ → FieldRead
+field r digits = record { reading = r; digits = digits }
+
+refused-held : (n : ℕ) (xs : List ℕ) → 0 < n → n < 2 ^ 8 → readingIn (answerWord (answerOf n)) xs ≡ field (Refused n) 0
 unfolding readingIn
 refused-held n xs z h = rw (word-back (answerOf n) (plain-fits n h), ne-eqb n 0 (λ e. omega arith)) refl
 
-pub held-back : (before : List ℕ) (r : Reading) → Held r
-    → readingIn (answerWord (readingAnswer r)) (readingStored before r) ≡ r
+pub held-back : (before : List ℕ) (digits : ℕ) (r : Reading) → Held digits r
+    → readingIn (answerWord (readingAnswer r)) (readingStored before (field r digits)) ≡ field r digits
 unfolding readingIn readingAnswer readingStored valueNumbers answerIn answerWord
-held-back before Blank h = refl
-held-back before (Number v) h = rw (bit-back (v .negative), twos-back (v .power) (h .0) (h .1)) refl
-held-back before (Refused n) h = refused-held n before (h .0) (h .1)
+held-back before digits Blank h = rw h refl
+held-back before digits (Number v) h = rw (bit-back (v .negative), twos-back (v .power) (h .0) (h .1)) refl
+held-back before digits (Refused n) h = rw (h .1) (refused-held n before (h .0 .0) (h .0 .1))
 
--- every reading of eleven columns is held
-pub held : (l : List ℕ) → length l ≡ 11 → (r : Reading) → Says l r → Held r
-held l w Blank x = tt
-held l w (Number v) (number x) =
+-- every reading of eleven columns is held, with the count beside it
+pub held : (l : List ℕ) → length l ≡ 11 → (r : Reading) → readField l ≡ r → Says l r → Held (digitCount l) r
+held l w Blank e x = digits-unsaid l (λ v q. unlike (sym e ∙ q))
+  where
+    unlike : {v : Decimal} → Blank ≡ Number v → ⊥
+    unlike z = let y : _≡_ {A = ℕ} 0 1 = cc in absurd (omega arith)
+held l w (Number v) e (number x) =
     let b = read-bounds-eleven l v w (reads-exactly l v .1 x) in
     (b .1, b .2)
-held l w (Refused n) (malformed x y) = (omega arith, omega arith)
+held l w (Refused n) e (malformed x y) =
+    ((omega arith, omega arith), digits-unsaid l (λ v q. y v (reads-exactly l v .0 q)))
 
 -- what a slice says comes back
 pub reading-back : ReadingBack
-reading-back l before = held-back before (readNumber l) (by-length (eqb (length l) 11) refl)
+unfolding numberRead
+reading-back l before = by-length (eqb (length l) 11) refl
   where
-    by-length : (t : Bool) → eqb (length l) 11 ≡ t → Held (readNumber l)
+    by-length : (t : Bool) → eqb (length l) 11 ≡ t
+        → readingIn (answerWord (readingAnswer (readNumber l)))
+        (readingStored before (field (readNumber l) (cond t (digitCount l) 0)))
+        ≡ field (readNumber l) (cond t (digitCount l) 0)
     by-length true e =
         let w = eqb-true (length l) 11 e in
-        rw (eleven-read l w) (held l w (readField l) (says-exactly l (readField l) .0 refl))
-    by-length false e = rw (others-refused l (eqb-false (length l) 11 e)) (omega arith, omega arith)
+        rw (eleven-read l w)
+        (held-back before (digitCount l) (readField l) (held l w (readField l) refl (says-exactly l (readField l) .0 refl)))
+    by-length false e =
+        rw (others-refused l (eqb-false (length l) 11 e))
+        (held-back before 0 (Refused 40) ((omega arith, omega arith), refl))
 
 -- ---- verdicts
 

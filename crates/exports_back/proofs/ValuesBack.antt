@@ -15,6 +15,7 @@ use Rattle.number.specs.declared.value.Reading.the-variants.{Blank, Number, Ref
 use Rattle.number.specs.Value.{Says, malformed}
 use Rattle.number.specs.Reading.{readField}
 use Rattle.number.proofs.Laws.{says-exactly}
+use Rattle.number_digits.specs.Digits.{digitCount, fieldRead}
 use Rattle.columns_places.specs.declared.places.Place.{Place}
 use Rattle.columns_places.specs.Places.{placeOf}
 use Rattle.columns.specs.Fields.{fieldAt, fieldsOf}
@@ -70,15 +71,18 @@ says-low l (Number v) h = refl
 says-low l (Refused n) (malformed x y) = refl
 
 said-back : (before l : List ℕ) → length l ≡ 11
-    → valueAnswerIn (answerWord (readingAnswer (readField l))) (readingStored before (readField l))
-    ≡ record { answer = answerOf 0; value = readField l }
-unfolding valueAnswerIn
+    → valueAnswerIn (answerWord (readingAnswer (fieldRead l .reading))) (readingStored before (fieldRead l))
+    ≡ record { answer = answerOf 0; value = fieldRead l .reading; digits = fieldRead l .digits }
+unfolding valueAnswerIn fieldRead
 said-back before l w =
     let h = says-exactly l (readField l) .0 refl in
-    rw (says-low l (readField l) h, held-back before (readField l) (held l w (readField l) h)) refl
+    rw (
+      says-low l (readField l) h,
+      held-back before (digitCount l) (readField l) (held l w (readField l) refl h),
+    ) refl
 
 refused-value : (xs : List ℕ) (a : Answer) → Fits a → 31 ≤ a .number
-    → valueAnswerIn (answerWord a) xs ≡ record { answer = a; value = Blank }
+    → valueAnswerIn (answerWord a) xs ≡ record { answer = a; value = Blank; digits = 0 }
 unfolding valueAnswerIn
 refused-value xs a h far = rw (word-back a h, le-leb 31 (a .number) far) refl
 
@@ -87,11 +91,11 @@ abbrev Back : List ℕ → ValueAnswer → Type 0
 Back before v = valueAnswerIn (answerWord (valueAnswer v)) (valueStored before v) ≡ v
 
 value-with : (s before : List ℕ) (number : ℕ) (l : List ℕ) → Numbered number → length l ≡ 11
-    → Back before (valueWith (judgeOf s) number (readField l))
+    → Back before (valueWith (judgeOf s) number (fieldRead l))
 unfolding valueAnswer valueStored lentAfter
 value-with s before number l h w = by-number (eqb number 0) refl
   where
-    by-number : (b : Bool) → eqb number 0 ≡ b → Back before (valueWith (judgeOf s) number (readField l))
+    by-number : (b : Bool) → eqb number 0 ≡ b → Back before (valueWith (judgeOf s) number (fieldRead l))
     by-number true e = rw (eqb-true number 0 e) (said-back before l w)
     by-number false e =
         let same = answer-number (judgeOf s) number in

@@ -3,7 +3,7 @@
 use Prim.Native.Nat.{ℕ}
 use mathlib.Core.Path.{_≡_}
 use mathlib.Core.List.{List}
-use Rattle.number.specs.Reading.{readNumber}
+use Rattle.number_digits.specs.Digits.{numberRead}
 use Rattle.entry_judging.specs.Judging.{judgeOf}
 use Rattle.exports_words.specs.Words.{answerWord, lentAfter}
 use Rattle.exports_words.specs.Values.{readingAnswer, readingStored, readingIn}
@@ -12,7 +12,7 @@ use Rattle.exports_verdicts.specs.Verdicts.{verdictAnswer, totalsNumbers, verdi
 abbrev pub ReadingBack : Type 0
 ReadingBack =
     (l before : List ℕ)
-    → readingIn (answerWord (readingAnswer (readNumber l))) (readingStored before (readNumber l)) ≡ readNumber l
+    → readingIn (answerWord (readingAnswer (numberRead l .reading))) (readingStored before (numberRead l)) ≡ numberRead l
 
 abbrev pub VerdictBack : Type 0
 VerdictBack =

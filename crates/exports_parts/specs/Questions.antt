@@ -28,7 +28,8 @@ unfoldable pub valueAnswer : ValueAnswer → Answer
 valueAnswer v = cond (eqb (v .answer .number) 0) (readingAnswer (v .value)) (v .answer)
 
 unfoldable pub valueStored : List ℕ → ValueAnswer → List ℕ
-valueStored before v = lentAfter (v .answer .number) before (readingStored before (v .value))
+valueStored before v =
+    lentAfter (v .answer .number) before (readingStored before (record { reading = v .value; digits = v .digits }))
 
 -- ---- a part: its first byte, counted from 0, its length and the pointer
 
@@ -45,8 +46,8 @@ keywordPlace k = cond (eqb (length k) 10) k (blanks 10)
 -- a question is refused by 31 and up; any other word is that of a field
 unfoldable pub valueAnswerIn : ℕ → List ℕ → ValueAnswer
 valueAnswerIn w xs =
-    cond (leb 31 (answerIn w .number)) (record { answer = answerIn w; value = Blank })
-    (record { answer = answerOf 0; value = readingIn w xs })
+    cond (leb 31 (answerIn w .number)) (record { answer = answerIn w; value = Blank; digits = 0 })
+    (record { answer = answerOf 0; value = readingIn w xs .reading; digits = readingIn w xs .digits })
 
 unfoldable pub partIn : ℕ → List ℕ → PartAnswer
 partIn w xs =

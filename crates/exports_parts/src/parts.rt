@@ -4,6 +4,7 @@ ghost use Rattle.exports_words.specs.Words.{answerWord};
 ghost use Rattle.exports_parts.specs.Questions.{partStored, valueAnswer, valueStored, keywordPlace};
 use exports_words::values::put_reading;
 use exports_words::words::answer_word;
+use number_digits::digits::FieldRead;
 use questions_parts::answers::PartAnswer;
 use questions_values::answers::ValueAnswer;
 
@@ -29,9 +30,11 @@ pub fn put_value(v: ValueAnswer, out: &mut [u64; 8]) -> u64
     ensures { λ r. ⌜ now (out .exit) ≡ valueStored (now (out .entry)) v ⌝ }
 {
     let answer = v.answer;
-    let said = v.value;
+    let reading = v.value;
+    let digits = v.digits;
     if answer.number == 0 {
-        return put_reading(said, out);
+        let field = FieldRead { reading, digits };
+        return put_reading(field, out);
     }
     answer_word(answer)
 }

@@ -1,5 +1,6 @@
 -- A number field as a call answers it: a word, and eight numbers in the lent array: the kind (0 blank, 1 number),
--- whether it is below zero (0, 1), the coefficient, the power of ten in two's complement, and four zeros.
+-- whether it is below zero (0, 1), the coefficient, the power of ten in two's complement, the count of digits written
+-- (document 02, M-104), and three zeros.
 use mathlib.Core.Bool.{Bool, true, false, cond}
 use mathlib.Core.List.{List, [], _∷_}
 use Prim.Native.Nat.{ℕ, _-_, _^_}
@@ -10,6 +11,7 @@ use Rattle.number.specs.declared.value.Decimal.{Decimal}
 use Rattle.number.specs.declared.value.Reading.{Reading}
 use Rattle.number.specs.declared.value.Reading.the-variants.{Blank, Number, Refused}
 use Rattle.number.specs.Value.{decimal}
+use Rattle.number_digits.specs.declared.digits.FieldRead.{FieldRead}
 use Rattle.entry_verdict.specs.declared.answer.Answer.{Answer}
 use Rattle.entry_verdict.specs.Answer.{answerOf}
 use Rattle.exports_words.specs.Words.{answerIn}
@@ -25,17 +27,21 @@ twos (negsuc n) = 2 ^ 64 - 1 - n
 
 -- ---- the eight numbers
 
-unfoldable pub valueNumbers : Decimal → List ℕ
-valueNumbers v = 1 ∷ bit (v .negative) ∷ v .coefficient ∷ twos (v .power) ∷ 0 ∷ 0 ∷ 0 ∷ 0 ∷ []
+unfoldable pub valueNumbers : Decimal → ℕ → List ℕ
+valueNumbers v digits =
+    1 ∷ bit (v .negative) ∷ v .coefficient ∷ twos (v .power) ∷ digits ∷ 0 ∷ 0 ∷ 0 ∷ []
 
 abbrev pub blankNumbers : List ℕ
 blankNumbers = replicate 8 0
 
+abbrev pub saidStored : List ℕ → ℕ → Reading → List ℕ
+saidStored before digits Blank = blankNumbers
+saidStored before digits (Number v) = valueNumbers v digits
+saidStored before digits (Refused n) = before
+
 -- the array after the call: a refused field stores nothing
-unfoldable pub readingStored : List ℕ → Reading → List ℕ
-readingStored before Blank = blankNumbers
-readingStored before (Number v) = valueNumbers v
-readingStored before (Refused n) = before
+unfoldable pub readingStored : List ℕ → FieldRead → List ℕ
+readingStored before field = saidStored before (field .digits) (field .reading)
 
 -- the call's number, with zeros beside it
 unfoldable pub readingAnswer : Reading → Answer
@@ -53,5 +59,8 @@ valueIn xs =
     cond (eqb (getD xs 0 0) 0) Blank
     (Number (decimal (eqb (getD xs 1 0) 1) (getD xs 2 0) (powerIn (getD xs 3 0))))
 
-unfoldable pub readingIn : ℕ → List ℕ → Reading
-readingIn w xs = cond (eqb (answerIn w .number) 0) (valueIn xs) (Refused (answerIn w .number))
+-- beside a refusal no digit is counted
+unfoldable pub readingIn : ℕ → List ℕ → FieldRead
+readingIn w xs =
+    cond (eqb (answerIn w .number) 0) (record { reading = valueIn xs; digits = getD xs 4 0 })
+    (record { reading = Refused (answerIn w .number); digits = 0 })

@@ -9,7 +9,7 @@ use Rattle.entry_verdict.specs.declared.answer.Answer.{Answer}
 
 -- of this interface: a header says its own
 abbrev pub VERSION : ℕ
-VERSION = 2
+VERSION = 3
 
 -- ---- the word: in bits 0 to 7 the call's number, 0 where it is answered; in 8 to 15 the entry's refusal, in 16 to 23
 -- its column, in 24 to 47 its record. The bits above are 0 (the law `word-room`).

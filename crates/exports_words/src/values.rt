@@ -1,4 +1,4 @@
-// What a number field says, in eight numbers that the caller lends.
+// What a number field says, and how many digits are written in it, in eight numbers that the caller lends.
 ghost use mathlib.Core.Path.{_≡_};
 ghost use Rattle.exports_words.specs.Words.{answerWord};
 ghost use Rattle.exports_words.specs.Values.{bit, twos, valueNumbers, readingAnswer, readingStored};
@@ -6,6 +6,7 @@ use crate::words::answer_word;
 use entry_verdict::answer::answer_of;
 use number::value::Decimal;
 use number::value::Reading;
+use number_digits::digits::FieldRead;
 
 fn bit(b: bool) -> u64
     ensures { λ r. ⌜ r ≡ bit b ⌝ }
@@ -25,29 +26,31 @@ fn twos(power: i32) -> u64
     p as u64
 }
 
-fn value_numbers(v: Decimal) -> [u64; 8]
-    ensures { λ r. ⌜ r ≡ valueNumbers v ⌝ }
+fn value_numbers(v: Decimal, digits: u8) -> [u64; 8]
+    ensures { λ r. ⌜ r ≡ valueNumbers v digits ⌝ }
 {
     let coefficient = v.coefficient;
     let power = v.power;
     let negative = v.negative;
     let sign = bit(negative);
     let raised = twos(power);
-    [1, sign, coefficient, raised, 0, 0, 0, 0]
+    [1, sign, coefficient, raised, digits as u64, 0, 0, 0]
 }
 
 // Stores a blank or a number, and returns the word.
-pub fn put_reading(said: Reading, out: &mut [u64; 8]) -> u64
-    ensures { λ r. ⌜ r ≡ answerWord (readingAnswer said) ⌝ }
-    ensures { λ r. ⌜ now (out .exit) ≡ readingStored (now (out .entry)) said ⌝ }
+pub fn put_reading(field: FieldRead, out: &mut [u64; 8]) -> u64
+    ensures { λ r. ⌜ r ≡ answerWord (readingAnswer (field .reading)) ⌝ }
+    ensures { λ r. ⌜ now (out .exit) ≡ readingStored (now (out .entry)) field ⌝ }
 {
+    let said = field.reading;
+    let digits = field.digits;
     match said {
         Reading::Blank => {
             *out = [0; 8];
             0
         }
         Reading::Number(v) => {
-            *out = value_numbers(v);
+            *out = value_numbers(v, digits);
             0
         }
         Reading::Refused(n) => answer_word(answer_of(n)),

@@ -22,6 +22,7 @@ use Rattle.columns_places.specs.declared.places.LineNo.{LineNo}
 use Rattle.columns_places.specs.declared.places.Place.{Place}
 use Rattle.columns_places.proofs.TablePlaces.{place-at, place-field}
 use Rattle.number.specs.Reading.{readField}
+use Rattle.number_digits.specs.Digits.{fieldRead}
 use Rattle.number.specs.declared.value.Reading.{Reading}
 use Rattle.number.specs.declared.value.Reading.the-variants.{Blank, Number, Refused}
 use Rattle.rules_counts.specs.Counts.{countN1, countN2}
@@ -221,7 +222,7 @@ module _ (s : List ℕ) (accepted : Accepted s) (n : ℕ) (b : Bool) (a : ℕ) (
 
     value-there : (valueBy s (judgeOf s) x (sectionNo b) line column .answer .number ≡ 0)
         × (isSaid (valueBy s (judgeOf s) x (sectionNo b) line column .value) ≡ true)
-    unfolding valueBy
+    unfolding valueBy fieldRead
     value-there = (rw value-none, rw (value-none, shape-columns) value-said)
 
   -- ---- headings and units

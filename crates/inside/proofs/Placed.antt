@@ -12,6 +12,7 @@ use native.Mathlib.Nat.{suc-mul, zero-mul}
 use lib.ListN.{length}
 use Rattle.laws.specs.Blocks.{blockAt}
 use Rattle.number.specs.Reading.{readField}
+use Rattle.number_digits.specs.Digits.{digitCount, fieldRead}
 use Rattle.columns_places.specs.Places.{recordsFor, placeOf}
 use Rattle.columns.specs.Fields.{fieldsOf}
 use Rattle.columns_places.specs.declared.places.LineNo.{LineNo}
@@ -127,13 +128,18 @@ module _ (s : List ℕ) (accepted : Accepted s) (n : ℕ) (b : Bool) (a : ℕ) (
 
     value-is : (line : LineNo) → valueRefusal s (judgeOf s) (rowOf s n) at shape line column ≡ 0
         → valueAsked s n (sectionNo b) line column .value ≡ readField (fieldOf s (placeOf at (countN1 fs) line column))
-    unfolding valueAsked valueBy
+    unfolding valueAsked valueBy fieldRead
     value-is line none = rw (none, shape-columns s accepted n b a o)
+
+    count-is : (line : LineNo) → valueRefusal s (judgeOf s) (rowOf s n) at shape line column ≡ 0
+        → valueAsked s n (sectionNo b) line column .digits ≡ digitCount (fieldOf s (placeOf at (countN1 fs) line column))
+    unfolding valueAsked valueBy fieldRead
+    count-is line none = rw (none, shape-columns s accepted n b a o)
 
     value-cell : (line : LineNo) → 1 ≤ line .0 → line .0 ≤ linesOf b fs
         → valueRefusal s (judgeOf s) (rowOf s n) at shape line column ≡ 0
         → ValueAt s n (inSection (sectionNo b) COMMON-VALUE DATA-VALUE) line column
-        (valueAsked s n (sectionNo b) line column .value)
+        (valueAsked s n (sectionNo b) line column)
     value-cell line lf lt none =
         let q = suc (suc (line .0 - 1)) in
         let h : q ≤ linesOf b fs + 1 = omega arith in
@@ -144,6 +150,7 @@ module _ (s : List ℕ) (accepted : Accepted s) (n : ℕ) (b : Bool) (a : ℕ) (
           cell = cell q _ h (value-role b (line .0 - 1));
           in-line = l .line ∙ omega arith;
           says = value-is line none ∙ ap readField (value-at line lf lt);
+          counts = count-is line none ∙ ap digitCount (value-at line lf lt);
         }
 
     -- ---- headings and units

@@ -9,8 +9,9 @@ use mathlib.Core.List.{List}
 use lib.Dec.{eqb}
 use lib.ListN.{length}
 use Rattle.laws.specs.Blocks.{blockAt}
-use Rattle.number.specs.declared.value.Reading.{Reading}
 use Rattle.number.specs.Reading.{readField}
+use Rattle.number_digits.specs.Digits.{digitCount}
+use Rattle.questions_values.specs.declared.answers.ValueAnswer.{ValueAnswer}
 use Rattle.columns.specs.Fields.{fieldAt}
 use Rattle.columns_places.specs.declared.places.LineNo.{LineNo}
 use Rattle.record_words.specs.Word.{pointerOf}
@@ -42,18 +43,19 @@ pub record Cell (s : List ℕ) (n role column i k : ℕ) : Type 0 where
 abbrev pub inSection : ℕ → ℕ → ℕ → ℕ
 inSection section common others = cond (eqb section COMMON-SECTION) common others
 
--- a value is what such a cell in the asked line reads to
-pub record ValueAt (s : List ℕ) (n role : ℕ) (line : LineNo) (column : ℕ) (value : Reading) : Type 0 where
+-- a value is what such a cell in the asked line reads to, and the digits beside it are those written there
+pub record ValueAt (s : List ℕ) (n role : ℕ) (line : LineNo) (column : ℕ) (answer : ValueAnswer) : Type 0 where
   pub i : ℕ
   pub k : ℕ
   pub cell : Cell s n role column i k
   pub in-line : contextAt s i .track .table .line .0 ≡ line .0
-  pub says : value ≡ readField (cellAt s i k)
+  pub says : answer .value ≡ readField (cellAt s i k)
+  pub counts : answer .digits ≡ digitCount (cellAt s i k)
 
 abbrev pub ValuePlaced : Type 0
 ValuePlaced =
     (s : List ℕ) (n section : ℕ) (line : LineNo) (column : ℕ) → Accepted s → InsideValue s n section line column
-    → ValueAt s n (inSection section COMMON-VALUE DATA-VALUE) line column (valueAsked s n section line column .value)
+    → ValueAt s n (inSection section COMMON-VALUE DATA-VALUE) line column (valueAsked s n section line column)
 
 -- a heading is the first ten columns of such a cell, its pointer the eleventh
 pub record HeadingAt (s : List ℕ) (n role column : ℕ) (part : PartAnswer) : Type 0 where

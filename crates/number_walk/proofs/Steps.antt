@@ -13,19 +13,20 @@ use borrow.Author.Tests.{le-leb, leb-true, eqb-true, eqb-false}
 use lib.Dec.{T, eqb, leb}
 use lib.ListN.{length, drop, getD, drop-of-length-le}
 use lib.Seq.{drop-cons}
-use Rattle.number.specs.declared.value.Reading.the-variants.{Blank, Refused}
 use Rattle.number.specs.Reading as R
 use Rattle.number.specs.Reading.{Column, column, columnOf, Mantissa, mantissa, Scan, Lead, Signed, Whole, Point}
-use Rattle.number.specs.Reading.{Fraction, Gap, Mark, MarkGap, PowerSign, Power, Bad, scanStep, scanOf, saidBy}
-use Rattle.number.specs.Reading.{finish}
-use Rattle.number.specs.Reading.{readField}
+use Rattle.number.specs.Reading.{Fraction, Gap, Mark, MarkGap, PowerSign, Power, Bad, scanStep, scanOf}
 use Rattle.number_walk.specs.declared.walk.Front.{Front}
 use Rattle.number_walk.specs.declared.walk.Exponent.{Exponent}
-use Rattle.number_walk.specs.Walk.{readFrom, digital, pastSign, badFront, badExponent, pointed, raised}
+use Rattle.number_walk.specs.Walk.{unspelt, speltBy, speltAt, spelt, readFrom, digital, pastSign, badFront, badExponent, pointed, raised}
 use Rattle.number_walk.specs.Walk.{Leads, Points, Passes, Raises}
 use Rattle.number.proofs.Bytes.{digit-column, Seen, seen, a-blank, a-digit, a-point, a-sign, a-mark, no-such}
 use Rattle.number.proofs.Bytes.{on-byte}
-use Rattle.number.proofs.Letters.{scan-bad, bad-says}
+use Rattle.number.proofs.Letters.{scan-bad}
+
+bad-spells : speltAt Bad ≡ unspelt false
+unfolding speltAt
+bad-spells = refl
 
 never : {A : Type 0} → true ≡ false → A
 never e = absurd (subst (λ (t : Bool). T t) e tt)
@@ -39,22 +40,22 @@ module _ (s : List ℕ) (t : Scan) (i : ℕ) where
   -- on to the next column
   pub moves : (k : Column) → i < length s → columnOf (getD s i 0) ≡ k
       → readFrom t i s ≡ readFrom (scanStep t k) (i + 1) s
-  moves k h e = ap finish (scan-go h ∙ ap (λ (x : Column). scanOf (scanStep t x) (drop (i + 1) s)) e)
+  moves k h e = ap speltAt (scan-go h ∙ ap (λ (x : Column). scanOf (scanStep t x) (drop (i + 1) s)) e)
 
   -- a column that fits nothing
-  pub stuck : i < length s → scanStep t (columnOf (getD s i 0)) ≡ Bad → readFrom t i s ≡ Refused 15
+  pub stuck : i < length s → scanStep t (columnOf (getD s i 0)) ≡ Bad → readFrom t i s ≡ unspelt false
   stuck h e =
-      ap finish (scan-go h ∙ ap (λ (x : Scan). scanOf x (drop (i + 1) s)) e ∙ scan-bad (drop (i + 1) s)) ∙ bad-says
+      ap speltAt (scan-go h ∙ ap (λ (x : Scan). scanOf x (drop (i + 1) s)) e ∙ scan-bad (drop (i + 1) s)) ∙ bad-spells
 
   -- no column left
-  pub over : length s ≤ i → readFrom t i s ≡ finish t
-  over h = ap (λ (l : List ℕ). finish (scanOf t l)) (drop-of-length-le s h)
+  pub over : length s ≤ i → readFrom t i s ≡ speltAt t
+  over h = ap (λ (l : List ℕ). speltAt (scanOf t l)) (drop-of-length-le s h)
 
 -- a column that two places take alike
 pub alike : (s : List ℕ) (t u : Scan) (i : ℕ) → i < length s
     → scanStep t (columnOf (getD s i 0)) ≡ scanStep u (columnOf (getD s i 0)) → readFrom t i s ≡ readFrom u i s
 alike s t u i h e =
-    ap finish (scan-go s t i h ∙ ap (λ (x : Scan). scanOf x (drop (i + 1) s)) e ∙ sym (scan-go s u i h))
+    ap speltAt (scan-go s t i h ∙ ap (λ (x : Scan). scanOf x (drop (i + 1) s)) e ∙ sym (scan-go s u i h))
 
 -- ---- what a byte is
 
@@ -198,31 +199,31 @@ past-one b = by-tests (eqb b 45) (eqb b 43)
 
 -- ---- what is said at the end
 
-pub ends-lead : finish Lead ≡ Blank
-unfolding finish
+pub ends-lead : speltAt Lead ≡ unspelt true
+unfolding speltAt
 ends-lead = refl
 
-pub ends-fraction : (m : Mantissa) → finish (Fraction m) ≡ finish (Gap m)
-unfolding finish
+pub ends-fraction : (m : Mantissa) → speltAt (Fraction m) ≡ speltAt (Gap m)
+unfolding speltAt
 ends-fraction m = refl
 
-pub ends-gap : (m : Mantissa) → finish (Gap m) ≡ saidBy m false 0
-unfolding finish
+pub ends-gap : (m : Mantissa) → speltAt (Gap m) ≡ speltBy m false 0
+unfolding speltAt
 ends-gap m = refl
 
-pub ends-power : (m : Mantissa) (g : Bool) (e : ℕ) → finish (Power m g e) ≡ saidBy m g e
-unfolding finish
+pub ends-power : (m : Mantissa) (g : Bool) (e : ℕ) → speltAt (Power m g e) ≡ speltBy m g e
+unfolding speltAt
 ends-power m g e = refl
 
 -- ---- what a function of the walk hands on
 
 -- a reading that is refused
 pub raises-none : (s : List ℕ) (i : ℕ) (t : Mantissa → Scan) (r : Exponent) → r ≡ badExponent
-    → ((m : Mantissa) → readFrom (t m) i s ≡ Refused 15) → Raises s i t r
+    → ((m : Mantissa) → readFrom (t m) i s ≡ unspelt false) → Raises s i t r
 raises-none s i t r e h = rw e (record { reads = h; small = omega arith })
 
 pub points-none : (s : List ℕ) (i : ℕ) (t : Bool → Scan) (r : Front) → r ≡ badFront
-    → ((g : Bool) → readFrom (t g) i s ≡ Refused 15) → Points s i t r
+    → ((g : Bool) → readFrom (t g) i s ≡ unspelt false) → Points s i t r
 points-none s i t r e h =
     rw e
     (record { reads = h; inside = omega arith; number = omega arith; places = omega arith; wide = λ q. never (sym q) })
@@ -244,18 +245,18 @@ module _ (s : List ℕ) (i k : ℕ) (f : Front) (lead : Leads s i) (h : i < leng
   abbrev negative : Bool
   negative = eqb (getD s i 0) 45
 
-  field-front : readField s ≡ pointed s f negative
+  field-front : spelt s ≡ pointed s f negative
   field-front =
       lead .reads ∙ signed-from s i h (lead .stops h)
       ∙ ap (λ (j : ℕ). readFrom (Signed negative) (i + j) s) (sym sign) ∙ front .reads negative
 
-  pub field-bad : f .formed ≡ false → readField s ≡ Refused 15
+  pub field-bad : f .formed ≡ false → spelt s ≡ unspelt false
   field-bad e = field-front ∙ rw e refl
 
   pub field-tail : (d : Front) (x : Exponent) → f .formed ≡ true → Passes s (f .at) (f .number) (f .places) d
-      → Raises s (d .at) Gap x → readField s ≡ raised x (mantissa negative (d .number) (d .places))
+      → Raises s (d .at) Gap x → spelt s ≡ raised x (mantissa negative (d .number) (d .places))
   field-tail d x e p r =
       field-front ∙ rw e (p .reads negative) ∙ r .reads (mantissa negative (d .number) (d .places))
 
-pub field-blank : (s : List ℕ) (i : ℕ) → Leads s i → length s ≤ i → readField s ≡ Blank
+pub field-blank : (s : List ℕ) (i : ℕ) → Leads s i → length s ≤ i → spelt s ≡ unspelt true
 field-blank s i l h = l .reads ∙ over s Lead i h ∙ ends-lead

@@ -5,15 +5,50 @@ use mathlib.Core.List.{List}
 use Prim.Native.Nat.{ℕ, _<_, _≤_, _^_}
 use lib.Dec.{eqb, leb}
 use lib.ListN.{length, getD, drop}
-use Rattle.number.specs.declared.value.Reading.{Reading}
-use Rattle.number.specs.declared.value.Reading.the-variants.{Refused}
 use Rattle.number_walk.specs.declared.walk.Front.{Front}
 use Rattle.number_walk.specs.declared.walk.Exponent.{Exponent}
-use Rattle.number.specs.Reading.{Mantissa, mantissa, Scan, Lead, Fraction, Gap, scanOf, saidBy, finish, readField}
+use Rattle.number_walk.specs.declared.walk.Spelt.{Spelt}
+use Rattle.number.specs.Reading.{Mantissa, mantissa, Scan, Lead, Signed, Whole, Point, Fraction, Gap, Mark, MarkGap}
+use Rattle.number.specs.Reading.{PowerSign, Power, Bad, scanOf}
 
--- what is read from column i on, where the reading stands at t
-abbrev pub readFrom : Scan → ℕ → List ℕ → Reading
-readFrom t i s = finish (scanOf t (drop i s))
+-- ---- what the columns spell, where the reading ends: a number by its sign, its digits, how many of them stand behind the
+-- point, and its exponent; blanks; or nothing. What they say and how many digits were written both follow from it.
+
+abbrev pub unspelt : Bool → Spelt
+unspelt blank =
+    record { formed = false; blank = blank; negative = false; number = 0; places = 0; below = false; size = 0 }
+
+abbrev pub speltBy : Mantissa → Bool → ℕ → Spelt
+speltBy m below e =
+    record {
+      formed = true;
+      blank = false;
+      negative = m .negative;
+      number = m .number;
+      places = m .places;
+      below = below;
+      size = e;
+    }
+
+unfoldable pub speltAt : Scan → Spelt
+speltAt Lead = unspelt true
+speltAt (Signed n) = unspelt false
+speltAt (Whole n c) = unspelt false
+speltAt (Point n) = unspelt false
+speltAt (Fraction m) = speltBy m false 0
+speltAt (Gap m) = speltBy m false 0
+speltAt (Mark m) = unspelt false
+speltAt (MarkGap m) = unspelt false
+speltAt (PowerSign m s) = unspelt false
+speltAt (Power m s e) = speltBy m s e
+speltAt Bad = unspelt false
+
+unfoldable pub spelt : List ℕ → Spelt
+spelt s = speltAt (scanOf Lead s)
+
+-- what is spelt from column i on, where the reading stands at t
+abbrev pub readFrom : Scan → ℕ → List ℕ → Spelt
+readFrom t i s = speltAt (scanOf t (drop i s))
 
 -- i is a column of a field of at most eleven, or its end
 pub record Reached (s : List ℕ) (i : ℕ) : Type 0 where
@@ -30,7 +65,7 @@ pastSign b = cond (eqb b 45) 1 (cond (eqb b 43) 1 0)
 -- ---- the blanks in front: r is the first column behind them
 
 pub record Leads (s : List ℕ) (r : ℕ) : Type 0 where
-  pub reads : readField s ≡ readFrom Lead r s
+  pub reads : spelt s ≡ readFrom Lead r s
   pub inside : r ≤ length s
   pub stops : r < length s → getD s r 0 ≡ 32 → ⊥
 
@@ -39,9 +74,9 @@ pub record Leads (s : List ℕ) (r : ℕ) : Type 0 where
 abbrev pub badFront : Front
 badFront = record { formed = false; at = 0; number = 0; places = 0 }
 
-abbrev pub pointed : List ℕ → Front → Bool → Reading
+abbrev pub pointed : List ℕ → Front → Bool → Spelt
 pointed s r g =
-    cond (r .formed) (readFrom (Fraction (mantissa g (r .number) (r .places))) (r .at) s) (Refused 15)
+    cond (r .formed) (readFrom (Fraction (mantissa g (r .number) (r .places))) (r .at) s) (unspelt false)
 
 -- from t at column i the reading comes to r, whatever the sign was
 pub record Points (s : List ℕ) (i : ℕ) (t : Bool → Scan) (r : Front) : Type 0 where
@@ -58,6 +93,7 @@ pub record Passes (s : List ℕ) (i n p : ℕ) (r : Front) : Type 0 where
       readFrom (Fraction (mantissa g n p)) i s ≡ readFrom (Gap (mantissa g (r .number) (r .places))) (r .at) s
   pub past : i ≤ r .at
   pub inside : r .at ≤ length s
+  pub number : r .number < 10 ^ r .at
   pub places : r .places ≤ r .at
 
 -- ---- what stands behind the digits
@@ -65,8 +101,8 @@ pub record Passes (s : List ℕ) (i n p : ℕ) (r : Front) : Type 0 where
 abbrev pub badExponent : Exponent
 badExponent = record { formed = false; below = false; size = 0 }
 
-abbrev pub raised : Exponent → Mantissa → Reading
-raised r m = cond (r .formed) (saidBy m (r .below) (r .size)) (Refused 15)
+abbrev pub raised : Exponent → Mantissa → Spelt
+raised r m = cond (r .formed) (speltBy m (r .below) (r .size)) (unspelt false)
 
 -- from t at column i the reading comes to r, whatever the digits were
 pub record Raises (s : List ℕ) (i : ℕ) (t : Mantissa → Scan) (r : Exponent) : Type 0 where

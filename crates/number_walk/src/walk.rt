@@ -22,6 +22,17 @@ pub struct Exponent {
     pub size: u32,
 }
 
+// What the columns of a field spell: a number where `formed`, blanks where `blank`, else nothing.
+pub struct Spelt {
+    pub formed: bool,
+    pub blank: bool,
+    pub negative: bool,
+    pub number: u64,
+    pub places: u32,
+    pub below: bool,
+    pub size: u32,
+}
+
 fn is_digit(b: u8) -> bool
     ensures { λ r. ⌜ r ≡ digital b ⌝ }
 {

@@ -9,6 +9,7 @@ pub one-answers : OneAnswer
 one-answers =
     record {
       read-field = λ κs a x y s t p q. one-answer (p .0) (q .0);
+      read-digits = λ κs a x y s t p q. one-answer (p .0) (q .0);
       read-number = λ κs a x y s t p q. one-answer (p .0) (q .0);
       write-number = λ κs a x y s t p q. (one-answer (p .0) (q .0), one-answer (p .1 .0) (q .1 .0));
       judge = λ κs a x y s t p q. one-answer p q;

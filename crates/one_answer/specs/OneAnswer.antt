@@ -8,6 +8,7 @@
 -- written, by its place among the arguments.
 use denote.Ref.{now}
 use Rattle.number_reading.proofs.read.read_field.Reads as read-field
+use Rattle.number_reading.proofs.read.read_digits.Reads as read-digits
 use Rattle.number_reading.proofs.read.read_number.Reads as read-number
 use Rattle.canonical.proofs.write.write_number.Reads as write-number
 use Rattle.entry.proofs.judge.judge.Reads as judge
@@ -33,6 +34,7 @@ use Rattle.one_answer.specs.Determined.{Determined, DeterminedWith, Dete
 pub record OneAnswer : Type 0 where
   -- the library
   pub read-field : Determined read-field.Post
+  pub read-digits : Determined read-digits.Post
   pub read-number : Determined read-number.Post
   pub write-number : DeterminedWith write-number.Post (λ κs s. now (s .1 .1 .1 .0))
   pub judge : Determined judge.Post

@@ -60,6 +60,7 @@ fn part_from(entry: &[u8], first: usize, length: usize, pointer: u8) -> PartAnsw
 }
 
 // The answers, by the verdict on the entry and the row of the subentry.
+
 pub fn heading_by(entry: &[u8], v: Verdict, row: Row, section: u32, column: u32) -> PartAnswer
     requires { ⌜ Met row ⌝ }
     ensures { λ r. ⌜ r ≡ headingBy (now (entry .entry)) v row section column ⌝ }

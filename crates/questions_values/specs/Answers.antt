@@ -9,10 +9,11 @@ use lib.Dec.{eqb}
 use Rattle.columns_places.specs.Places.{placeOf}
 use Rattle.columns_places.specs.declared.places.LineNo.{LineNo}
 use Rattle.number.specs.Value.{zeroDecimal}
-use Rattle.number.specs.Reading.{readField, answer as readingSaid}
+use Rattle.number.specs.Reading.{answer as readingSaid}
 use Rattle.number.specs.declared.value.Decimal.{Decimal}
-use Rattle.number.specs.declared.value.Reading.{Reading}
 use Rattle.number.specs.declared.value.Reading.the-variants.{Blank}
+use Rattle.number_digits.specs.declared.digits.FieldRead.{FieldRead}
+use Rattle.number_digits.specs.Digits.{fieldRead}
 use Rattle.entry_verdict.specs.declared.verdict.Verdict.{Verdict}
 use Rattle.entry_verdict.specs.Answer.{answerFor}
 use Rattle.questions_noted.specs.declared.row.Row.{Row}
@@ -20,10 +21,15 @@ use Rattle.questions_values.specs.declared.answers.ValueAnswer.{ValueAns
 use Rattle.questions_places.specs.Place.{shapeOf, fieldOf}
 use Rattle.questions_refusals.specs.Refused.{sectionIn, valueRefusal}
 
--- "a refused value is blank beside its number"
-abbrev pub valueWith : Verdict → ℕ → Reading → ValueAnswer
-valueWith v number value =
-    record { answer = answerFor v number; value = cond (eqb number 0) value Blank }
+-- "a refused value is blank beside its number", and no digit is counted there. Document 02, M-104: "Value lookup passes it
+-- on": the count of digits that the field's reading tells
+abbrev pub valueWith : Verdict → ℕ → FieldRead → ValueAnswer
+valueWith v number field =
+    record {
+      answer = answerFor v number;
+      value = cond (eqb number 0) (field .reading) Blank;
+      digits = cond (eqb number 0) (field .digits) 0;
+    }
 
 -- "Value gives blank or number": that an answered one is never malformed is the law `answered-said`
 unfoldable pub valueBy : List ℕ → Verdict → Row → ℕ → LineNo → ℕ → ValueAnswer
@@ -31,7 +37,7 @@ valueBy s v x section line column =
     let at = sectionIn x section in
     let shape = shapeOf s section at in
     valueWith v (valueRefusal s v x at shape line column)
-    (readField (fieldOf s (placeOf at (shape .columns) line column)))
+    (fieldRead (fieldOf s (placeOf at (shape .columns) line column)))
 
 -- document 01's number and values for each answer about a value, whatever case its reading is. Beside another number
 -- than 0 it is blank (`refused-said`); 15 would stand for a malformed field, and no answered one is (`answered-said`)
@@ -39,6 +45,7 @@ pub record ValueSaid : Type 0 where
   pub number : ℕ
   pub blank : Bool
   pub decimal : Decimal
+  pub digits : ℕ
 
 abbrev pub valueSaid : ValueAnswer → ValueSaid
 valueSaid v =
@@ -47,8 +54,9 @@ valueSaid v =
       number = cond (eqb (v .answer .number) 0) (field .refusal) (v .answer .number);
       blank = field .blank;
       decimal = field .value;
+      digits = v .digits;
     }
 
 -- "a refused value is blank beside its number"
 abbrev pub blankBeside : ℕ → ValueSaid
-blankBeside number = record { number = number; blank = true; decimal = zeroDecimal }
+blankBeside number = record { number = number; blank = true; decimal = zeroDecimal; digits = 0 }

@@ -9,17 +9,19 @@ use entry_verdict::answer::answer_for;
 use entry_verdict::answer::answer_of;
 use entry_verdict::verdict::Verdict;
 use number::value::Reading;
-use number_reading::read::read_field;
+use number_reading::read::read_digits;
 use questions_noted::row::Row;
 use questions_places::place::field_of;
 use questions_places::place::shape_of;
 use questions_refusals::refusals::section_in;
 use questions_refusals::refusals::value_refusal;
 
-// The number of each answer is 0 or 31 to 36.
+// The number of each answer is 0 or 31 to 36. Beside a value stands how many digits were written in its field: 0 beside a
+// blank and beside a refusal.
 pub struct ValueAnswer {
     pub answer: Answer,
     pub value: Reading,
+    pub digits: u8,
 }
 
 // The answers, by the verdict on the entry and the row of the subentry.
@@ -42,15 +44,19 @@ pub fn value_by(
         return ValueAnswer {
             answer: refused,
             value: Reading::Blank,
+            digits: 0,
         };
     }
     let columns = shape.columns;
     let place = place_of(at, columns, line, column);
     let f = field_of(entry, place);
-    let value = read_field(f);
+    let read = read_digits(f);
+    let value = read.reading;
+    let digits = read.digits;
     let answered = answer_of(0);
     ValueAnswer {
         answer: answered,
         value,
+        digits,
     }
 }

@@ -1,5 +1,5 @@
-// Reads number fields from standard input, a line each, and says what each reads to: `145 e-3` is 145 times ten to the
-// power -3.
+// Reads number fields from standard input, a line each, and says what each reads to, `145 e-3` being 145 times ten to the
+// power -3, and how many digits are written in it.
 use bytes::scan::find;
 use libc::STDIN_FILENO;
 use libc::STDOUT_FILENO;
@@ -57,7 +57,11 @@ fn show_line(s: &[u8]) {
     io::write_all(STDOUT_FILENO, b"[");
     show_columns(s);
     io::write_all(STDOUT_FILENO, b"] ");
-    show_reading(read_number(s));
+    let field = read_number(s);
+    let reading = field.reading;
+    let digits = field.digits;
+    show_reading(reading);
+    say(b" digits ", digits as u64);
     io::write_all(STDOUT_FILENO, b"\n");
 }
 

@@ -41,7 +41,9 @@ fn again(t: Tally, before: [u8; 11], negative: bool, coefficient: u64, power: i3
 }
 
 fn read_back(t: Tally, field: [u8; 11]) -> Tally {
-    match read_number(&field) {
+    let said = read_number(&field);
+    let reading = said.reading;
+    match reading {
         Reading::Number(d) => {
             let negative = d.negative;
             let coefficient = d.coefficient;

@@ -13,9 +13,11 @@ const HELP: &str = "\
 x4 reads EXFOR entries: one entry in each file, from ENTRY to ENDENTRY.
 
   x4 judge [--json] [FILE..]       is the entry good, and if not, where is its first fault
-  x4 tables [--json] [FILE]        every COMMON and DATA table, as comma-separated values
+  x4 tables [--json] [--digits] [FILE]
+                                   every COMMON and DATA table, as comma-separated values
   x4 canon [FILE]                  the canonical copy: every number in its shortest spelling
-  x4 compare [--exact] A B         the first difference between two entries' tables
+  x4 compare [--exact] [--digits] A B
+                                   the first difference between two entries' tables
   x4 help COMMAND                  more about a command
 
 Without FILE, or where FILE is -, standard input is read.
@@ -33,11 +35,15 @@ Exit status: 0 if every entry is good, 1 if one is refused, 2 if a file cannot b
 ";
 
 const HELP_TABLES: &str = "\
-x4 tables [--json] [FILE]
+x4 tables [--json] [--digits] [FILE]
 
 Prints every table of a good entry. Each row begins with the subentry, COMMON or DATA, and 'heading', 'pointer', 'unit'
 or the number of the line; then comes a field for each column. Numbers are exact decimals as text: 1.45-1 is 0.145.
 A blank field is empty, and zero is 0. With --json the tables are an array of objects; numbers are texts, blank is null.
+
+With --digits a count stands beside each value: the digits that were written, from the first that is not zero to the
+last, before and behind the point. 0.140 has 3, 0.14 has 2, 100. has 3, zero and a blank have 0. As comma-separated
+values the counts are a column behind each column, with the heading 'digits'; with --json a value is an object of both.
 ";
 
 const HELP_CANON: &str = "\
@@ -48,12 +54,15 @@ every other byte as it was. The copy is again a good entry, with the same values
 ";
 
 const HELP_COMPARE: &str = "\
-x4 compare [--exact] A B
+x4 compare [--exact] [--digits] A B
 
 Compares the tables of A and B: headings, pointers, units and values, and names the first difference by subentry,
 section, line and column. A and B are entries, or tables as x4 tables writes them; a file whose first word is ENTRY is
 an entry. Numbers are compared by value. As most programs write doubles, a number of a table that was written by another
 program is also the same where its nearest double is; with --exact it is not. BIB is not compared.
+
+With --digits the counts of digits are compared too: 0.140 and 0.14 then differ. A and B are entries, or tables as
+x4 tables --digits writes them.
 ";
 
 /// What stopped a command.
@@ -115,14 +124,15 @@ fn help(command: Option<&OsString>) -> Done {
     Ok(ExitCode::SUCCESS)
 }
 
-/// Takes an option out of the arguments; what is left must be file names.
-fn options(arguments: &[OsString], known: &str) -> Result<(bool, Vec<OsString>), Trouble> {
+/// Takes options out of the arguments, and says which are there; what is left must be file names.
+fn options<const N: usize>(arguments: &[OsString], known: [&str; N]) -> Result<([bool; N], Vec<OsString>), Trouble> {
     let is_option = |argument: &&OsString| argument.len() > 1 && argument.to_string_lossy().starts_with('-');
-    if let Some(unknown) = arguments.iter().filter(is_option).find(|argument| *argument != known) {
+    let is_known = |argument: &OsString| known.iter().any(|known| argument == known);
+    if let Some(unknown) = arguments.iter().filter(is_option).find(|argument| !is_known(argument)) {
         return Err(Trouble::Failed(format!("no option '{}' here; see x4 --help", unknown.to_string_lossy())));
     }
     let files = arguments.iter().filter(|argument| !is_option(argument)).cloned().collect();
-    Ok((arguments.iter().any(|argument| argument == known), files))
+    Ok((known.map(|known| arguments.iter().any(|argument| argument == known)), files))
 }
 
 /// The only file, or standard input.
@@ -163,7 +173,7 @@ fn say(bytes: &[u8]) -> Result<(), Trouble> {
 }
 
 fn judge(arguments: &[OsString]) -> Done {
-    let (json, mut files) = options(arguments, "--json")?;
+    let ([json], mut files) = options(arguments, ["--json"])?;
     if files.is_empty() {
         files.push("-".into());
     }
@@ -254,16 +264,16 @@ fn tables_of(file: &OsStr, entry: &[u8]) -> Result<Vec<Table>, Trouble> {
 }
 
 fn print_tables(arguments: &[OsString]) -> Done {
-    let (json, files) = options(arguments, "--json")?;
+    let ([json, digits], files) = options(arguments, ["--json", "--digits"])?;
     let file = only(files)?;
     let tables = tables_of(&file, &read(&file)?)?;
-    let written = if json { to_json(&tables) + "\n" } else { to_csv(&tables) };
+    let written = if json { to_json(&tables, digits) + "\n" } else { to_csv(&tables, digits) };
     say(written.as_bytes())?;
     Ok(ExitCode::SUCCESS)
 }
 
 fn canon(arguments: &[OsString]) -> Done {
-    let (_, files) = options(arguments, "")?;
+    let ([], files) = options(arguments, [])?;
     let file = only(files)?;
     let entry = read(&file)?;
     let mut copy = vec![0; entry.len()];
@@ -272,11 +282,12 @@ fn canon(arguments: &[OsString]) -> Done {
     Ok(ExitCode::SUCCESS)
 }
 
-/// The rows of an entry's tables, or of tables that a program wrote; and whether it is an entry.
-fn rows(file: &OsStr) -> Result<(Vec<Row>, bool), Trouble> {
+/// The rows of an entry's tables, with digits where they are asked for, or of tables that a program wrote; and whether
+/// it is an entry.
+fn rows(file: &OsStr, digits: bool) -> Result<(Vec<Row>, bool), Trouble> {
     let bytes = read(file)?;
     if bytes.starts_with(b"ENTRY ") {
-        let rows = tables_of(file, &bytes)?.iter().flat_map(Table::rows).collect();
+        let rows = tables_of(file, &bytes)?.iter().flat_map(|table| table.rows(digits)).collect();
         return Ok((rows, true));
     }
     let text = String::from_utf8_lossy(&bytes);
@@ -285,15 +296,16 @@ fn rows(file: &OsStr) -> Result<(Vec<Row>, bool), Trouble> {
 }
 
 fn compare_two(arguments: &[OsString]) -> Done {
-    let (exact, files) = options(arguments, "--exact")?;
+    let ([exact, digits], files) = options(arguments, ["--exact", "--digits"])?;
     let [first, second] = files.as_slice() else {
         return Err(Trouble::Failed("compare takes two files; see x4 help compare".into()));
     };
     if first == "-" && second == "-" {
         return Err(Trouble::Failed("only one of the two can be standard input".into()));
     }
-    let ((ones, one_entry), (others, other_entry)) = (rows(first)?, rows(second)?);
-    match compare::compare(&ones, &others, exact || (one_entry && other_entry)) {
+    let ((ones, one_entry), (others, other_entry)) = (rows(first, digits)?, rows(second, digits)?);
+    let asked = compare::Asked { exact: exact || (one_entry && other_entry), digits };
+    match compare::compare(&ones, &others, asked) {
         Ok(same) => {
             say(format!("{same}\n").as_bytes())?;
             Ok(ExitCode::SUCCESS)

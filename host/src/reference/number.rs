@@ -1,7 +1,7 @@
 //! Number fields as text: taken apart by slicing, and found by trying.
 
 use super::record::digits;
-use crate::{Decimal, NoAnswer, Value};
+use crate::{Decimal, FieldRead, NoAnswer, Value};
 
 /// What some columns say, at most 19 of them.
 #[derive(Clone, Copy, Debug, PartialEq, Eq)]
@@ -85,14 +85,23 @@ fn without_zeros_behind(digits: &[u8]) -> &[u8] {
     &digits[..kept]
 }
 
-/// Reads one number field: "40 not eleven bytes, 15 malformed; blank is said as blank".
-pub fn read_number(field: &[u8]) -> Result<Value, NoAnswer> {
+/// "The count of digits from the first non-zero one to the last written (0 for zero)" (M-104): of a field that is a
+/// number, by its characters. Digits and point end where the exponent or a blank begins: "1.+2 gives 1".
+fn digits_written(field: &[u8]) -> u32 {
+    let blank_or_sign = |byte: &&u8| matches!(byte, b' ' | b'+' | b'-');
+    let digits_and_point = field.iter().skip_while(blank_or_sign).take_while(|byte| matches!(byte, b'0'..=b'9' | b'.'));
+    digits_and_point.filter(|&&byte| byte != b'.').skip_while(|&&digit| digit == b'0').count() as u32
+}
+
+/// Reads one number field: "40 not eleven bytes, 15 malformed; blank is said as blank". "The number reader shall also
+/// tell the count of digits"; beside a blank it is 0.
+pub fn read_number(field: &[u8]) -> Result<FieldRead, NoAnswer> {
     if field.len() != 11 {
         return Err(NoAnswer::numbered(40));
     }
     match read(field) {
-        Reading::Blank => Ok(Value::Blank),
-        Reading::Number(decimal) => Ok(Value::Number(decimal)),
+        Reading::Blank => Ok(FieldRead::BLANK),
+        Reading::Number(decimal) => Ok(FieldRead { value: Value::Number(decimal), digits: digits_written(field) }),
         Reading::Malformed => Err(NoAnswer::numbered(15)),
     }
 }

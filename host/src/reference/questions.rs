@@ -4,7 +4,7 @@ use super::judge;
 use super::number::{read_number, write_number};
 use super::record::blank;
 use super::tree::{Subentry, Table, Tree};
-use crate::{NoAnswer, Part, Value, Verdict, COMMON, DATA, RECORD};
+use crate::{FieldRead, NoAnswer, Part, Value, Verdict, COMMON, DATA, RECORD};
 use std::collections::BTreeMap;
 
 /// "31 entry refused (its refusal, record and column beside it)": the tree of an accepted entry.
@@ -42,8 +42,8 @@ fn within(number: u32, most: usize, refusal: u32) -> Result<usize, NoAnswer> {
     }
 }
 
-/// The value in a column of a line: blank, or a number.
-pub fn value(entry: &[u8], number: u32, section: u32, line: u32, column: u32) -> Result<Value, NoAnswer> {
+/// The value in a column of a line: blank, or a number. "Value lookup passes it on": the count of digits, too.
+pub fn value(entry: &[u8], number: u32, section: u32, line: u32, column: u32) -> Result<FieldRead, NoAnswer> {
     let tree = accepted(entry)?;
     let table = table(subentry(&tree, number)?, section)?;
     let line = within(line, table.lines, 34)?;
@@ -104,7 +104,7 @@ pub fn canonical_copy(entry: &[u8], buffer: &mut [u8]) -> Result<(), NoAnswer> {
     for table in tree.subentries.iter().flat_map(Subentry::tables) {
         let cells = (2..2 + table.lines).flat_map(|row| table.cells(&tree, row));
         for cell in cells.filter(|cell| cell.used) {
-            if let Value::Number(decimal) = read_number(cell.bytes)? {
+            if let Value::Number(decimal) = read_number(cell.bytes)?.value {
                 let place = cell.record * RECORD + 11 * cell.field;
                 write_number(decimal, &mut copy[place..place + 11])?;
             }

@@ -133,7 +133,29 @@ static void part(const Buffer *entry, uint64_t word, uint64_t verdict, const cha
     }
 }
 
-/* a value that was stored: blank, or a number that is written and reads to itself */
+/* how many digits a coefficient has, none if it is zero */
+static uint64_t digits_of(uint64_t coefficient) {
+    uint64_t count = 0;
+    for (; coefficient; coefficient /= 10) {
+        count++;
+    }
+    return count;
+}
+
+/* "The count of digits from the first non-zero one to the last written", by the characters of a number field */
+static uint64_t digits_written(const Buffer *field) {
+    size_t i = 0;
+    uint64_t count = 0;
+    while (i < field->length && memchr(" +-", field->bytes[i], 3)) {
+        i++;
+    }
+    for (; i < field->length && memchr(".0123456789", field->bytes[i], 11); i++) {
+        count += field->bytes[i] != '.' && (count || field->bytes[i] != '0');
+    }
+    return count;
+}
+
+/* a value that was stored: blank, or a number that is written and reads to itself, whatever the count of its digits */
 static void value(const uint64_t *stored) {
     static Buffer out;
     if (!out.pages) {
@@ -141,14 +163,16 @@ static void value(const uint64_t *stored) {
     }
     uint64_t v[8];
     memcpy(v, stored, sizeof v);
-    check(v[0] <= 1 && v[1] <= v[0] && !v[4] && !v[5] && !v[6] && !v[7], "eight numbers in their rooms");
-    check(x4_is_number(v) || (!v[2] && !v[3]), "a blank has no digits");
+    check(v[0] <= 1 && v[1] <= v[0] && v[4] <= 10 && !v[5] && !v[6] && !v[7], "eight numbers in their rooms");
+    check(x4_is_number(v) || (!v[2] && !v[3] && !v[4]), "a blank has no digits");
+    check(v[2] ? v[4] >= digits_of(v[2]) : !v[4], "the digits of the coefficient are written, and none of zero");
     if (x4_is_number(v)) {
         lay(&out, 11);
         check(x4_write_number((uint32_t)x4_negative(v), x4_coefficient(v), x4_power(v), out.bytes, 11) == 0,
               "a number that was read is written");
         uint64_t *again = lend(8);
-        check(x4_read_number(out.bytes, 11, again) == 0 && !memcmp(again, v, sizeof v), "and reads to itself");
+        check(x4_read_number(out.bytes, 11, again) == 0 && !memcmp(again, v, 4 * sizeof *v), "and reads to itself");
+        check(again[4] == digits_written(&out), "with the digits that are written there");
     }
 }
 
@@ -229,6 +253,7 @@ static void fields(Buffer *field) {
     check(word == 0 || word == (field->length == 11 ? 15u : 40u), "15 or 40");
     untouched(word);
     if (!word) {
+        check(x4_is_number(v) ? v[4] == digits_written(field) : !v[4], "the count of digits written");
         value(v);
     }
     lay(field, below(4) ? 11 : below(20));

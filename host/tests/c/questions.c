@@ -1,9 +1,11 @@
 /* Answers the questions of a file about the entry in another: a line each, `value 2 2 1 3`, `heading 2 2 1`,
- * `unit 2 2 1`, `copy 2106`, or `passage 2 49 REACTION  ` (the pointer's byte, then the keyword to the line's end). */
+ * `unit 2 2 1`, `copy 2106`, or `passage 2 49 REACTION  ` (the pointer's byte, then the keyword to the line's end). A
+ * refused call leaves the array of a value as it was, else the program ends with 3. */
 #include "x4.h"
 
 #include <inttypes.h>
 #include <stdio.h>
+#include <stdlib.h>
 #include <string.h>
 
 static uint8_t entry[1700000], copy[1700000];
@@ -12,9 +14,10 @@ static void part(const uint64_t p[3]) { printf("%" PRIu64 " %" PRIu64 " %" PRIu6
 
 static void value(const uint64_t v[8]) {
     if (!x4_is_number(v)) {
-        puts("blank");
+        printf("blank digits %" PRIu32 "\n", x4_digits(v));
     } else {
-        printf("%s%" PRIu64 "E%" PRId32 "\n", x4_negative(v) ? "-" : "", x4_coefficient(v), x4_power(v));
+        printf("%s%" PRIu64 "E%" PRId32 " digits %" PRIu32 "\n", x4_negative(v) ? "-" : "", x4_coefficient(v),
+               x4_power(v), x4_digits(v));
     }
 }
 
@@ -31,7 +34,8 @@ static void answer(size_t length, char *line) {
     unsigned a = 0, b = 0, c = 0, d = 0;
     char question[16];
     sscanf(line, "%15s %u %u %u %u", question, &a, &b, &c, &d);
-    uint64_t word = 0, v[8], p[3];
+    uint64_t word = 0, v[8] = {9, 9, 9, 9, 9, 9, 9, 9}, before[8], p[3];
+    memcpy(before, v, sizeof v);
     if (!strcmp(question, "value")) {
         word = x4_value(entry, length, a, b, c, d, v);
     } else if (!strcmp(question, "heading")) {
@@ -48,6 +52,9 @@ static void answer(size_t length, char *line) {
         printf("%" PRIu32 " ", sum(copy, a));
     }
     if (x4_refusal(word)) {
+        if (memcmp(before, v, sizeof v)) {
+            exit(3);
+        }
         printf("refused %" PRIu32 " %" PRIu32 " %" PRIu32 " %" PRIu32 "\n", x4_refusal(word), x4_entry_refusal(word),
                x4_entry_record(word), x4_entry_column(word));
     } else if (!strcmp(question, "value")) {

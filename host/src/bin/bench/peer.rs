@@ -1,7 +1,7 @@
 //! What a file for `bench --peer` has to offer, answered by the reference. Types may have more, and may be other types
 //! of the same shape; of a refusal nothing is looked at.
 
-use glockenbeacon::{reference, Decimal, NoAnswer, Value};
+use glockenbeacon::{reference, Decimal, FieldRead, NoAnswer, Value};
 
 pub struct Number {
     pub negative: bool,
@@ -52,8 +52,8 @@ pub fn write_number(negative: bool, coefficient: u64, power: i32, buffer: &mut [
     }
 }
 
-fn field(value: Value) -> Field {
-    match value {
+fn field(read: FieldRead) -> Field {
+    match read.value {
         Value::Blank => Field::Blank,
         Value::Number(Decimal { negative, coefficient, power }) => {
             Field::Number(Number { negative, coefficient, power })

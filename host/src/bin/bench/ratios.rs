@@ -92,7 +92,8 @@ fn asking(samples: usize, sizes: &[usize]) {
             let line = if workload == Workload::Spellings { lines } else { 7 };
             let ours = library::value(&entry, subentries, DATA, line, column);
             let theirs = peer::value(&entry, subentries, DATA, line, column);
-            assert!(ours.is_ok() && ours.ok() == theirs.ok().map(value_of), "{workload:?}");
+            // a peer need not count digits
+            assert!(ours.is_ok_and(|read| theirs.is_ok_and(|field| read.value == value_of(field))), "{workload:?}");
             let times = by_turns(
                 samples,
                 || library::value(black_box(&entry), subentries, DATA, line, column).is_ok(),
@@ -125,7 +126,7 @@ fn all_told(fields: &[[u8; 11]], read: impl Fn(&[u8; 11]) -> u64) -> u64 {
 fn numbers(samples: usize) {
     let mut random = Random::seeded(1);
     let fields: Vec<[u8; 11]> = (0..4096).map(|_| generate::usual_spelling(&mut random)).collect();
-    let ours = |field: &[u8; 11]| match library::read_number(field) {
+    let ours = |field: &[u8; 11]| match library::read_number(field).map(|read| read.value) {
         Ok(Value::Number(n)) => told(n.negative, n.coefficient, n.power),
         _ => 0,
     };
@@ -137,9 +138,9 @@ fn numbers(samples: usize) {
     assert_eq!(all_told(&fields, ours), all_told(&fields, theirs));
     let times = by_turns(samples, || all_told(&fields, ours), || all_told(&fields, theirs));
     row("read a number, mixed spellings", fields.len(), times);
-    let values = fields.iter().filter_map(|field| match library::read_number(field) {
-        Ok(Value::Number(decimal)) => Some(decimal),
-        _ => None,
+    let values = fields.iter().filter_map(|field| match library::read_number(field).ok()?.value {
+        Value::Number(decimal) => Some(decimal),
+        Value::Blank => None,
     });
     writing(samples, values.collect());
 }

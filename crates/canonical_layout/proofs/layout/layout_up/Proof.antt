@@ -1,4 +1,4 @@
-use Rattle.canonical_layout.proofs.Digits.{count-pos}
+use Rattle.number_digits.proofs.Count.{count-pos}
 use Rattle.canonical_layout.proofs.Layouts.{up-one, up-plain, up-ten}
 use mathlib.Core.Path.{_∙_, sym}
 use borrow.Author.Needs.{needs}

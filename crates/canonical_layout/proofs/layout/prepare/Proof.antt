@@ -4,7 +4,7 @@ use mathlib.Core.Path.{ap}
 use Rattle.number.proofs.Zeros.{zeros-few}
 use Rattle.number.specs.declared.value.Trim.{Trim}
 use Rattle.laws.proofs.Table.{at}
-use Rattle.canonical_layout.proofs.Digits.{count-short}
+use Rattle.number_digits.proofs.Count.{count-short}
 use native.Mathlib.Omega.{arith}
 use borrow.Author.Needs.{needs}
 use Rattle.canonical_layout.proofs.layout.prepare.Statement.{statement}

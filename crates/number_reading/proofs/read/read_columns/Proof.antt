@@ -1,116 +1,27 @@
-use mathlib.Core.Path.{ap, refl, sym, _∙_}
-use native.Mathlib.Omega.{arith}
+use mathlib.Core.Path.{refl, ap, _∙_}
 use borrow.Author.Needs.{needs}
-use lib.ListN.{getD}
-use Rattle.number_walk.proofs.Steps.{field-bad, field-blank, field-tail, past-one}
-use Rattle.number.specs.declared.value.Reading.the-variants.{Number}
+use Rattle.number_digits.specs.Digits.{fieldRead}
+use Rattle.number_reading.specs.Spelt.{readingOf, digitsSpelt}
+use Rattle.number_reading.proofs.Spelling.{spelt-says, spelt-digits}
 use Rattle.number_reading.proofs.read.read_columns.Statement.{statement}
 use Rattle.number_reading.proofs.read.read_columns.Tie as tie
 
-past-blanks-requires : tie.Need-past-blanks-requires
-past-blanks-requires c κs = search needs
+spelt-in-requires : tie.Need-spelt-in-requires
+spelt-in-requires c κs = search needs
 
-shared-slice-read-b : tie.Need-shared-slice-read-b
-shared-slice-read-b c = search needs
+reading-of-requires : tie.Need-reading-of-requires
+reading-of-requires c κs = c .spelt-in .ensures .1
 
-past-sign-requires : tie.Need-past-sign-requires
-past-sign-requires c κs = search needs
-
-add-in-signed : tie.Need-add-in-signed
-add-in-signed c =
-    let args = c .before .before .before .before .before .args in
-    let past-blanks-call = c .before .before .before .past-blanks in
-    let k = past-one (getD (args .s .now) (past-blanks-call .result) 0) in
-    omega (arith, c .past-sign .ensures)
-
-in-signed-requires : tie.Need-in-signed-requires
-in-signed-requires c κs =
-    let args = c .before .before .before .before .before .args in
-    let pre = c .before .before .before .before .before .pre in
-    let past-blanks-call = c .before .before .before .past-blanks in
-    let k = past-one (getD (args .s .now) (past-blanks-call .result) 0) in
-    record { short = pre; inside = omega (arith, c .past-sign .ensures) }
-
-in-fraction-requires : tie.Need-in-fraction-requires
-in-fraction-requires c κs = search needs
-
-in-gap-requires : tie.Need-in-gap-requires
-in-gap-requires c κs =
-    let pre = c .before .before .before .before .before .before .before .before .pre in
-    let in-signed-call = c .before .before .in-signed in
-    let if2 = c .before .if2 in
-    let w = in-signed-call .ensures .wide (if2 .taken) in
-    let p = c .in-fraction .ensures .past in
-    (record { short = pre; inside = c .in-fraction .ensures .inside }, omega arith)
-
-value-requires : tie.Need-value-requires
-value-requires c κs = search needs
+digits-spelt-requires : tie.Need-digits-spelt-requires
+digits-spelt-requires c κs = c .before .spelt-in .ensures .1
 
 returns : tie.Need-returns
+unfolding fieldRead
 returns c =
-    let args = c .before .before .before .before .before .before .before .before .before .before .before .args in
-    let past-blanks-call = c .before .before .before .before .before .before .before .before .before .past-blanks in
-    let if1 = c .before .before .before .before .before .before .before .before .if1 in
-    let past-sign-call = c .before .before .before .before .before .before .past-sign in
-    let in-signed-call = c .before .before .before .before .before .in-signed in
-    let if2 = c .before .before .before .before .if2 in
-    let in-fraction-call = c .before .before .before .in-fraction in
-    let in-gap-call = c .before .before .in-gap in
-    let if3 = c .before .if3 in
-    let s = args .s .now in
-    let i = past-blanks-call .result in
-    let q = field-tail s i (past-sign-call .result) (in-signed-call .result) (past-blanks-call .ensures) (if1 .taken)
-    (past-sign-call .ensures) (in-signed-call .ensures) (in-fraction-call .result) (in-gap-call .result) (if2 .taken)
-    (in-fraction-call .ensures) (in-gap-call .ensures) in
-    ap Number (c .value .ensures) ∙ sym (q ∙ rw (if3 .taken) refl)
-
-returns-2 : tie.Need-returns-2
-returns-2 c =
-    let args = c .before .before .before .before .before .before .before .before .before .before .args in
-    let past-blanks-call = c .before .before .before .before .before .before .before .before .past-blanks in
-    let if1 = c .before .before .before .before .before .before .before .if1 in
-    let past-sign-call = c .before .before .before .before .before .past-sign in
-    let in-signed-call = c .before .before .before .before .in-signed in
-    let if2 = c .before .before .before .if2 in
-    let in-fraction-call = c .before .before .in-fraction in
-    let in-gap-call = c .before .in-gap in
-    let s = args .s .now in
-    let i = past-blanks-call .result in
-    let q = field-tail s i (past-sign-call .result) (in-signed-call .result) (past-blanks-call .ensures) (if1 .taken)
-    (past-sign-call .ensures) (in-signed-call .ensures) (in-fraction-call .result) (in-gap-call .result) (if2 .taken)
-    (in-fraction-call .ensures) (in-gap-call .ensures) in
-    sym (q ∙ rw (c .if3 .left) refl)
-
-returns-3 : tie.Need-returns-3
-returns-3 c =
-    let args = c .before .before .before .before .before .before .before .args in
-    let past-blanks-call = c .before .before .before .before .before .past-blanks in
-    let past-sign-call = c .before .before .past-sign in
-    let in-signed-call = c .before .in-signed in
-    let s = args .s .now in
-    let i = past-blanks-call .result in
-    sym (field-bad s i (past-sign-call .result) (in-signed-call .result) (past-blanks-call .ensures) (omega arith)
-    (past-sign-call .ensures) (in-signed-call .ensures) (c .if2 .left))
-
-returns-4 : tie.Need-returns-4
-returns-4 c =
-    let args = c .before .before .before .args in
-    let past-blanks-call = c .before .past-blanks in
-    sym (field-blank (args .s .now) (past-blanks-call .result) (past-blanks-call .ensures) (omega arith))
+    let x = c .before .before .spelt-in .ensures .0 in
+    let reading = c .before .reading-of .ensures ∙ ap readingOf x ∙ spelt-says _ in
+    let digits = c .digits-spelt .ensures ∙ ap digitsSpelt x ∙ spelt-digits _ in
+    rw (reading, digits) refl
 
 pub read-columns-spec : {M : Type 1} → statement M
-read-columns-spec =
-    tie.close
-    (tie.spec
-    past-blanks-requires
-    shared-slice-read-b
-    past-sign-requires
-    add-in-signed
-    in-signed-requires
-    in-fraction-requires
-    in-gap-requires
-    value-requires
-    returns
-    returns-2
-    returns-3
-    returns-4)
+read-columns-spec = tie.close (tie.spec spelt-in-requires reading-of-requires digits-spelt-requires returns)

@@ -103,6 +103,7 @@ returns c =
           ∙ alike s (Fraction (m g)) (Gap (m g)) i (omega arith) (fraction-alike (getD s i 0) (m g) e);
       past = loop .inv .0;
       inside = loop .inv .1;
+      number = loop .inv .2;
       places = loop .inv .3;
     }
 
@@ -116,6 +117,7 @@ returns-2 c = let s = c .before .before .before .args .s .now in
           ∙ sym (over s (Gap (m g)) i (omega arith));
       past = c .before .loop .inv .0;
       inside = c .before .loop .inv .1;
+      number = c .before .loop .inv .2;
       places = c .before .loop .inv .3;
     }
 

@@ -5,7 +5,8 @@ use borrow.Author.Needs.{needs}
 use lib.ListN.{getD}
 use Rattle.number_walk.proofs.Steps.{alike, is-minus, is-plus, mark-alike, moves, over, raises-none}
 use Rattle.number_walk.proofs.Steps.{raises-on}
-use Rattle.number.specs.Reading.{Mark, MarkGap, column, finish, sign}
+use Rattle.number.specs.Reading.{Mark, MarkGap, column, sign}
+use Rattle.number_walk.specs.Walk.{speltAt}
 use Rattle.number_walk.proofs.walk.in_mark.Statement.{statement}
 use Rattle.number_walk.proofs.walk.in_mark.Tie as tie
 
@@ -63,7 +64,7 @@ bad-exponent-requires : tie.Need-bad-exponent-requires
 bad-exponent-requires c κs = search needs
 
 returns-4 : tie.Need-returns-4
-unfolding finish
+unfolding speltAt
 returns-4 c =
     let args = c .before .before .before .args in
     raises-none (args .s .now) (args .i) _ _ (c .bad-exponent .ensures)

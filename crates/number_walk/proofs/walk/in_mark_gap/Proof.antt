@@ -8,8 +8,8 @@ use Rattle.number_walk.proofs.Steps.{bad-mark-gap, digit-in, is-blank, 
 use Rattle.number_walk.proofs.Steps.{raises-on}
 use Rattle.number_walk.proofs.Steps.{stuck}
 use Rattle.number.proofs.Tens.{ten-le}
-use Rattle.number.specs.Reading.{Mantissa, MarkGap, blank, column, digit, finish}
-use Rattle.number_walk.specs.Walk.{readFrom}
+use Rattle.number.specs.Reading.{Mantissa, MarkGap, blank, column, digit}
+use Rattle.number_walk.specs.Walk.{readFrom, speltAt}
 use Rattle.number_walk.proofs.walk.in_mark_gap.Statement.{statement}
 use Rattle.number_walk.proofs.walk.in_mark_gap.Tie as tie
 
@@ -109,7 +109,7 @@ bad-exponent-requires-2 : tie.Need-bad-exponent-requires-2 Inv-loop μ-loop
 bad-exponent-requires-2 c κs = search needs
 
 returns-3 : tie.Need-returns-3 Inv-loop μ-loop
-unfolding finish
+unfolding speltAt
 returns-3 c =
     let args = c .before .before .before .before .args in
     let loop = c .before .before .loop in

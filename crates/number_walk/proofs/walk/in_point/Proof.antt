@@ -6,7 +6,8 @@ use borrow.Author.Needs.{needs}
 use lib.ListN.{getD}
 use Rattle.number_walk.proofs.Steps.{bad-point, digit-in, is-digit, moves, over, points-none, stuck}
 use Rattle.number.proofs.Tens.{ten-le}
-use Rattle.number.specs.Reading.{Point, column, digit, finish}
+use Rattle.number.specs.Reading.{Point, column, digit}
+use Rattle.number_walk.specs.Walk.{speltAt}
 use Rattle.number_walk.proofs.walk.in_point.Statement.{statement}
 use Rattle.number_walk.proofs.walk.in_point.Tie as tie
 
@@ -67,7 +68,7 @@ bad-front-requires-2 : tie.Need-bad-front-requires-2
 bad-front-requires-2 c κs = search needs
 
 returns-3 : tie.Need-returns-3
-unfolding finish
+unfolding speltAt
 returns-3 c =
     let args = c .before .before .before .args in
     points-none (args .s .now) (args .i) _ _ (c .bad-front2 .ensures)

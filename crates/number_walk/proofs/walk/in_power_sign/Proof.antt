@@ -7,7 +7,8 @@ use lib.ListN.{getD}
 use Rattle.number_walk.proofs.Steps.{bad-power-sign, digit-in, is-digit, moves, over, raises-none, raises-on}
 use Rattle.number_walk.proofs.Steps.{stuck}
 use Rattle.number.proofs.Tens.{ten-le}
-use Rattle.number.specs.Reading.{PowerSign, column, digit, finish}
+use Rattle.number.specs.Reading.{PowerSign, column, digit}
+use Rattle.number_walk.specs.Walk.{speltAt}
 use Rattle.number_walk.proofs.walk.in_power_sign.Statement.{statement}
 use Rattle.number_walk.proofs.walk.in_power_sign.Tie as tie
 
@@ -73,7 +74,7 @@ bad-exponent-requires-2 : tie.Need-bad-exponent-requires-2
 bad-exponent-requires-2 c κs = search needs
 
 returns-3 : tie.Need-returns-3
-unfolding finish
+unfolding speltAt
 returns-3 c =
     let args = c .before .before .before .args in
     raises-none (args .s .now) (args .i) _ _ (c .bad-exponent2 .ensures)

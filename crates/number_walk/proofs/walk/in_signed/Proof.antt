@@ -8,7 +8,8 @@ use Rattle.number_walk.proofs.Steps.{bad-signed, digit-in, is-digit, is
 use Rattle.number_walk.proofs.Steps.{points-on}
 use Rattle.number_walk.proofs.Steps.{stuck}
 use Rattle.number.proofs.Tens.{ten-le}
-use Rattle.number.specs.Reading.{Signed, column, digit, finish, point}
+use Rattle.number.specs.Reading.{Signed, column, digit, point}
+use Rattle.number_walk.specs.Walk.{speltAt}
 use Rattle.number_walk.proofs.walk.in_signed.Statement.{statement}
 use Rattle.number_walk.proofs.walk.in_signed.Tie as tie
 
@@ -93,7 +94,7 @@ bad-front-requires-2 : tie.Need-bad-front-requires-2
 bad-front-requires-2 c κs = search needs
 
 returns-4 : tie.Need-returns-4
-unfolding finish
+unfolding speltAt
 returns-4 c =
     let args = c .before .before .before .args in
     points-none (args .s .now) (args .i) _ _ (c .bad-front2 .ensures)

@@ -6,8 +6,8 @@ use borrow.Author.Needs.{needs}
 use lib.ListN.{getD, length}
 use Rattle.number_walk.proofs.Steps.{bad-whole, digit-in, is-digit, is-point, moves, over, points-none, stuck}
 use Rattle.number.proofs.Tens.{ten-le, ten-more}
-use Rattle.number.specs.Reading.{Whole, column, digit, finish, point}
-use Rattle.number_walk.specs.Walk.{readFrom}
+use Rattle.number.specs.Reading.{Whole, column, digit, point}
+use Rattle.number_walk.specs.Walk.{readFrom, speltAt}
 use Rattle.number_walk.proofs.walk.in_whole.Statement.{statement}
 use Rattle.number_walk.proofs.walk.in_whole.Tie as tie
 
@@ -122,7 +122,7 @@ bad-front-requires-2 : tie.Need-bad-front-requires-2 Inv-loop μ-loop
 bad-front-requires-2 c κs = search needs
 
 returns-3 : tie.Need-returns-3 Inv-loop μ-loop
-unfolding finish
+unfolding speltAt
 returns-3 c =
     let args = c .before .before .before .before .args in
     let loop = c .before .before .loop in

@@ -5,19 +5,19 @@ use native.Mathlib.Omega.{arith}
 use borrow.Author.Needs.{needs}
 use lib.ListN.{getD, length}
 use Rattle.number_walk.proofs.Steps.{is-blank, moves}
-use Rattle.number.specs.Reading.{Lead, blank, column, readField}
-use Rattle.number_walk.specs.Walk.{readFrom}
+use Rattle.number.specs.Reading.{Lead, blank, column}
+use Rattle.number_walk.specs.Walk.{readFrom, spelt}
 use Rattle.number_walk.proofs.walk.past_blanks.Statement.{statement}
 use Rattle.number_walk.proofs.walk.past_blanks.Tie as tie
 
 abbrev Inv-loop : tie.InvT-loop
-Inv-loop s i₀ i = (i ≤ length s) × (readField s ≡ readFrom Lead i s)
+Inv-loop s i₀ i = (i ≤ length s) × (spelt s ≡ readFrom Lead i s)
 
 abbrev μ-loop : tie.MeasureT-loop
 μ-loop s i₀ i = length s - i
 
 loop-holds : tie.Need-loop-holds Inv-loop μ-loop
-unfolding readField
+unfolding spelt
 loop-holds c = (omega arith, refl)
 
 shared-slice-read-b : tie.Need-shared-slice-read-b Inv-loop μ-loop

@@ -10,7 +10,7 @@ use Rattle.questions_values.proofs.answers.value_by.Statement.{statemen
 use Rattle.questions_values.proofs.answers.value_by.Tie as tie
 use Rattle.questions_values.proofs.answers.value_by.Reads as reads
 use Rattle.questions_values.proofs.answers.value_by.Lts as lts
-use Rattle.number_reading.proofs.read.read_field.Reads as read-field-reads
+use Rattle.number_reading.proofs.read.read_digits.Reads as read-digits-reads
 use Rattle.entry_verdict.proofs.answer.answer_for.Reads as answer-for-reads
 use Rattle.entry_verdict.proofs.answer.answer_of.Reads as answer-of-reads
 use Rattle.questions_refusals.proofs.refusals.section_in.Reads as section-in-reads
@@ -41,15 +41,15 @@ place-of-requires c κs = value-placed (c .before .before .before .section-in .r
 field-of-requires : tie.Need-field-of-requires
 field-of-requires c κs = rw (c .place-of .ensures) (value-field (c .before .before .before .before .section-in .result) (c .before .before .before .shape-of .result .columns) (c .before .before .before .before .before .before .args .line) (c .before .before .before .before .before .before .args .column))
 
-read-field-requires : tie.Need-read-field-requires
-read-field-requires c κs = search needs
+read-digits-requires : tie.Need-read-digits-requires
+read-digits-requires c κs = search needs
 
 answer-of-requires : tie.Need-answer-of-requires
 answer-of-requires c κs = search needs
 
 returns-2 : tie.Need-returns-2
 unfolding valueBy
-returns-2 c = rw (← c .before .before .before .before .before .before .before .section-in .ensures, ← c .before .before .before .before .before .before .shape-of .ensures .0, ← c .before .before .before .before .before .value-refusal .ensures, c .before .before .before .before .if1 .left, ← c .before .before .before .place-of .ensures, ← c .before .before .field-of .ensures, ← c .before .read-field .ensures .0, ← c .answer-of .ensures) refl
+returns-2 c = rw (← c .before .before .before .before .before .before .before .section-in .ensures, ← c .before .before .before .before .before .before .shape-of .ensures .0, ← c .before .before .before .before .before .value-refusal .ensures, c .before .before .before .before .if1 .left, ← c .before .before .before .place-of .ensures, ← c .before .before .field-of .ensures, ← c .before .read-digits .ensures .0, ← c .answer-of .ensures) refl
 
 pub value-by-spec : {M : Type 1} → statement M
 value-by-spec =
@@ -62,6 +62,6 @@ value-by-spec =
     returns
     place-of-requires
     field-of-requires
-    read-field-requires
+    read-digits-requires
     answer-of-requires
     returns-2)

@@ -1,0 +1,3 @@
+pub mod Count
+pub mod Ended
+pub mod Laws

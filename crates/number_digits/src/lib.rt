@@ -1,0 +1,2 @@
+// Number fields: how many digits the author wrote.
+pub mod digits;
