@@ -48,7 +48,7 @@ impl Refusal {
             10 => "the keyword is missing, malformed or repeated",
             11 => "the pointer is no pointer, or repeated under its keyword",
             12 => "the heading or unit is no word, or an unused field is filled",
-            13 => "the heading is repeated",
+            13 => "the heading is repeated where it may not be",
             14 => "the pointer of the DATA heading is not found",
             15 => "the value is malformed, or blank where it may not be",
             16 => "the records end before ENDENTRY",

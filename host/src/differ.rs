@@ -281,17 +281,20 @@ fn same<T: PartialEq + fmt::Debug>(asked: &str, one: &T, other: &T) -> Result<()
     }
 }
 
-/// An input: a valid entry, one damaged by a known cause, one with noise, or bytes.
+/// An input: a valid entry, one damaged by a known cause, often by a repeated heading, one with noise, or bytes.
 fn input(random: &mut Random) -> Sheet {
     let mut sheet = generate::entry(random);
-    match random.below(10) {
+    let kind = random.below(11);
+    match kind {
         0 | 1 => {}
-        2..=6 => {
-            let cause = random.below(CAUSES.len());
+        2..=7 => {
+            let wanted = |cause: &usize| kind < 7 || CAUSES[*cause].0.starts_with("13 ");
+            let causes: Vec<usize> = (0..CAUSES.len()).filter(wanted).collect();
+            let cause = random.one(&causes);
             // Where the entry has no place for the cause, it stays valid.
             let _ = generate::damage(random, &mut sheet, cause);
         }
-        7 | 8 => generate::noise(random, &mut sheet),
+        8 | 9 => generate::noise(random, &mut sheet),
         _ => sheet = Sheet { bytes: generate::random_bytes(random), kinds: Vec::new() },
     }
     sheet

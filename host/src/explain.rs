@@ -5,7 +5,7 @@
 use crate::answers::counted;
 use crate::reference::record::{blank, is_pointer, is_word, Name, Record};
 use crate::reference::tree::{Cell, Role, Stop, Subentry, Table, Tree};
-use crate::reference::{identification_due, keyword_total};
+use crate::reference::{identification_due, keyword_total, may_repeat};
 use crate::{Refusal, RECORD};
 
 /// What can be said of a refusal.
@@ -310,21 +310,26 @@ impl<'t, 'a> Case<'t, 'a> {
         }
     }
 
-    /// Refusal 13.
+    /// Refusal 13: in another section, not a word that may repeat, or apart from the others.
     fn other_heading(&self) -> String {
-        let own = self.subentry().into_iter().flat_map(Subentry::tables);
-        let shared = self.tree.subentries.first().and_then(|first| first.common.as_ref());
-        let headings = shared.into_iter().chain(own).flat_map(|table| table.headings(self.tree));
-        let bytes = self.record().columns(self.column, self.column + 10);
-        let mut same = headings.filter(|cell| cell.bytes == bytes);
-        match same.next() {
-            Some(cell) => format!(
-                "a heading that is not there yet; record {}, column {} has this one",
-                cell.record + 1,
-                cell.first_column()
-            ),
-            None => String::new(),
-        }
+        let (Some(subentry), Some(table), Some(own)) = (self.subentry(), self.table(), self.cell()) else {
+            return String::new();
+        };
+        let first = self.tree.subentries.first().and_then(|first| first.common.as_ref());
+        let mut headings = first
+            .into_iter()
+            .chain(subentry.tables())
+            .flat_map(|section| section.headings(self.tree).map(move |cell| (section, cell)));
+        let Some((section, same)) = headings.find(|(_, cell)| cell.bytes == own.bytes) else { return String::new() };
+        let wanted = if section.opening != table.opening {
+            let whose = if section.opening < subentry.opening { " of 001" } else { "" };
+            format!("a heading that {}{whose} does not have", section.name.spelling())
+        } else if may_repeat(own.word(), table.name) {
+            "a heading that is new here, or one beside its equals".into()
+        } else {
+            format!("a heading that is new here, as this one may not repeat in {}", table.name.spelling())
+        };
+        format!("{wanted}; record {}, column {} has this one", same.record + 1, same.first_column())
     }
 
     /// Refusal 14.
@@ -371,8 +376,17 @@ fn wrong_length(entry: &[u8]) -> Explanation {
     Explanation { expected, found, note: note(entry, &Refusal { number: 1, record: 0, column: 0 }) }
 }
 
-/// What may be behind a refusal: several entries in a file, or lines that are not 80 columns long.
+/// The headings that may repeat.
+const REPEATING: &str =
+    "E-LVL, EN-RES, ..-ERR, ..-RSL and ANG.. may repeat, and in DATA FLAG and HL..; all equal ones \
+                         side by side in one section";
+
+/// What may be behind a refusal: a heading thought to repeat, several entries in a file, or lines that are not 80
+/// columns long.
 fn note(entry: &[u8], refusal: &Refusal) -> Option<String> {
+    if refusal.number == 13 {
+        return Some(REPEATING.into());
+    }
     if matches!(refusal.number, 1 | 4) {
         if let Some(several) = several_entries(entry) {
             return Some(several);

@@ -80,15 +80,19 @@ fn fortran_programs_get_the_same_answers() {
     }
 }
 
-/// Entries of every kind: the sample, damaged ones, the largest, and no entry at all.
+/// Entries of every kind: the sample, one damaged by each cause, the largest, and no entry at all.
 fn entries() -> Vec<Vec<u8>> {
     let sample = include_bytes!("../data/sample.x4").to_vec();
     let mut entries = vec![Vec::new(), sample.clone(), sample[..81 * 20].to_vec(), sample[1..].to_vec()];
-    for seed in 0..40 {
-        let mut random = Random::seeded(seed);
-        let mut sheet = generate::entry(&mut random);
-        let _ = generate::damage(&mut random, &mut sheet, seed as usize % generate::CAUSES.len());
-        entries.push(sheet.bytes);
+    for cause in 0..generate::CAUSES.len() {
+        let damaged = |seed| {
+            let mut random = Random::seeded(seed);
+            let mut sheet = generate::entry(&mut random);
+            let number = generate::damage(&mut random, &mut sheet, cause)?.due.number;
+            generate::CAUSES[cause].0.starts_with(&format!("{number} ")).then_some(sheet.bytes)
+        };
+        // The first entry that has a place for it, and no other fault before it.
+        entries.extend((cause as u64..).find_map(damaged));
     }
     entries.extend(generate::SHAPES.map(|shape| generate::large(&mut Random::seeded(1), shape, 20_000)));
     entries

@@ -1,6 +1,9 @@
 //! The library beside the reference; and slips planted on purpose, to see that they would be found.
 
 use glockenbeacon::differ::{Implementation, Library, Pair, Reference};
+use glockenbeacon::reference::may_repeat;
+use glockenbeacon::reference::record::Name;
+use glockenbeacon::reference::tree::{Cell, Subentry, Tree};
 use glockenbeacon::{reference, Decimal, FieldRead, NoAnswer, Part, Refusal, Totals, Value, Verdict};
 
 /// The short run: a long one is `cargo run --release --bin differ`.
@@ -239,6 +242,115 @@ impl Implementation for CountOfTheCopy {
         let mut copy = entry.to_vec();
         reference::canonical_copy(entry, &mut copy)?;
         reference::value(&copy, subentry, section, line, column)
+    }
+}
+
+/// The headings of each table of an entry.
+fn headings(entry: &[u8]) -> Vec<(Name, Vec<Cell<'_>>)> {
+    let tree = Tree::of(entry);
+    let mut tables = Vec::new();
+    for table in tree.subentries.iter().flat_map(Subentry::tables) {
+        tables.push((table.name, table.headings(&tree).collect()));
+    }
+    tables
+}
+
+/// Where the nearest heading stands that is equal to one that is refused: right before it, before it in the same
+/// section, or in another.
+#[derive(PartialEq)]
+enum Equal {
+    Beside,
+    Apart,
+    Elsewhere,
+}
+
+/// M-101 read too widely: some headings that 13 refuses pass, by their section, their word and where their equal stands.
+struct TooWide(fn(Name, &str, Equal) -> bool);
+
+impl TooWide {
+    /// Whether the heading that a refusal names passes.
+    fn passes(&self, entry: &[u8], refusal: &Refusal) -> bool {
+        let at = (refusal.record as usize - 1, refusal.column as usize);
+        headings(entry).into_iter().any(|(section, all)| {
+            let place = all.iter().position(|cell| (cell.record, cell.first_column()) == at);
+            place.is_some_and(|place| {
+                let equal = match all[..place].iter().rposition(|cell| cell.bytes == all[place].bytes) {
+                    Some(before) if before + 1 == place => Equal::Beside,
+                    Some(_) => Equal::Apart,
+                    None => Equal::Elsewhere,
+                };
+                (self.0)(section, String::from_utf8_lossy(all[place].word()).trim_end(), equal)
+            })
+        })
+    }
+}
+
+impl Implementation for TooWide {
+    fn judge(&self, entry: &[u8]) -> Verdict {
+        match reference::judge(entry) {
+            Verdict::Refused(refusal) if refusal.number == 13 && self.passes(entry, &refusal) => {
+                Verdict::Accepted(Totals::default())
+            }
+            verdict => verdict,
+        }
+    }
+}
+
+/// Whether a word may repeat in a section.
+fn listed(word: &str, section: Name) -> bool {
+    may_repeat(word.as_bytes(), section)
+}
+
+/// M-101 read too narrowly: some headings beside their equals are refused, by their section and field.
+struct TooNarrow(fn(Name, usize) -> bool);
+
+impl Implementation for TooNarrow {
+    fn judge(&self, entry: &[u8]) -> Verdict {
+        let verdict = reference::judge(entry);
+        let refused = headings(entry).into_iter().find_map(|(section, all)| {
+            let equal = |pair: &&[Cell]| pair[0].bytes == pair[1].bytes && (self.0)(section, pair[1].field);
+            all.windows(2).find(equal).map(|pair| (pair[1].record as u32 + 1, pair[1].first_column() as u32))
+        });
+        match (verdict, refused) {
+            (Verdict::Accepted(_), Some((record, column))) => Verdict::Refused(Refusal { number: 13, record, column }),
+            _ => verdict,
+        }
+    }
+}
+
+#[test]
+fn repetitions_read_otherwise_are_found() {
+    use Equal::{Apart, Beside, Elsewhere};
+    let slips: [(&str, &dyn Implementation); 9] = [
+        ("none repeats", &TooNarrow(|_, _| true)),
+        ("columns 6 and 7 are no neighbours", &TooNarrow(|_, field| field == 0)),
+        ("in DATA only, all of them", &TooNarrow(|section, _| section == Name::Common)),
+        ("apart", &TooWide(|section, word, equal| equal == Apart && listed(word, section))),
+        ("in two sections", &TooWide(|section, word, equal| equal == Elsewhere && listed(word, section))),
+        (
+            "FLAG and HL in COMMON",
+            &TooWide(|section, word, equal| {
+                equal == Beside && section == Name::Common && (word == "FLAG" || word.starts_with("HL"))
+            }),
+        ),
+        (
+            "ERR without its dash",
+            &TooWide(|_, word, equal| equal == Beside && word.ends_with("ERR") && !word.ends_with("-ERR")),
+        ),
+        (
+            "E-LVL1, EN-RES1, FLAG1",
+            &TooWide(|_, word, equal| equal == Beside && ["E-LVL1", "EN-RES1", "FLAG1"].contains(&word)),
+        ),
+        (
+            "small letters",
+            &TooWide(|section, word, equal| {
+                let small = word.contains(|letter: char| letter.is_ascii_lowercase());
+                equal == Beside && small && listed(&word.to_uppercase(), section)
+            }),
+        ),
+    ];
+    for (name, slip) in slips {
+        assert!(Pair::new(slip, &Reference).entries(SEED, 10_000).is_err(), "{name}: goes unseen");
     }
 }
 

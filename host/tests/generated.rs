@@ -5,6 +5,7 @@ use glockenbeacon::explain::{explain, shown};
 use glockenbeacon::generate::{self, damage, Kind, Random, Shape, CAUSES, SHAPES};
 use glockenbeacon::library::{canonical_copy, heading, judge, read_number, unit, value, write_number};
 use glockenbeacon::reference::number::{canonical_text, read, Reading};
+use glockenbeacon::reference::tree::{Cell, Tree};
 use glockenbeacon::tables::tables;
 use glockenbeacon::{Decimal, FieldRead, Refusal, Totals, Value, Verdict, COMMON, DATA};
 use std::collections::{BTreeMap, BTreeSet};
@@ -58,6 +59,28 @@ fn every_shape_is_made() {
     assert_eq!(names.len(), 14, "{names:?}");
     assert_eq!(tables.len(), 3 * 18, "{tables:?}");
     assert!(pointers > 500 && blanks > 500, "{pointers} pointers, {blanks} blanks");
+}
+
+/// Headings repeat in 001's COMMON, in other COMMONs and in DATA, on one record and across two, with and without a
+/// pointer.
+#[test]
+fn headings_repeat_in_every_way() {
+    let mut random = Random::seeded(SEED + 10);
+    let (mut ways, mut words) = (BTreeSet::new(), BTreeSet::new());
+    for _ in 0..2_000 {
+        let entry = generate::entry(&mut random).bytes;
+        let tree = Tree::of(&entry);
+        for (subentry, table) in tree.subentries.iter().flat_map(|own| own.tables().map(move |table| (own, table))) {
+            let headings: Vec<Cell> = table.headings(&tree).collect();
+            for run in headings.chunk_by(|one, next| one.bytes == next.bytes).filter(|run| run.len() > 1) {
+                let across = run[0].record != run[run.len() - 1].record;
+                ways.insert((table.name, subentry.opening == 1, across, run[0].eleventh() != b' '));
+                words.insert((table.name, run[0].word().to_vec()));
+            }
+        }
+    }
+    assert_eq!(ways.len(), 3 * 2 * 2, "{ways:?}");
+    assert_eq!(words.len(), 11 + 16, "words in COMMON, and words in DATA");
 }
 
 #[test]

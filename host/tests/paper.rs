@@ -112,6 +112,74 @@ fn small_changes() {
     }
 }
 
+/// The sample with these headings in DATA: ten columns of a word, and a pointer where it has one.
+fn headed(headings: [&str; 3]) -> Vec<u8> {
+    changed(20, 1, &headings.map(|heading| format!("{heading:11}")).concat())
+}
+
+/// The sample with two columns in the COMMON of 001, both under this word.
+fn twice_in_common(word: &str) -> Vec<u8> {
+    let two = format!("COMMON               2          3\n{word:11}{word}\nMEV        MEV\n14.        1.\n");
+    replaced("COMMON               1          3\nEN\nMEV\n14.\n", &two)
+}
+
+/// M-101: "The same heading and pointer may repeat for E-LVL, EN-RES, FLAG (DATA only), any word ending in -ERR or
+/// -RSL, any starting with ANG and any starting with HL (DATA only)."
+#[test]
+fn headings_that_may_repeat() {
+    for word in ["E-LVL", "EN-RES", "-ERR", "MONIT1-ERR", "EN-RSL", "ANG", "ANGULAR-DI", "HL", "HL1"] {
+        assert_eq!(judged(&headed([word, word, "X"])), "0 0 0 2 3 2 6", "{word}");
+        assert_eq!(judged(&headed(["X", word, word])), "0 0 0 2 3 2 6", "{word}");
+        assert_eq!(judged(&headed([word, word, word])), "0 0 0 2 3 2 6", "{word}");
+        assert_eq!(judged(&headed([word, "X", word])), "13 20 23 0 0 0 0", "{word}");
+    }
+    let mut flags = headed(["ANG", "FLAG", "FLAG"]);
+    for record in [22, 23] {
+        put(&mut flags, record, 12, &" ".repeat(22));
+    }
+    assert_eq!(judged(&flags), "0 0 0 2 3 2 3");
+    for word in ["E-LVL1", "EN-RES1", "FLAG1", "ERR", "X-ERR1", "RSL", "AN", "ang", "H", "hl", "MASS", "DECAY-FLAG"] {
+        assert_eq!(judged(&headed([word, word, "X"])), "13 20 12 0 0 0 0", "{word}");
+        assert_eq!(judged(&twice_in_common(word)), "13 8 12 0 0 0 0", "{word}");
+    }
+    for word in ["E-LVL", "EN-RES", "EN-ERR", "EN-RSL", "ANG-CM", "HL-ERR"] {
+        assert_eq!(judged(&twice_in_common(word)), "0 0 0 2 3 2 7", "{word}");
+    }
+    for word in ["FLAG", "HL", "HL1"] {
+        assert_eq!(judged(&twice_in_common(word)), "13 8 12 0 0 0 0", "{word}");
+    }
+}
+
+/// "All equal ones must stand together and in one section only."
+#[test]
+fn equal_headings_stand_together() {
+    assert_eq!(judged(&headed(["ANG       1", "ANG       1", "ANG       2"])), "0 0 0 2 3 2 6");
+    assert_eq!(judged(&headed(["ANG       1", "ANG       2", "ANG       1"])), "13 20 23 0 0 0 0");
+    assert_eq!(judged(&headed(["ANG       3", "ANG       3", "X"])), "14 20 1 0 0 0 0");
+    for (columns, verdict) in [([6, 7], "0 0 0 2 3 2 15"), ([5, 7], "13 21 1 0 0 0 0"), ([1, 7], "13 21 1 0 0 0 0")] {
+        let mut seven = wide(7);
+        for column in columns {
+            put(&mut seven, 20 + (column - 1) / 6, (column - 1) % 6 * 11 + 1, "EN-ERR");
+        }
+        assert_eq!(judged(&seven), verdict, "columns {columns:?}");
+    }
+    let mut across = headed(["EN-ERR", "EN-ERR", "X"]);
+    put(&mut across, 8, 1, "EN-ERR");
+    assert_eq!(judged(&across), "13 20 1 0 0 0 0", "in the COMMON of 001, too");
+}
+
+/// Questions about a table whose columns have one heading: a column goes by its place.
+#[test]
+fn columns_under_one_heading() {
+    let bytes = headed(["HL", "HL", "HL"]);
+    for column in 1..=3 {
+        let offset = 19 * 81 + 11 * (column - 1);
+        assert_eq!(heading(&bytes, 2, DATA, column as u32), Ok(Part { offset, length: 10, pointer: b' ' }));
+    }
+    assert_eq!(value(&bytes, 2, DATA, 2, 1), number(false, 2, 1, 2));
+    assert_eq!(value(&bytes, 2, DATA, 2, 3), number(false, 25, 0, 2));
+}
+
 /// Changes of several places.
 #[test]
 fn larger_changes() {

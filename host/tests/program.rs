@@ -2,7 +2,7 @@
 
 mod common;
 
-use common::{changed, sample, wide};
+use common::{changed, replaced, sample, wide, SAMPLE};
 use std::io::Write;
 use std::path::PathBuf;
 use std::process::{Command, Output, Stdio};
@@ -97,7 +97,21 @@ fn every_refusal_is_explained() {
         (changed(16, 11, "0"), "a pointer, 1-9 or A-Z, or a blank", "'0'"),
         (changed(20, 1, " ANG"), "a heading: a word of at most ten columns", "' ANG       '"),
         (changed(21, 22, "1"), "a blank in the unit's eleventh column", "'MB/SR     1'"),
-        (changed(20, 1, "EN "), "a heading that is not there yet; record 8, column 1 has this one", "'EN         '"),
+        (
+            changed(20, 1, "EN "),
+            "a heading that COMMON of 001 does not have; record 8, column 1 has this one",
+            "'EN         '",
+        ),
+        (
+            changed(20, 33, "1"),
+            "a heading that is new here, as this one may not repeat in DATA; record 20, column 12 has this one",
+            "'DATA      1'",
+        ),
+        (
+            changed(20, 23, "ANG        "),
+            "a heading that is new here, or one beside its equals; record 20, column 1 has this one",
+            "'ANG        '",
+        ),
         (
             changed(20, 33, "3"),
             "a pointer of BIB or COMMON, in this subentry or 001 (there are '1' '2')",
@@ -118,6 +132,45 @@ fn every_refusal_is_explained() {
         assert!(words.contains(&format!("\n  expected: {expected}\n  found:    {found}\n")), "{words}");
         assert_eq!(output.status.code(), Some(1));
     }
+}
+
+/// M-101: which headings may repeat is said where one is refused, and by help.
+#[test]
+fn headings_that_may_repeat_are_named() {
+    let common =
+        "COMMON               2          3\nHL         HL\nSEC        D\n1.         2.\nENDCOMMON            3\n";
+    let own = replaced("NOCOMMON\n", common);
+    let words = printed(&run(&["judge"], &own));
+    assert!(words.starts_with("13 19 12 0 0 0 0\n"), "{words}");
+    assert!(words.contains("as this one may not repeat in COMMON; record 19, column 1 has this one\n"), "{words}");
+    assert!(
+        words.contains("  note:     E-LVL, EN-RES, ..-ERR, ..-RSL and ANG.. may repeat, and in DATA FLAG and HL..;")
+    );
+    let common = "COMMON               1          3\nANG\nADEG\n1.\nENDCOMMON            3\n";
+    let own = replaced("NOCOMMON\n", common);
+    let words = printed(&run(&["judge"], &own));
+    assert!(
+        words.contains("  expected: a heading that COMMON does not have; record 19, column 1 has this one\n"),
+        "{words}"
+    );
+    let help = printed(&run(&["help", "judge"], b""));
+    assert!(
+        help.contains("E-LVL, EN-RES,\nwords ending in -ERR or -RSL and words starting with ANG may repeat"),
+        "{help}"
+    );
+}
+
+/// A table with a heading on three columns, as document 001, V.8 prints it: the columns go by their places.
+#[test]
+fn repeated_headings_are_columns_like_others() {
+    let start = SAMPLE.find("ANG ").unwrap();
+    let old = &SAMPLE[start..SAMPLE.find("ENDDATA").unwrap()];
+    let new = "HL         HL         HL\nSEC        D          YR\n           15.\n                      28.3\n";
+    let entry = replaced(old, new);
+    let words = printed(&run(&["tables"], &entry));
+    let table = "90001002,DATA,heading,HL,HL,HL\n90001002,DATA,pointer,,,\n90001002,DATA,unit,SEC,D,YR\n\
+                 90001002,DATA,1,,15,\n90001002,DATA,2,,,28.3\n";
+    assert!(words.ends_with(table), "{words}");
 }
 
 #[test]

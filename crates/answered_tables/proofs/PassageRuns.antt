@@ -9,7 +9,7 @@ use native.Mathlib.Omega.{arith}
 use borrow.Author.Tests.{eq-eqb}
 use lib.ListN.{length, getD, take, length-append, List·getD-append}
 use lib.Seq.{getD-append-add, getD-append-seam}
-use Rattle.laws.proofs.Booleans.{differ}
+use Rattle.laws.proofs.Booleans.{differ, and-both, or-first, or-second}
 use Rattle.laws.proofs.Search.{either}
 use Rattle.laws.proofs.Walk.{all-at}
 use Rattle.columns.specs.Text.{isBlank}
@@ -17,7 +17,7 @@ use Rattle.record_words.specs.Word.{blankTo, equalTo, pointerOf}
 use Rattle.record_words.proofs.EqualColumns.{equal-taken}
 use Rattle.record_words.proofs.WordsAndBlanks.{word-blank}
 use Rattle.record.specs.Plain.{BlankColumns}
-use Rattle.record.proofs.PlainColumns.{and-both, or-first, or-second, blank-exactly, word-exactly}
+use Rattle.record.proofs.PlainColumns.{blank-exactly, word-exactly}
 use Rattle.rules_text.specs.Text.{placeInPart}
 use Rattle.questions_passages.specs.Passage.{hasKeyword, begins, beginsWith}
 use Rattle.questions.specs.Ask.{passageAsked}

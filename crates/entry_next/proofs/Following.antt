@@ -9,6 +9,7 @@ use borrow.Author.Tests.{eqb-true}
 use lib.Dec.{eqb, leb}
 use lib.ListN.{length, drop, getD, length-append, length-drop}
 use lib.Seq.{take-all, drop-at, drop-append-le, take-append-le}
+use Rattle.laws.proofs.Booleans.{or-either}
 use Rattle.record_names.specs.Identifier.{ENTRY, SUBENT, NOSUBENT, BIB, NOBIB, ENDBIB, COMMON, NOCOMMON, ENDCOMMON, DATA}
 use Rattle.record_names.specs.Identifier.{NODATA, ENDDATA, ENDSUBENT}
 use Rattle.record_words.specs.Word.{blankTo}
@@ -240,11 +241,6 @@ table-led role q =
     (eqb role NOCOMMON || eqb role ENDCOMMON) (leadsToData role) (eqb role NODATA || eqb role ENDDATA)
     (eqb role NOSUBENT || eqb role ENDSUBENT) q
 
--- one of two tests
-pub one-of : {X : Type 0} (a b : Bool) → (a || b) ≡ true → (a ≡ true → X) → (b ≡ true → X) → X
-one-of true b e f g = f refl
-one-of false b e f g = g e
-
 -- a range that is emptied, begun or joined reaches up to the next record
 past-bib : (o x y : Bool) (g : Range) (i : Index) → (x || y) ≡ true
     → rangeAfter (cond (o || x) Emptied (cond y Joined Kept)) g i .past .0 ≡ i .0 + 1
@@ -312,14 +308,14 @@ module _ (t : Track) (g : Range) (fs : List (List ℕ)) (r : List ℕ) where
 
   table-reaches : (role : ℕ) → (leadsToCommon role || leadsToData role) ≡ true → Shown role
   table-reaches role e =
-      one-of (leadsToCommon role) (leadsToData role) e
-      (λ c. one-of (eqb role COMMON) _ c (λ q. opens role (eqb-true role COMMON q))
-      (λ c. one-of (eqb role COMMON-HEADING) _ c (λ q. heads role (eqb-true role COMMON-HEADING q))
-      (λ c. one-of (eqb role COMMON-UNIT) (eqb role COMMON-VALUE) c (λ q. units role (eqb-true role COMMON-UNIT q))
+      or-either (leadsToCommon role) (leadsToData role) e
+      (λ c. or-either (eqb role COMMON) _ c (λ q. opens role (eqb-true role COMMON q))
+      (λ c. or-either (eqb role COMMON-HEADING) _ c (λ q. heads role (eqb-true role COMMON-HEADING q))
+      (λ c. or-either (eqb role COMMON-UNIT) (eqb role COMMON-VALUE) c (λ q. units role (eqb-true role COMMON-UNIT q))
       (λ q. values role (eqb-true role COMMON-VALUE q)))))
-      (λ c. one-of (eqb role DATA) _ c (λ q. opens-data role (eqb-true role DATA q))
-      (λ c. one-of (eqb role DATA-HEADING) _ c (λ q. heads-data role (eqb-true role DATA-HEADING q))
-      (λ c. one-of (eqb role DATA-UNIT) (eqb role DATA-VALUE) c (λ q. units-data role (eqb-true role DATA-UNIT q))
+      (λ c. or-either (eqb role DATA) _ c (λ q. opens-data role (eqb-true role DATA q))
+      (λ c. or-either (eqb role DATA-HEADING) _ c (λ q. heads-data role (eqb-true role DATA-HEADING q))
+      (λ c. or-either (eqb role DATA-UNIT) (eqb role DATA-VALUE) c (λ q. units-data role (eqb-true role DATA-UNIT q))
       (λ q. values-data role (eqb-true role DATA-VALUE q)))))
 
 pub joins-next : (t : Track) (g : Ranges) (role : ℕ) (fs : List (List ℕ)) (r : List ℕ)

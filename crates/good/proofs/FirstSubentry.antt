@@ -17,10 +17,8 @@ use Rattle.entry_verdict.specs.Verdict.{isDone}
 use Rattle.good.specs.Parts.{Record, bibRecords, tableRecords, Subentry001, bodyOfFirst, firstRecords}
 use Rattle.good.specs.Marks.{nameOf}
 use Rattle.good.specs.Bib.{textsOfPart}
-use Rattle.good.specs.Tables.{headingsOfPart}
 use Rattle.good.specs.Subentries.{OpensSubentry, ownNumber, GoodFirst}
 use Rattle.good.specs.Totals.{keywordsIn, numbersOf}
-use Rattle.good.proofs.Repeats.{twice-said, said-twice}
 use Rattle.good.proofs.Steps.{next, Passes, next-pass}
 use Rattle.good.proofs.Runs.{role-at, only-role, pass-only, rest-of, Step}
 use Rattle.good.proofs.Moves.{recount}
@@ -133,7 +131,7 @@ pass-first c rs z accession g done p =
             number = one;
             bib = h .good-bib;
             common = h .good-common;
-            headings = twice-said (headingsOfPart (h .common)) (h .once);
+            headings = h .fit;
             encloses = encloses-of (next c SUBENT r) (afterHead (next c SUBENT r) (h .bib) (h .common)) accession r e
                 (bodyOfFirst s) (keywordsIn (h .bib)) 0 (numbersOf (h .common)) (b .accession-is) (b .number-is)
                 (b .records)
@@ -154,7 +152,7 @@ first-head c accession s g f =
       shown-rows = none-shown;
       good-bib = f .bib;
       good-common = f .common;
-      once = said-twice (headingsOfPart (s .common)) (f .headings);
+      fit = f .headings;
       follows = rw (append-nil (tableRecords (s .common))) (f .encloses .between);
     }
 

@@ -1,5 +1,5 @@
 -- A row of headings, record by record: the rules 11 to 14, and the context behind the row. Assumes nothing.
-use Prim.Native.Nat.{ℕ, _+_, _<_, _≤_}
+use Prim.Native.Nat.{ℕ, _+_, _*_, _<_, _≤_}
 use mathlib.Core.Path.{_≡_, refl, sym, _∙_, ap}
 use mathlib.Core.Bool.{Bool, true, false, not, _&&_}
 use mathlib.Core.Logic.{_↔_}
@@ -22,7 +22,8 @@ use Rattle.record.proofs.PlainColumns.{blank-exactly, word-exactly, pointer-exa
 use Rattle.rules_state.specs.State.{Context, used}
 use Rattle.rules_roles.specs.Roles.{DATA-HEADING, NOT-DUE, isHeading}
 use Rattle.rules_roles.specs.Fault.{fieldColumn, pointerColumn}
-use Rattle.rules_section.specs.Headings.{rule11Heading, rule12Heading, headingRepeated, rule13}
+use Rattle.rules_repeats.specs.Repeats.{headingRepeated}
+use Rattle.rules_section.specs.Headings.{rule11Heading, rule12Heading, rule13}
 use Rattle.rules_pointers.specs.Pointers.{pointersFor, pointerLost, lostAt, rule14}
 use Rattle.rules.proofs.NoColumns.{where-none, none-where}
 use Rattle.rules.proofs.ByKind.{clean-heading}
@@ -39,7 +40,7 @@ use Rattle.good.proofs.Rows.{headings, roleFor, row-step}
 use Rattle.good.proofs.Rowwise.{RowFine, run-row, BehindRow, behind-row, countRow}
 use Rattle.good.proofs.Cells.{field-at, few, few-used, few-least, few-below, few-past, below-few, Cells}
 use Rattle.good.proofs.Units.{noCount}
-use Rattle.good.proofs.Earlier.{New, search-new, new-search}
+use Rattle.good.proofs.Earlier.{Fits, search-fits, fits-search}
 
 -- ---- the rules 11 to 14
 
@@ -47,14 +48,10 @@ heading-role : (d : Bool) → (isHeading (roleFor headings d) ≡ true) × (eqb 
 heading-role false = (refl, refl)
 heading-role true = (refl, refl)
 
--- 14 is made on the headings of DATA
-data-role : (d : Bool) → d ≡ true → eqb (roleFor headings d) DATA-HEADING ≡ true
-data-role true q = refl
-data-role false q = q
-
-role-data : (d : Bool) → eqb (roleFor headings d) DATA-HEADING ≡ true → d ≡ true
-role-data true q = refl
-role-data false q = q
+-- the headings of DATA, on which 14 is made, and on which 13 lets more repeat
+kind-data : (d : Bool) → eqb (roleFor headings d) DATA-HEADING ≡ d
+kind-data false = refl
+kind-data true = refl
 
 -- ---- a record of headings
 
@@ -62,7 +59,7 @@ role-data false q = q
 pub record HeadingsFine (d : Bool) (first common : List Record) (pointers : List ℕ) (rest : ℕ) (before : List Record)
     (r : Record) : Type 0 where
   pub cells : Cells Heading BlankCell rest r
-  pub new : (j : ℕ) → j < 6 → j < rest → New first common before r j (fieldAt r j)
+  pub fit : (j : ℕ) → j < 6 → j < rest → Fits d first common (before ++ (r ∷ [])) (length before * 6 + j)
   pub found : d ≡ true → (j : ℕ) → j < 6 → j < rest → FoundIn pointers (fieldAt r j)
 
 pub record HeadingsKnown (first common : List Record) (pointers : List ℕ) (c : Context)
@@ -107,8 +104,9 @@ module _ (d : Bool) (first common : List Record) (pointers : List ℕ) where
       let h12 = where-none (inField (headingFault (used (c .track))) (fieldsOf r)) fieldColumn 6
       (t .1 .twelve kind) in
       let h13 =
-      where-none (headingRepeated (c .seen .common001) (c .seen .common) (c .seen .table) r (fieldsOf r)) fieldColumn
-      (used (c .track)) (t .1 .thirteen kind) in
+      where-none
+      (headingRepeated (eqb (roleFor headings d) DATA-HEADING) (c .seen .common001) (c .seen .common) (c .seen .table) r
+      (fieldsOf r)) fieldColumn (used (c .track)) (t .1 .thirteen kind) in
       record {
         cells = record {
           used = λ j l a.
@@ -124,17 +122,15 @@ module _ (d : Bool) (first common : List Record) (pointers : List ℕ) where
               (not-false (blankTo 11 (fieldAt r j))
               (rw (u, le-ltb j (few rest) (few-past rest j l a), field-at r j l) at (h12 j l)));
         };
-        new = λ j l a.
-            search-new first common before r j (fieldAt r j) (k .long-first) (k .long-common) (k .long-before)
-            (omega arith)
-            (rw (k .first-part, k .common-part, k .table-part, field-at r j l) at
-            (h13 j (rw u (few-below rest j l a))));
+        fit = λ j l a.
+            search-fits d first common before r j (k .long-first) (k .long-common) (k .long-before) l
+            (rw (kind-data d, k .first-part, k .common-part, k .table-part) at (h13 j (rw u (few-below rest j l a))));
         found = λ q j l a.
             not-lost pointers (fieldAt r j)
             (rw (k .named, field-at r j l) at
             (where-none
             (lostAt (pointersFor (c .seen .bib) (c .seen .bib001) (c .seen .common) (c .seen .common001)) (fieldsOf r))
-            fieldColumn (used (c .track)) (t .1 .fourteen (data-role d q)) j (rw u (few-below rest j l a))));
+            fieldColumn (used (c .track)) (t .1 .fourteen (kind-data d ∙ q)) j (rw u (few-below rest j l a))));
       }
 
   headings-takes : (c : Context) (rest : ℕ) (before : List Record) (m : ℕ) (r : Record)
@@ -167,13 +163,14 @@ module _ (d : Bool) (first common : List Record) (pointers : List ℕ) where
               le-ltb j (few rest) (few-past rest j l a),
               blank-exactly 11 (fieldAt r j) .1 (f .cells .unused j l a),
             )))))
-            (none-where (headingRepeated (c .seen .common001) (c .seen .common) (c .seen .table) r (fieldsOf r))
-            fieldColumn (used (c .track))
+            (none-where
+            (headingRepeated (eqb role DATA-HEADING) (c .seen .common001) (c .seen .common) (c .seen .table) r
+            (fieldsOf r)) fieldColumn (used (c .track))
             (λ j l.
             let q : j < few rest = rw u at l in
-            rw (k .first-part, k .common-part, k .table-part, field-at r j (omega arith))
-            (new-search first common before r j (fieldAt r j) (k .long-first) (k .long-common) (k .long-before)
-            (omega arith) (f .new j (omega arith) (below-few rest j q)))))
+            rw (kind-data d, k .first-part, k .common-part, k .table-part)
+            (fits-search d first common before r j (k .long-first) (k .long-common) (k .long-before)
+            (omega arith) (f .fit j (omega arith) (below-few rest j q)))))
             (λ t.
             none-where
             (lostAt (pointersFor (c .seen .bib) (c .seen .bib001) (c .seen .common) (c .seen .common001)) (fieldsOf r))
@@ -181,7 +178,7 @@ module _ (d : Bool) (first common : List Record) (pointers : List ℕ) where
             (λ j l.
             let q : j < few rest = rw u at l in
             rw (k .named, field-at r j (omega arith))
-            (lost-not pointers (fieldAt r j) (f .found (role-data d t) j (omega arith) (below-few rest j q))))),
+            (lost-not pointers (fieldAt r j) (f .found (sym (kind-data d) ∙ t) j (omega arith) (below-few rest j q))))),
       )
 
   headings-known-next : (c : Context) (rest : ℕ) (before : List Record) (m : ℕ) (r : Record)

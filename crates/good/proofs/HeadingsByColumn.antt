@@ -1,16 +1,14 @@
--- A row of headings, column by column: the judge goes over its records exactly when each heading is a good one, new,
--- and names a pointer that occurs. Assumes nothing.
-use Prim.Native.Nat.{ℕ, suc, _+_, _-_, _*_, _<_, _≤_}
+-- A row of headings, column by column: the judge goes over its records exactly when each heading is a good one, fits
+-- behind the earlier ones, and names a pointer that occurs. Assumes nothing.
+use Prim.Native.Nat.{ℕ, _+_, _-_, _*_, _<_, _≤_}
 use mathlib.Core.Path.{_≡_, refl, sym, _∙_, ap}
-use mathlib.Core.Bool.{Bool, true, false}
+use mathlib.Core.Bool.{Bool, true}
 use mathlib.Core.Logic.{_↔_}
-use mathlib.Core.List.{List, [], _∷_, _++_}
+use mathlib.Core.List.{List, [], _∷_, _++_, append-assoc}
 use native.Mathlib.Omega.{arith}
 use lib.ListN.{length, length-append}
 use Rattle.laws.proofs.Search.{either}
 use Rattle.columns_places.specs.Places.{recordsFor}
-use Rattle.columns.specs.Fields.{fieldAt}
-use Rattle.record_words.specs.Word.{equalTo}
 use Rattle.rules_state.specs.State.{Context}
 use Rattle.rules_plain.specs.Places.{cell}
 use Rattle.rules_plain.proofs.Rows.{cell-here, cell-there}
@@ -26,123 +24,61 @@ use Rattle.good.proofs.Rowwise.{RowFine}
 use Rattle.good.proofs.Cells.{fine-used, fine-unused, cells-here, used-there}
 use Rattle.good.proofs.Cells.{unused-there}
 use Rattle.good.proofs.Units.{noCount}
-use Rattle.good.proofs.Earlier.{New}
+use Rattle.good.proofs.Earlier.{Fits, fits-same, cell-left}
 use Rattle.good.proofs.Headings.{HeadingsKnown, RowOf, run-headings}
-
-cell-left : (xs ys : List Record) (x : ℕ) → x < length xs * 6 → cell (xs ++ ys) x ≡ cell xs x
-cell-left [] ys x l = absurd (omega arith)
-cell-left (r ∷ xs) ys x l =
-    either x 6
-    (λ a. cell-here r (xs ++ ys) x a ∙ sym (cell-here r xs x a))
-    (λ a. cell-there r (xs ++ ys) x a ∙ cell-left xs ys (x - 6) (omega arith) ∙ sym (cell-there r xs x a))
-
-cell-right : (xs ys : List Record) (x : ℕ) → length xs * 6 ≤ x → cell (xs ++ ys) x ≡ cell ys (x - length xs * 6)
-cell-right [] ys x l = let e : x ≡ x - 0 * 6 = omega arith in ap (cell ys) e
-cell-right (r ∷ xs) ys x l =
-    let e : x - 6 - length xs * 6 ≡ x - suc (length xs) * 6 = omega arith in
-    cell-there r (xs ++ ys) x (omega arith) ∙ cell-right xs ys (x - 6) (omega arith) ∙ ap (cell ys) e
 
 -- ---- a column of the row, and a field of its record
 
--- The columns of a row lie in its records, six to a record. The judge says of a field that it is new behind the records
--- before and the fields to its left; the definition says of a column that it is new behind all columns to its left. The
--- column c is a field of the first record where c is below 6 (`new-here`). Otherwise it is the column c - 6 of the
--- records behind, and for these the first record is one more of those before (`new-there`). So an induction along the
--- records that moves one record at a time from `rs` to the end of `before` carries one statement into the other;
--- `here-new` and `there-new` lead back.
+-- The columns of a row lie in its records, six to a record. The judge says of a field that it fits behind the records
+-- before and the fields to its left; the definition says of a column that it fits behind all columns to its left. Both
+-- are one statement on the cells of `before ++ rs`: a field of the first record is looked at with no record behind it
+-- (`fits-here`, `here-fits`), and a column of the records behind has the first record as one more of those before it
+-- (`fits-there`, `there-fits`).
 
--- the heading in the column c is new in its row, behind the rows before
-pub record NewIn (first common before rs : List Record) (c : ℕ) : Type 0 where
-  pub in-first : (x : ℕ) → x < length first * 6 → equalTo 11 (cell rs c) (cell first x) ≡ false
-  pub in-common : (x : ℕ) → x < length common * 6 → equalTo 11 (cell rs c) (cell common x) ≡ false
-  pub in-before : (x : ℕ) → x < length before * 6 → equalTo 11 (cell rs c) (cell before x) ≡ false
-  pub left : (x : ℕ) → x < c → equalTo 11 (cell rs c) (cell rs x) ≡ false
+module _ (d : Bool) (first common before : List Record) (r : Record) (rs : List Record) (c : ℕ) where
+  grouped : (before ++ (r ∷ [])) ++ rs ≡ before ++ (r ∷ rs)
+  grouped = append-assoc before (r ∷ []) rs
 
-new-here : (first common before : List Record) (r : Record) (rs : List Record) (c : ℕ) → c < 6
-    → New first common before r c (fieldAt r c) → NewIn first common before (r ∷ rs) c
-new-here first common before r rs c l n =
-    record {
-      in-first = λ x a. rw (cell-here r rs c l) (n .in-first x a);
-      in-common = λ x a. rw (cell-here r rs c l) (n .in-common x a);
-      in-before = λ x a. rw (cell-here r rs c l) (n .in-before x a);
-      left = λ x a. rw (cell-here r rs c l, cell-here r rs x (omega arith)) (n .left x a);
-    }
+  first-cells : c < 6 → (x : ℕ) → x ≤ length before * 6 + c
+      → cell (before ++ (r ∷ rs)) x ≡ cell (before ++ (r ∷ [])) x
+  first-cells l x m =
+      ap (λ (w : List Record). cell w x) (sym grouped)
+      ∙ cell-left (before ++ (r ∷ [])) rs x (rw length-append (omega arith))
 
-here-new : (first common before : List Record) (r : Record) (rs : List Record) (c : ℕ) → c < 6
-    → NewIn first common before (r ∷ rs) c → New first common before r c (fieldAt r c)
-here-new first common before r rs c l n =
-    record {
-      in-first = λ x a. rw (cell-here r rs c l) at (n .in-first x a);
-      in-common = λ x a. rw (cell-here r rs c l) at (n .in-common x a);
-      in-before = λ x a. rw (cell-here r rs c l) at (n .in-before x a);
-      left = λ x a. rw (cell-here r rs c l, cell-here r rs x (omega arith)) at (n .left x a);
-    }
+  fits-here : c < 6 → Fits d first common (before ++ (r ∷ [])) (length before * 6 + c)
+      → Fits d first common (before ++ (r ∷ rs)) (length before * 6 + c)
+  fits-here l =
+      fits-same d first common (before ++ (r ∷ [])) (before ++ (r ∷ rs)) (length before * 6 + c)
+      (λ x m. sym (first-cells l x m))
 
-same : (a b x y : List ℕ) → a ≡ b → x ≡ y → equalTo 11 b y ≡ false → equalTo 11 a x ≡ false
-same a b x y p q e = rw (p, q) e
+  here-fits : c < 6 → Fits d first common (before ++ (r ∷ rs)) (length before * 6 + c)
+      → Fits d first common (before ++ (r ∷ [])) (length before * 6 + c)
+  here-fits l =
+      fits-same d first common (before ++ (r ∷ rs)) (before ++ (r ∷ [])) (length before * 6 + c) (first-cells l)
 
-new-there : (first common before : List Record) (r : Record) (rs : List Record) (c : ℕ) → 6 ≤ c
-    → NewIn first common (before ++ (r ∷ [])) rs (c - 6) → NewIn first common before (r ∷ rs) c
-new-there first common before r rs c l n =
-    let e = cell-there r rs c l in
-    let m = length-append before (r ∷ []) in
-    record {
-      in-first = λ x a. rw e (n .in-first x a);
-      in-common = λ x a. rw e (n .in-common x a);
-      in-before = λ x a.
-          same (cell (r ∷ rs) c) (cell rs (c - 6)) (cell before x) (cell (before ++ (r ∷ [])) x) e
-          (sym (cell-left before (r ∷ []) x a)) (n .in-before x (rw m (omega arith)));
-      left = λ x a.
-          either x 6
-          (λ b.
-          let w : length before * 6 + x - length before * 6 ≡ x = omega arith in
-          same (cell (r ∷ rs) c) (cell rs (c - 6)) (cell (r ∷ rs) x)
-          (cell (before ++ (r ∷ [])) (length before * 6 + x)) e
-          (cell-here r rs x b ∙ sym (cell-here r [] x b) ∙ ap (cell (r ∷ [])) (sym w)
-          ∙ sym (cell-right before (r ∷ []) (length before * 6 + x) (omega arith)))
-          (n .in-before (length before * 6 + x) (rw m (omega arith))))
-          (λ b.
-          same (cell (r ∷ rs) c) (cell rs (c - 6)) (cell (r ∷ rs) x) (cell rs (x - 6)) e (cell-there r rs x b)
-          (n .left (x - 6) (omega arith)));
-    }
+  there-place : 6 ≤ c → length (before ++ (r ∷ [])) * 6 + (c - 6) ≡ length before * 6 + c
+  there-place l = let n = length-append before (r ∷ []) in omega arith
 
-there-new : (first common before : List Record) (r : Record) (rs : List Record) (c : ℕ)
-    → NewIn first common before (r ∷ rs) (c + 6) → NewIn first common (before ++ (r ∷ [])) rs c
-there-new first common before r rs c n =
-    let z : c + 6 - 6 ≡ c = omega arith in
-    let e : cell rs c ≡ cell (r ∷ rs) (c + 6) = sym (cell-there r rs (c + 6) (omega arith) ∙ ap (cell rs) z) in
-    record {
-      in-first = λ x a. rw e (n .in-first x a);
-      in-common = λ x a. rw e (n .in-common x a);
-      in-before = λ x a.
-          let b : x < (length before + 1) * 6 = rw length-append at a in
-          either x (length before * 6)
-          (λ q.
-          same (cell rs c) (cell (r ∷ rs) (c + 6)) (cell (before ++ (r ∷ [])) x) (cell before x) e
-          (cell-left before (r ∷ []) x q) (n .in-before x q))
-          (λ q.
-          same (cell rs c) (cell (r ∷ rs) (c + 6)) (cell (before ++ (r ∷ [])) x)
-          (cell (r ∷ rs) (x - length before * 6)) e
-          (cell-right before (r ∷ []) x q ∙ cell-here r [] (x - length before * 6) (omega arith)
-          ∙ sym (cell-here r rs (x - length before * 6) (omega arith)))
-          (n .left (x - length before * 6) (omega arith)));
-      left = λ x a.
-          let y : x + 6 - 6 ≡ x = omega arith in
-          same (cell rs c) (cell (r ∷ rs) (c + 6)) (cell rs x) (cell (r ∷ rs) (x + 6)) e
-          (sym (cell-there r rs (x + 6) (omega arith) ∙ ap (cell rs) y)) (n .left (x + 6) (omega arith));
-    }
+  fits-there : 6 ≤ c
+      → Fits d first common ((before ++ (r ∷ [])) ++ rs) (length (before ++ (r ∷ [])) * 6 + (c - 6))
+      → Fits d first common (before ++ (r ∷ rs)) (length before * 6 + c)
+  fits-there l f = rw (grouped, there-place l) at f
+
+  there-fits : 6 ≤ c → Fits d first common (before ++ (r ∷ rs)) (length before * 6 + c)
+      → Fits d first common ((before ++ (r ∷ [])) ++ rs) (length (before ++ (r ∷ [])) * 6 + (c - 6))
+  there-fits l f = rw (grouped, there-place l) f
 
 module _ (d : Bool) (first common : List Record) (pointers : List ℕ) where
-  row-headings-new : (rest : ℕ) (before : List Record) (m : ℕ) (rs : List Record)
+  row-headings-fit : (rest : ℕ) (before : List Record) (m : ℕ) (rs : List Record)
       → RowFine (RowOf d first common pointers) noCount rest before m rs
-      → (c : ℕ) → c < length rs * 6 → c < rest → NewIn first common before rs c
+      → (c : ℕ) → c < length rs * 6 → c < rest → Fits d first common (before ++ rs) (length before * 6 + c)
   unfolding RowFine
-  row-headings-new rest before m [] h c l u = absurd (omega arith)
-  row-headings-new rest before m (r ∷ rs) h c l u =
+  row-headings-fit rest before m [] h c l u = absurd (omega arith)
+  row-headings-fit rest before m (r ∷ rs) h c l u =
       either c 6
-      (λ a. new-here first common before r rs c a (h .0 .new c a u))
-      (λ a. new-there first common before r rs c a
-      (row-headings-new (rest - 6) (before ++ (r ∷ [])) (m + 0) rs (h .1) (c - 6) (omega arith) (omega arith)))
+      (λ a. fits-here d first common before r rs c a (h .0 .fit c a u))
+      (λ a. fits-there d first common before r rs c a
+      (row-headings-fit (rest - 6) (before ++ (r ∷ [])) (m + 0) rs (h .1) (c - 6) (omega arith) (omega arith)))
 
   row-pointers-occur : (rest : ℕ) (before : List Record) (m : ℕ) (rs : List Record)
       → RowFine (RowOf d first common pointers) noCount rest before m rs → d ≡ true
@@ -158,7 +94,7 @@ module _ (d : Bool) (first common : List Record) (pointers : List ℕ) where
   headings-row-fine : (rest : ℕ) (before : List Record) (m : ℕ) (rs : List Record)
       → ((c : ℕ) → c < length rs * 6 → c < rest → Heading (cell rs c))
       → ((c : ℕ) → rest ≤ c → c < length rs * 6 → BlankCell (cell rs c))
-      → ((c : ℕ) → c < length rs * 6 → c < rest → NewIn first common before rs c)
+      → ((c : ℕ) → c < length rs * 6 → c < rest → Fits d first common (before ++ rs) (length before * 6 + c))
       → (d ≡ true → (c : ℕ) → c < length rs * 6 → c < rest → FoundIn pointers (cell rs c))
       → RowFine (RowOf d first common pointers) noCount rest before m rs
   unfolding RowFine
@@ -166,12 +102,14 @@ module _ (d : Bool) (first common : List Record) (pointers : List ℕ) where
   headings-row-fine rest before m (r ∷ rs) u v w o = (
     record {
       cells = cells-here Heading BlankCell rest r rs u v;
-      new = λ j l a. here-new first common before r rs j l (w j (omega arith) a);
+      fit = λ j l a. here-fits d first common before r rs j l (w j (omega arith) a);
       found = λ t j l a. rw (cell-here r rs j l) at (o t j (omega arith) a);
     },
     headings-row-fine (rest - 6) (before ++ (r ∷ [])) (m + 0) rs (used-there Heading rest r rs u)
         (unused-there BlankCell rest r rs v)
-        (λ c l a. there-new first common before r rs c (w (c + 6) (omega arith) (omega arith)))
+        (λ c l a.
+        let z : c + 6 - 6 ≡ c = omega arith in
+        rw z at (there-fits d first common before r rs (c + 6) (omega arith) (w (c + 6) (omega arith) (omega arith))))
         (λ t. used-there (FoundIn pointers) rest r rs (o t)),
   )
 
@@ -179,7 +117,7 @@ module _ (d : Bool) (first common : List Record) (pointers : List ℕ) where
       → HeadingsKnown first common pointers c [] → length rs ≡ recordsFor n
       → Run NoEnd (roleFor headings d) c rs
       ↔ (Following (identificationIn c) (c .track .subentry .records + 2) rs × GoodHeadings n rs
-      × ((x : ℕ) → x < n → NewIn first common [] rs x) × (d ≡ true → (x : ℕ) → x < n → FoundIn pointers (cell rs x)))
+      × ((x : ℕ) → x < n → Fits d first common rs x) × (d ≡ true → (x : ℕ) → x < n → FoundIn pointers (cell rs x)))
   headings-good n last line c rs a p k l =
       let w =
       run-headings d first common pointers n last line n c (identificationIn c)
@@ -200,14 +138,17 @@ module _ (d : Bool) (first common : List Record) (pointers : List ℕ) where
                     (h .2) x y z;
                 no-end = h .0;
               },
-              λ x y. row-headings-new n [] 0 rs (h .2) x (omega arith) y,
+              λ x y.
+                  let z : 0 * 6 + x ≡ x = omega arith in
+                  rw z at (row-headings-fit n [] 0 rs (h .2) x (omega arith) y),
               λ t x y. row-pointers-occur n [] 0 rs (h .2) t x (omega arith) y,
             ),
         λ g.
             w .1 (
               g .1 .no-end,
               g .0,
-              headings-row-fine n [] 0 rs (λ x y z. g .1 .used x z) (g .1 .unused) (λ x y z. g .2 x z)
+              headings-row-fine n [] 0 rs (λ x y z. g .1 .used x z) (g .1 .unused)
+                  (λ x y z. let w : 0 * 6 + x ≡ x = omega arith in rw w (g .2 x z))
                   (λ t x y z. g .3 t x z),
             ),
       )

@@ -8,7 +8,7 @@ use native.Mathlib.Omega.{arith}
 use lib.Dec.{eqb}
 use lib.ListN.{length, length-append}
 use borrow.Author.Tests.{eqb-true, eqb-false, eq-eqb, ne-eqb, not-true, not-false}
-use Rattle.laws.proofs.Booleans.{differ, and-left, and-right, or-left, or-right, cond-itself}
+use Rattle.laws.proofs.Booleans.{differ, and-left, and-right, or-left, or-right, cond-itself, and-both}
 use Rattle.laws.proofs.Listing.{any-and}
 use Rattle.laws.specs.Walk.{All}
 use Rattle.laws.specs.Members.{anyOf}
@@ -21,7 +21,7 @@ use Rattle.good.specs.Marks.{Following}
 use Rattle.rules_plain.specs.Texts.{NoKeyword, SamePointer}
 use Rattle.good.specs.Bib.{Text, GoodKeyword, keywordPlaces}
 use Rattle.record_words.proofs.WordsAndBlanks.{word-blank, word-differs}
-use Rattle.record.proofs.PlainColumns.{and-both, blank-exactly, word-exactly, pointer-exactly}
+use Rattle.record.proofs.PlainColumns.{blank-exactly, word-exactly, pointer-exactly}
 use Rattle.good.proofs.Repeats.{OnceBy, once-said, said-once}
 use Rattle.good.proofs.TextContexts.{bearing}
 use Rattle.good.proofs.Texts.{TextFine, TextsFine, underAfter}

@@ -34,8 +34,7 @@ use Rattle.good.proofs.Subentries.{texts-long, rows-long, part-shown, p
 use Rattle.good.proofs.Subentries.{encloses-of, of-encloses}
 use Rattle.good.proofs.SubentryHeads.{afterHead, Head, pass-head, HeadGood, good-head, head-pass, Begun}
 use Rattle.good.proofs.LaterContexts.{FirstKnown, StandsBehind, headedBy, afterLater, begun-later, stands-later}
-use Rattle.good.proofs.LaterContexts.{pointersBehind, data-known, occurs-same, headings-together}
-use Rattle.good.proofs.LaterContexts.{together-common, together-new}
+use Rattle.good.proofs.LaterContexts.{pointersBehind, data-known, occurs-same, data-fit, fit-data}
 use Rattle.good.proofs.Openings.{takes-opens, opens-takes, later-number, number-later}
 
 -- ---- the whole body
@@ -154,8 +153,8 @@ pass-later c accession first number m k l n r ts z g f one some done s =
         bib = h .good-bib;
         common = h .good-common;
         values = t .good;
-        headings = headings-together first (h .common) (t .part) (f .good .common) (h .good-common) (f .good .headings)
-            (h .once) (t .new);
+        common-headings = rw (part-headings (first .common)) (h .fit);
+        data-headings = data-fit first (h .common) (t .part) (f .good .common) (h .good-common) (t .fit);
         pointers = rw (part-headings (t .part))
             (all-places (Occurs (pointersKnown first sub)) (cell (headingRows (t .part))) 0 (columnsIn (t .part))
             (λ x d u.
@@ -188,7 +187,7 @@ later-head c accession first number m k l n s g f p =
       shown-rows = part-shown false (first .common) (f .good .common);
       good-bib = p .bib;
       good-common = p .common;
-      once = together-common first (s .common) (s .values) (p .headings);
+      fit = rw (← part-headings (first .common)) (p .common-headings);
       follows = p .encloses .between;
     }
 
@@ -222,7 +221,7 @@ values-here c accession first number m k l n s g f p =
     let long = longs accession first s p in
     record {
       good = p .values;
-      new = together-new first (s .common) (s .values) (f .good .common) (p .common) (p .values) (p .headings);
+      fit = fit-data first (s .common) (s .values) (f .good .common) (p .common) (p .values) (p .data-headings);
       found = λ e x u q.
           occurs-same first (s .bib) (s .common) (long .texts) (f .long-texts) (long .rows) (f .long-rows)
           (part-shown false (s .common) (p .common)) (part-shown false (first .common) (f .good .common))

@@ -3,7 +3,7 @@
 use Prim.Native.Nat.{ℕ, _+_, _<_}
 use mathlib.Core.Path.{_≡_, sym, _∙_}
 use mathlib.Core.Bool.{true, false}
-use mathlib.Core.List.{List, [], _++_}
+use mathlib.Core.List.{List, _++_}
 use native.Mathlib.Omega.{arith}
 use lib.Dec.{eqb}
 use borrow.Author.Tests.{ne-eqb}
@@ -12,7 +12,6 @@ use Rattle.laws.specs.Walk.{All}
 use Rattle.laws.specs.Blocks.{joined}
 use Rattle.laws.specs.Members.{anyOf}
 use Rattle.columns.specs.Text.{isBlank}
-use Rattle.record_words.specs.Word.{equalTo}
 use Rattle.record_names.specs.Identifier.{SUBENT, ENDSUBENT}
 use Rattle.record_expected.specs.Expected.{identificationFor}
 use Rattle.rules_state.specs.State.{Context}
@@ -22,19 +21,18 @@ use Rattle.good.specs.Parts.{Record, Bib, Table, Section, bibRecords, ta
 use Rattle.good.specs.Parts.{bodyOfFirst}
 use Rattle.good.specs.Bib.{textsOfPart}
 use Rattle.good.specs.Tables.{headingsOfPart}
-use Rattle.good.specs.Subentries.{ownNumber, NoneTwice, GoodFirst}
+use Rattle.good.specs.Subentries.{ownNumber, HeadingsFit, GoodFirst}
 use Rattle.good.specs.Totals.{keywordsIn, linesIn, numbersOf}
 use Rattle.good.proofs.Steps.{next}
-use Rattle.good.proofs.Repeats.{twice-said, said-twice, once-append, once-left, once-right}
 use Rattle.good.proofs.Marks.{following-long}
-use Rattle.good.proofs.HeadingsByColumn.{NewIn}
+use Rattle.good.proofs.Earlier.{Fits}
 use Rattle.good.proofs.TableKinds.{GoodPart}
 use Rattle.good.proofs.TableContexts.{PartsKnown}
 use Rattle.good.proofs.TableWalked.{headingRows, columnsIn, afterTable, BehindTable}
-use Rattle.good.proofs.Together.{Shown, shown, new-once, once-new, pointers-same}
+use Rattle.good.proofs.Together.{Shown, fits-all, all-fits, pointers-same}
 use Rattle.good.proofs.Openings.{after-opening, after-endsubent}
 use Rattle.good.proofs.Subentries.{texts-long, rows-long, part-shown, part-words, part-headings, Standing}
-use Rattle.good.proofs.SubentryHeads.{Begun, begun-by, afterHead, Head, Behind}
+use Rattle.good.proofs.SubentryHeads.{Begun, begun-by, afterHead, Head}
 
 pub record FirstKnown (accession : List ℕ) (first : Subentry001) : Type 0 where
   pub good : GoodFirst accession first
@@ -143,45 +141,27 @@ occurs-same first bib common a b c d s t p h =
     (pointers-same (textsOfPart bib) (textsOfPart (first .bib)) (headingRows common) (headingRows (first .common))
     (columnsIn common) (columnsIn (first .common)) p a b c d s t h)
 
--- The headings of the three sections together. The definition has one list, "the COMMON of 001, this subentry's COMMON
--- and its DATA together", in which none occurs twice; the judge looks at one section at a time, behind the earlier
--- ones. A list that is three lists behind each other has nothing twice exactly when each is new behind those before it
--- (`once-append`, `once-left`, `once-right`).
-pub headings-together : (first : Subentry001) (common values : Section Table) → GoodPart false (first .common)
-    → GoodPart false common → NoneTwice (headingsOfPart (first .common))
-    → Behind (shown (headingRows (first .common)) (columnsIn (first .common))) common
-    → ((x : ℕ) → x < columnsIn values → NewIn (headingRows (first .common)) (headingRows common) []
-    (headingRows values) x)
-    → NoneTwice (headingsOfPart (first .common) ++ (headingsOfPart common ++ headingsOfPart values))
-headings-together first common values g h a b new =
-    twice-said (headingsOfPart (first .common) ++ (headingsOfPart common ++ headingsOfPart values))
-    (once-append (equalTo 11) [] (headingsOfPart (first .common)) (headingsOfPart common ++ headingsOfPart values)
-    (said-twice (headingsOfPart (first .common)) a)
-    (once-append (equalTo 11) (headingsOfPart (first .common)) (headingsOfPart common) (headingsOfPart values)
-    (rw (← part-headings (first .common)) at b)
-    (rw (part-headings (first .common), part-headings common, part-headings values)
-    (new-once (headingRows (first .common)) (headingRows common) (headingRows values) (columnsIn (first .common))
-    (columnsIn common) (columnsIn values) (part-shown false (first .common) g) (part-shown false common h) new))))
+-- The headings of DATA behind those of 001's COMMON and of this subentry's: the judge looks at the heading records, the
+-- definition at the headings.
+abbrev DataFits : Subentry001 → Section Table → Section Table → Type 0
+DataFits first common values =
+    (x : ℕ) → x < columnsIn values
+    → Fits true (headingRows (first .common)) (headingRows common) (headingRows values) x
 
-pub together-common : (first : Subentry001) (common values : Section Table)
-    → NoneTwice (headingsOfPart (first .common) ++ (headingsOfPart common ++ headingsOfPart values))
-    → Behind (shown (headingRows (first .common)) (columnsIn (first .common))) common
-together-common first common values h =
-    rw (← part-headings (first .common))
-    (once-left (equalTo 11) (headingsOfPart (first .common)) (headingsOfPart common) (headingsOfPart values)
-    (once-right (equalTo 11) [] (headingsOfPart (first .common)) (headingsOfPart common ++ headingsOfPart values)
-    (said-twice (headingsOfPart (first .common) ++ (headingsOfPart common ++ headingsOfPart values)) h)))
+pub data-fit : (first : Subentry001) (common values : Section Table) → GoodPart false (first .common)
+    → GoodPart false common → DataFits first common values
+    → HeadingsFit true (headingsOfPart (first .common) ++ headingsOfPart common) (headingsOfPart values)
+data-fit first common values g h fits =
+    rw (part-headings (first .common), part-headings common, part-headings values)
+    (fits-all true (headingRows (first .common)) (headingRows common) (headingRows values) (columnsIn (first .common))
+    (columnsIn common) (columnsIn values) (part-shown false (first .common) g) (part-shown false common h) fits)
 
-pub together-new : (first : Subentry001) (common values : Section Table) → GoodPart false (first .common)
+pub fit-data : (first : Subentry001) (common values : Section Table) → GoodPart false (first .common)
     → GoodPart false common → GoodPart true values
-    → NoneTwice (headingsOfPart (first .common) ++ (headingsOfPart common ++ headingsOfPart values))
-    → (x : ℕ) → x < columnsIn values
-    → NewIn (headingRows (first .common)) (headingRows common) [] (headingRows values) x
-together-new first common values f g v h =
-    once-new (headingRows (first .common)) (headingRows common) (headingRows values) (columnsIn (first .common))
+    → HeadingsFit true (headingsOfPart (first .common) ++ headingsOfPart common) (headingsOfPart values)
+    → DataFits first common values
+fit-data first common values f g v h =
+    all-fits true (headingRows (first .common)) (headingRows common) (headingRows values) (columnsIn (first .common))
     (columnsIn common) (columnsIn values) (part-shown false (first .common) f) (part-shown false common g)
     (part-words true values v)
-    (rw (part-headings (first .common), part-headings common, part-headings values) at
-    (once-right (equalTo 11) (headingsOfPart (first .common)) (headingsOfPart common) (headingsOfPart values)
-    (once-right (equalTo 11) [] (headingsOfPart (first .common)) (headingsOfPart common ++ headingsOfPart values)
-    (said-twice (headingsOfPart (first .common) ++ (headingsOfPart common ++ headingsOfPart values)) h))))
+    (rw (part-headings (first .common), part-headings common, part-headings values) at h)

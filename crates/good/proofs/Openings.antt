@@ -6,14 +6,14 @@ use mathlib.Core.List.{List, []}
 use native.Mathlib.Omega.{arith}
 use lib.Dec.{eqb, ltb, leb}
 use borrow.Author.Tests.{not-false, eqb-true, eq-eqb, ne-eqb, ltb-true, lt-ltb, leb-true, le-leb}
-use Rattle.laws.proofs.Booleans.{differ, and-left, and-right}
+use Rattle.laws.proofs.Booleans.{differ, and-left, and-right, and-both}
 use Rattle.columns.specs.Fields.{fieldsOf, n1, n2}
 use Rattle.record_words.specs.Word.{equalTo}
 use Rattle.record_names.specs.Identifier.{ENTRY, SUBENT, NOSUBENT, ENDSUBENT, ENDENTRY}
 use Rattle.record_names.proofs.NameTable.{end-letters}
 use Rattle.record.specs.System.{isSubentN1, isDate}
 use Rattle.record_expected.specs.Expected.{accessionOf, identificationFor, subentAccession, subentIdentification}
-use Rattle.record.proofs.PlainColumns.{and-both, equal-exactly}
+use Rattle.record.proofs.PlainColumns.{equal-exactly}
 use Rattle.record.proofs.PlainDigits.{date-exactly, entry-exactly, subent-exactly}
 use Rattle.rules_state.specs.declared.state.Phase.{Phase}
 use Rattle.rules_state.specs.declared.state.Phase.the-variants.{Opened, InSubentry, Between, Done}

@@ -1,18 +1,13 @@
 -- Lists in which nothing occurs twice: by a test, as the judge looks, and as the definition says it.
 -- Assumes nothing.
-use Prim.Native.Nat.{ℕ}
 use mathlib.Core.Path.{_≡_, refl, sym, _∙_}
 use mathlib.Core.Bool.{Bool, true, false, cond}
 use mathlib.Core.Logic.{_↔_}
-use mathlib.Core.List.{List, [], _∷_, _++_, append-nil, append-assoc}
+use mathlib.Core.List.{List, [], _∷_, _++_}
 use Rattle.laws.specs.Members.{anyOf}
 use Rattle.laws.specs.Walk.{All}
 use Rattle.laws.proofs.Booleans.{differ}
-use Rattle.record_words.specs.Word.{equalTo}
-use Rattle.record_words.specs.Same.{SameColumns}
-use Rattle.record.proofs.PlainColumns.{equal-exactly}
 use Rattle.good.specs.Marks.{Once}
-use Rattle.good.specs.Subentries.{NoneTwice}
 
 -- no member is the same by the test as one before it, nor as one of `before`
 unfoldable pub OnceBy : {A : Type 0} → (A → A → Bool) → List A → List A → Type 0
@@ -51,32 +46,3 @@ module _ {A : Type 0} (same : A → A → Bool) (Same : A → A → Type 0)
   unfolding OnceBy Once
   said-once before [] h = tt
   said-once before (x ∷ xs) h = (all-none x before (h .0), said-once (before ++ (x ∷ [])) xs (h .1))
-
--- of headings, by their eleven columns
-pub twice-said : (headings : List (List ℕ)) → OnceBy (equalTo 11) [] headings → NoneTwice headings
-twice-said headings h = once-said (equalTo 11) (SameColumns 11) (equal-exactly 11) [] headings h
-
-pub said-twice : (headings : List (List ℕ)) → NoneTwice headings → OnceBy (equalTo 11) [] headings
-said-twice headings h = said-once (equalTo 11) (SameColumns 11) (equal-exactly 11) [] headings h
-
--- ---- one behind the other
-
-pub once-append : {A : Type 0} (same : A → A → Bool) (before xs ys : List A) → OnceBy same before xs
-    → OnceBy same (before ++ xs) ys → OnceBy same before (xs ++ ys)
-unfolding OnceBy
-once-append same before [] ys a b = rw append-nil at b
-once-append same before (x ∷ xs) ys a b =
-    (a .0, once-append same (before ++ (x ∷ [])) xs ys (a .1) (rw (← append-assoc before (x ∷ []) xs) at b))
-
-pub once-left : {A : Type 0} (same : A → A → Bool) (before xs ys : List A) → OnceBy same before (xs ++ ys)
-    → OnceBy same before xs
-unfolding OnceBy
-once-left same before [] ys a = tt
-once-left same before (x ∷ xs) ys a = (a .0, once-left same (before ++ (x ∷ [])) xs ys (a .1))
-
-pub once-right : {A : Type 0} (same : A → A → Bool) (before xs ys : List A) → OnceBy same before (xs ++ ys)
-    → OnceBy same (before ++ xs) ys
-unfolding OnceBy
-once-right same before [] ys a = rw append-nil a
-once-right same before (x ∷ xs) ys a =
-    rw (append-assoc before (x ∷ []) xs) at (once-right same (before ++ (x ∷ [])) xs ys (a .1))

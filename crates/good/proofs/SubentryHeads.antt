@@ -10,7 +10,6 @@ use Rattle.laws.proofs.Booleans.{differ}
 use Rattle.laws.specs.Walk.{All}
 use Rattle.laws.specs.Blocks.{joined}
 use Rattle.laws.specs.Members.{listOf}
-use Rattle.record_words.specs.Word.{equalTo}
 use Rattle.record_names.specs.Identifier.{SUBENT}
 use Rattle.record_expected.specs.Expected.{identificationFor}
 use Rattle.rules_state.specs.declared.state.Phase.the-variants.{InSubentry, AfterCommon}
@@ -22,9 +21,8 @@ use Rattle.good.specs.Parts.{Record, Bib, Table, Section, bibRecords, ta
 use Rattle.good.specs.Marks.{Following}
 use Rattle.good.specs.Bib.{GoodBibPart, textsOfPart}
 use Rattle.good.specs.Tables.{GoodCommonPart, headingsOfPart}
-use Rattle.good.specs.Subentries.{ownNumber}
+use Rattle.good.specs.Subentries.{ownNumber, HeadingsFit}
 use Rattle.good.specs.Totals.{keywordsIn, numbersOf}
-use Rattle.good.proofs.Repeats.{OnceBy}
 use Rattle.good.proofs.Steps.{Passes, next}
 use Rattle.good.proofs.Moves.{Moved, moved-on, recount}
 use Rattle.good.proofs.Marks.{following-append, following-left, following-right, following-as}
@@ -35,7 +33,7 @@ use Rattle.good.proofs.TableContexts.{PartsKnown}
 use Rattle.good.proofs.TableWalked.{headingRows, columnsIn, afterTable, BehindTable}
 use Rattle.good.proofs.TablesPassed.{pass-table}
 use Rattle.good.proofs.TablesGood.{GoodHere, table-behind, table-pass}
-use Rattle.good.proofs.Together.{Shown, shown, new-once, once-new}
+use Rattle.good.proofs.Together.{Shown, shown, fits-all, all-fits}
 use Rattle.good.proofs.Openings.{after-opening}
 use Rattle.good.proofs.Subentries.{part-words, part-headings, none-shown, common-due}
 
@@ -145,7 +143,7 @@ common-known c accession number rows bib g b =
 
 -- COMMON's headings behind those of 001
 abbrev pub Behind : List (List ℕ) → Section Table → Type 0
-Behind before part = OnceBy (equalTo 11) before (headingsOfPart part)
+Behind before part = HeadingsFit false before (headingsOfPart part)
 
 pub record PassedHead (c : Context) (rs : List Record) (z : Context) (accession : List ℕ) (number : ℕ)
     (rows : List Record)
@@ -156,14 +154,14 @@ pub record PassedHead (c : Context) (rs : List Record) (z : Context) (accession 
   pub split : rs ≡ bibRecords bib ++ (tableRecords common ++ rest)
   pub good-bib : GoodBibPart bib
   pub good-common : GoodCommonPart common
-  pub once : Behind (shown rows n) common
+  pub fit : Behind (shown rows n) common
   pub follows : Following (identificationFor accession number) 2 (bibRecords bib ++ tableRecords common)
   pub head : Head c bib common
   pub passes : Passes (afterHead c bib common) rest z
 
 -- BIB and COMMON have their own theorems. What lies between them is what COMMON looks back at (`common-known`): the
--- heading records of 001, and none of its own subentry. So the headings of COMMON come out new behind those of 001
--- alone.
+-- heading records of 001, and none of its own subentry. So the headings of COMMON come out as they fit behind those
+-- of 001 alone.
 pub pass-head : (c : Context) (rs : List Record) (z : Context) (accession : List ℕ) (number : ℕ) (rows : List Record)
     (n : ℕ)
     → Begun c accession number rows → Shown rows n → isDone (z .phase) ≡ true → Passes c rs z
@@ -184,9 +182,9 @@ pass-head c rs z accession number rows n g s done p =
       split = b .split ∙ ap (λ (x : List Record). bibRecords (b .part) ++ x) (t .split);
       good-bib = b .good;
       good-common = t .good;
-      once = rw (part-headings (t .part))
+      fit = rw (part-headings (t .part))
           (rw (append-nil (shown rows n)) at
-          (new-once rows [] (headingRows (t .part)) n 0 (columnsIn (t .part)) s none-shown (t .new)));
+          (fits-all false rows [] (headingRows (t .part)) n 0 (columnsIn (t .part)) s none-shown (t .fit)));
       follows = head-following c accession number rows (b .part) (t .part) g bb (b .follows) (t .follows);
       head = head-of c (b .part) (t .part) bb (t .behind);
       passes = t .passes;
@@ -199,7 +197,7 @@ pub record HeadGood (c : Context) (accession : List ℕ) (number : ℕ) (rows : 
   pub shown-rows : Shown rows n
   pub good-bib : GoodBibPart bib
   pub good-common : GoodCommonPart common
-  pub once : Behind (shown rows n) common
+  pub fit : Behind (shown rows n) common
   pub follows : Following (identificationFor accession number) 2 (bibRecords bib ++ (tableRecords common ++ rest))
 
 head-bib : (c : Context) (accession : List ℕ) (number : ℕ) (rows : List Record) (n : ℕ) (bib : Section Bib)
@@ -216,9 +214,9 @@ unfolding listOf
 head-here c accession number rows n bib common rest h =
     record {
       good = h .good-common;
-      new = once-new rows [] (headingRows common) n 0 (columnsIn common) (h .shown-rows) none-shown
+      fit = all-fits false rows [] (headingRows common) n 0 (columnsIn common) (h .shown-rows) none-shown
           (part-words false common (h .good-common))
-          (rw (append-nil (shown rows n)) (rw (part-headings common) at (h .once)));
+          (rw (append-nil (shown rows n)) (rw (part-headings common) at (h .fit)));
       found = λ e. differ (sym e);
       follows = following-common c accession number rows bib common rest (h .begun)
           (head-bib c accession number rows n bib common rest h) (h .follows);

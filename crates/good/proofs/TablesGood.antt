@@ -25,7 +25,8 @@ use Rattle.good.proofs.Rows.{headings, units, values, endFor}
 use Rattle.good.proofs.RowPlaces.{table-end-role, row-pass, row-left}
 use Rattle.good.proofs.Units.{units-good, behind-units}
 use Rattle.good.proofs.Headings.{behind-headings}
-use Rattle.good.proofs.HeadingsByColumn.{NewIn, headings-good}
+use Rattle.good.proofs.Earlier.{Fits}
+use Rattle.good.proofs.HeadingsByColumn.{headings-good}
 use Rattle.good.proofs.Lines.{in-row, behind-lines, lines-pass, lines-good}
 use Rattle.good.proofs.TableKinds.{openFor, noFor, open-for, free-for, end-for, differ-for, marked-end}
 use Rattle.good.proofs.TableKinds.{section-count, no-keywords, lastFor, of-limits, GoodPart, Pieces, secondFor}
@@ -42,11 +43,11 @@ use Rattle.good.proofs.TablesPassed.{rows-grouped, last-least}
 good-walked : (d : Bool) (c : Context) (t : Table) (b : ℕ) (first common : List Record) (pointers : List ℕ)
     → PartsKnown first common pointers c → Pieces d t b
     → Following (identificationIn c) (c .track .subentry .records + 3) (rowsOf t)
-    → ((x : ℕ) → x < columnsOf t → NewIn first common [] (t .headings) x)
+    → ((x : ℕ) → x < columnsOf t → Fits d first common (t .headings) x)
     → (d ≡ true → (x : ℕ) → x < columnsOf t → FoundIn pointers (cell (t .headings) x))
     → Walked d c t (columnsOf t) b
 unfolding columnsOf
-good-walked d c t b first common pointers k p f new found =
+good-walked d c t b first common pointers k p f fit found =
     let a = columnsOf t in
     let r = t .opening in
     let l = lastFor d b in
@@ -72,7 +73,7 @@ good-walked d c t b first common pointers k p f new found =
       following-as i (identificationIn c1) s (c1 .track .subentry .records + 2) (t .headings)
           (rw (om .accession, om .number)) (omega arith) f1,
       g .headings,
-      new,
+      fit,
       found,
     ) in
     let at1 = row-left d headings a l 1 m (recordsFor a) c1 (t .headings)
@@ -133,7 +134,7 @@ grouped-rows hs us ls e ts = sym (rows-grouped hs us ls e ts)
 pub record GoodHere (d : Bool) (c : Context) (part : Section Table) (first common : List Record) (pointers : List ℕ)
     : Type 0 where
   pub good : GoodPart d part
-  pub new : (x : ℕ) → x < columnsIn part → NewIn first common [] (headingRows part) x
+  pub fit : (x : ℕ) → x < columnsIn part → Fits d first common (headingRows part) x
   pub found : d ≡ true → (x : ℕ) → x < columnsIn part → FoundIn pointers (cell (headingRows part) x)
   pub follows : Following (identificationIn c) (c .track .subentry .records + 2) (tableRecords part)
 
@@ -155,7 +156,7 @@ here-walked d c t first common pointers k g =
     good-walked d c t (secondFor d t) first common pointers k (good-pieces d t (g .good))
     (following-left (identificationIn c) (c .track .subentry .records + 3) (rowsOf t) (t .ending ∷ [])
     (rows-follow d c t first common pointers g .1))
-    (g .new) (g .found)
+    (g .fit) (g .found)
 
 pub table-behind : (d : Bool) (c : Context) (part : Section Table) (first common : List Record) (pointers : List ℕ)
     → PartsKnown first common pointers c → (d ≡ false → c .seen .common ≡ []) → GoodHere d c part first common pointers

@@ -26,7 +26,8 @@ use Rattle.good.proofs.Rows.{headings, units, values, roleFor, endFor}
 use Rattle.good.proofs.RowPlaces.{table-end-role, phase-open, pass-row}
 use Rattle.good.proofs.Units.{units-good, behind-units}
 use Rattle.good.proofs.Headings.{behind-headings}
-use Rattle.good.proofs.HeadingsByColumn.{NewIn, headings-good}
+use Rattle.good.proofs.Earlier.{Fits}
+use Rattle.good.proofs.HeadingsByColumn.{headings-good}
 use Rattle.good.proofs.Lines.{in-row, afterLines, behind-lines, pass-lines, lines-good}
 use Rattle.good.proofs.TableKinds.{openFor, noFor, open-for, free-for, end-for, differ-for, end-marked}
 use Rattle.good.proofs.TableKinds.{section-count, lastFor, Limits, limits-of, GoodPart, pieces-good}
@@ -41,7 +42,7 @@ pub record PassedTable (d : Bool) (c : Context) (rs : List Record) (z : Context)
   pub rest : List Record
   pub split : rs ≡ tableRecords part ++ rest
   pub good : GoodPart d part
-  pub new : (x : ℕ) → x < columnsIn part → NewIn first common [] (headingRows part) x
+  pub fit : (x : ℕ) → x < columnsIn part → Fits d first common (headingRows part) x
   pub found : d ≡ true → (x : ℕ) → x < columnsIn part → FoundIn pointers (cell (headingRows part) x)
   pub follows : Following (identificationIn c) (c .track .subentry .records + 2) (tableRecords part)
   pub behind : BehindTable c (afterTable d c part) d part
@@ -61,7 +62,7 @@ pass-none d c r rs z first common pointers h s =
       rest = rs;
       split = refl;
       good = none-good d r (s .named);
-      new = λ x l. absurd (omega arith);
+      fit = λ x l. absurd (omega arith);
       found = λ e x l. absurd (omega arith);
       follows = (here-of c (noFor d) r (free-for d .inside) (s .takes), tt);
       behind = behind-none d c r h;
@@ -129,7 +130,7 @@ table-of d c t ts z first common pointers k named takes w s =
             lines = ls .1;
             ends = s .named;
           });
-      new = heads .2;
+      fit = heads .2;
       found = heads .3;
       follows = (
         here-of c (openFor d) r (open-for d .inside) takes,

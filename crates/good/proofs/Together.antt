@@ -1,66 +1,35 @@
--- Headings of several sections together, and the pointers that may be named: by the cells of the heading records,
--- unused ones too, as the judge looks at them, and by the lists of headings. Assumes nothing.
+-- The headings of a section behind those of others, and the pointers that may be named: by the cells of the heading
+-- records, unused ones too, as the judge looks at them, and by the lists of headings. Assumes nothing.
 use Prim.Native.Nat.{ℕ, zero, suc, _+_, _-_, _*_, _<_, _≤_}
-use mathlib.Core.Path.{_≡_, refl, sym, _∙_, ap}
-use mathlib.Core.Bool.{Bool, true, false, cond}
-use mathlib.Core.List.{List, [], _∷_, _++_}
+use mathlib.Core.Path.{_≡_, sym, _∙_, ap}
+use mathlib.Core.Bool.{Bool, true, false}
+use mathlib.Core.List.{List, [], _++_}
 use native.Mathlib.Omega.{arith}
 use lib.Dec.{eqb}
 use lib.ListN.{length}
 use Rattle.laws.proofs.Booleans.{differ, cond-itself}
-use Rattle.laws.proofs.Listing.{any-list, any-map, any-none, any-one, list-same, list-split, none-any, one-any}
+use Rattle.laws.proofs.Listing.{any-list, any-map, list-same, list-split, none-any}
 use Rattle.laws.specs.Members.{listOf, anyOf}
 use Rattle.laws.specs.Walk.{All}
 use Rattle.laws.specs.Blocks.{joined}
 use Rattle.laws.proofs.Search.{either}
-use Rattle.laws.proofs.Members.{any-append}
+use Rattle.laws.proofs.Members.{any-append, list-at, list-length}
 use Rattle.columns.specs.Text.{isBlank}
-use Rattle.record_words.specs.Word.{equalTo, isWord, pointerOf}
+use Rattle.record_words.specs.Word.{isWord, pointerOf}
+use Rattle.record_words.specs.Same.{SameColumns}
 use Rattle.rules_text.specs.Text.{pointersOf}
 use Rattle.rules_pointers.specs.Pointers.{headingPointerAt, headingPointers, pointersFor as pointersSeen}
 use Rattle.rules_plain.specs.Places.{pointersIn, cell, pointersOn, Long}
+use Rattle.rules_plain.specs.Repeated.{SameIn}
 use Rattle.rules_plain.proofs.Lists.{pointers-joined}
 use Rattle.rules_plain.proofs.Rows.{headings-in, pointer-cell}
+use Rattle.rules_plain.proofs.Somewhere.{at-some, some-at, some-left, some-right, some-none}
 use Rattle.good.specs.Parts.{Record}
-use Rattle.good.proofs.Repeats.{OnceBy}
 use Rattle.good.specs.Tables.{Heading, BlankCell}
-use Rattle.record.proofs.PlainColumns.{blank-exactly, word-exactly}
+use Rattle.good.specs.Subentries.{headingIn, HeadingsFit}
+use Rattle.record.proofs.PlainColumns.{blank-exactly, equal-exactly, word-exactly}
 use Rattle.record_words.proofs.WordsAndBlanks.{heading-differs, blank-pointer}
-use Rattle.good.proofs.HeadingsByColumn.{NewIn}
-
--- ---- nothing twice, by places
-
--- `OnceBy` goes along a list and remembers what it has passed; the judge looks back from a place. Both say of the place
--- c that it differs from everything before the list, and from every lower place of it (`NewAt`).
-module _ {A : Type 0} (same : A → A → Bool) (g : ℕ → A) where
-  abbrev NewAt : List A → ℕ → ℕ → Type 0
-  NewAt before i c = (anyOf (same (g c)) before ≡ false) × ((x : ℕ) → i ≤ x → x < c → same (g c) (g x) ≡ false)
-
-  once-at : (before : List A) (i n : ℕ) → OnceBy same before (listOf g i n)
-      → (c : ℕ) → i ≤ c → c < i + n → NewAt before i c
-  unfolding OnceBy listOf
-  once-at before i zero h c a b = absurd (omega arith)
-  once-at before i (suc n) h c a b =
-      either i c
-      (λ l.
-      let w = once-at (before ++ (g i ∷ [])) (i + 1) n (h .1) c (omega arith) (omega arith) in
-      let (p, q) = any-one (same (g c)) before (g i) (w .0) in
-      (p, λ x d e. either i x (λ m. w .1 x (omega arith) e) (λ m. let z : x ≡ i = omega arith in rw z q)))
-      (λ l. let z : c ≡ i = omega arith in rw z (h .0, λ x d e. absurd (omega arith)))
-
-  at-once : (before : List A) (i n : ℕ) → ((c : ℕ) → i ≤ c → c < i + n → NewAt before i c)
-      → OnceBy same before (listOf g i n)
-  unfolding OnceBy listOf
-  at-once before i zero h = tt
-  at-once before i (suc n) h = (
-    h i (omega arith) (omega arith) .0,
-    at-once (before ++ (g i ∷ [])) (i + 1) n
-        (λ c a b.
-        let w = h c (omega arith) (omega arith) in (
-          one-any (same (g c)) before (g i) (w .0) (w .1 i (omega arith) (omega arith)),
-          λ x d e. w .1 x (omega arith) e,
-        )),
-  )
+use Rattle.good.proofs.Earlier.{Fits}
 
 -- ---- headings
 
@@ -75,58 +44,112 @@ pub record Shown (rows : List Record) (n : ℕ) : Type 0 where
 abbrev pub shown : List Record → ℕ → List (List ℕ)
 shown rows n = listOf (cell rows) 0 n
 
-cells-any : (f : List ℕ) (rows : List Record) (n : ℕ) → Shown rows n
-    → ((x : ℕ) → x < length rows * 6 → equalTo 11 f (cell rows x) ≡ false) → anyOf (equalTo 11 f) (shown rows n) ≡ false
-cells-any f rows n s h =
-    none-any (equalTo 11 f) (cell rows) 0 n (λ k a b. let l = s .fits in h k (omega arith))
+-- ---- headings that fit, by places
 
-any-cells : (f : List ℕ) (rows : List Record) (n : ℕ) → isWord 10 f ≡ true → Shown rows n
-    → anyOf (equalTo 11 f) (shown rows n) ≡ false → (x : ℕ) → x < length rows * 6 → equalTo 11 f (cell rows x) ≡ false
-any-cells f rows n w s e x l =
-    either x n
-    (λ a. any-none (equalTo 11 f) (cell rows) 0 n e x (omega arith) (omega arith))
-    (λ a. heading-differs f (cell rows x) w (blank-exactly 11 (cell rows x) .1 (s .unused x a l)))
+shown-at : (rows : List Record) (n c : ℕ) → c < n → headingIn (shown rows n) c ≡ cell rows c
+shown-at rows n c l = let z : 0 + c ≡ c = omega arith in list-at (cell rows) 0 n c [] l ∙ ap (cell rows) z
 
-any-both : (f : List ℕ) (xs ys : List (List ℕ)) → anyOf (equalTo 11 f) (xs ++ ys) ≡ false
-    → (anyOf (equalTo 11 f) xs ≡ false) × (anyOf (equalTo 11 f) ys ≡ false)
-any-both f xs ys e = by-test (anyOf (equalTo 11 f) xs) (anyOf (equalTo 11 f) ys)
-    (sym (any-append (equalTo 11 f) xs ys) ∙ e)
-  where
-    by-test : (a b : Bool) → cond a true b ≡ false → (a ≡ false) × (b ≡ false)
-    by-test true b h = differ h
-    by-test false b h = (refl, h)
+shown-length : (rows : List Record) (n : ℕ) → length (shown rows n) ≡ n
+shown-length rows n = list-length (cell rows) 0 n
 
-both-any : (f : List ℕ) (xs ys : List (List ℕ)) → anyOf (equalTo 11 f) xs ≡ false → anyOf (equalTo 11 f) ys ≡ false
-    → anyOf (equalTo 11 f) (xs ++ ys) ≡ false
-both-any f xs ys a b = any-append (equalTo 11 f) xs ys ∙ rw (a, b)
+-- two headings of the list, and their cells
+shown-same : (rows : List Record) (n c x : ℕ) → c < n → x < n
+    → SameColumns 11 (headingIn (shown rows n) c) (headingIn (shown rows n) x) → SameColumns 11 (cell rows c) (cell rows x)
+shown-same rows n c x l m e = rw (shown-at rows n c l, shown-at rows n x m) at e
 
--- the headings of a table are new behind those of two earlier ones
-pub new-once : (first common rs : List Record) (n1 n2 n : ℕ) → Shown first n1 → Shown common n2
-    → ((x : ℕ) → x < n → NewIn first common [] rs x)
-    → OnceBy (equalTo 11) (shown first n1 ++ shown common n2) (shown rs n)
-new-once first common rs n1 n2 n s t h =
-    at-once (equalTo 11) (cell rs) (shown first n1 ++ shown common n2) 0 n
-    (λ c a b.
-    let w = h c (omega arith) in (
-      both-any (cell rs c) (shown first n1) (shown common n2) (cells-any (cell rs c) first n1 s (w .in-first))
-          (cells-any (cell rs c) common n2 t (w .in-common)),
-      λ x d e. w .left x e,
-    ))
+same-shown : (rows : List Record) (n c x : ℕ) → c < n → x < n → SameColumns 11 (cell rows c) (cell rows x)
+    → SameColumns 11 (headingIn (shown rows n) c) (headingIn (shown rows n) x)
+same-shown rows n c x l m e = rw (shown-at rows n c l, shown-at rows n x m) e
 
-pub once-new : (first common rs : List Record) (n1 n2 n : ℕ) → Shown first n1 → Shown common n2
-    → ((x : ℕ) → x < n → Heading (cell rs x))
-    → OnceBy (equalTo 11) (shown first n1 ++ shown common n2) (shown rs n)
-    → (x : ℕ) → x < n → NewIn first common [] rs x
-once-new first common rs n1 n2 n s t words h x l =
-    let w = once-at (equalTo 11) (cell rs) (shown first n1 ++ shown common n2) 0 n h x (omega arith) (omega arith) in
-    let (p, q) = any-both (cell rs x) (shown first n1) (shown common n2) (w .0) in
-    let word = word-exactly 10 (cell rs x) .1 (words x l .word) in
-    record {
-      in-first = any-cells (cell rs x) first n1 word s p;
-      in-common = any-cells (cell rs x) common n2 word t q;
-      in-before = λ y m. absurd (omega arith);
-      left = λ y m. w .1 y (omega arith) m;
-    }
+same-turned : (a b : List ℕ) → SameColumns 11 a b → SameColumns 11 b a
+same-turned a b p i l = sym (p i l)
+
+same-on : (a b c : List ℕ) → SameColumns 11 a b → SameColumns 11 b c → SameColumns 11 a c
+same-on a b c p q i l = p i l ∙ q i l
+
+-- If each heading with an equal one before it is equal to its left neighbour, equal ones stand together: the neighbour
+-- is equal to the earlier one too, and so on down to it.
+module _ (own : ℕ → List ℕ) where
+  abbrev Beside : ℕ → Type 0
+  Beside c = (x : ℕ) → x < c → SameColumns 11 (own c) (own x) → SameColumns 11 (own c) (own (c - 1))
+
+  stand-together : (c : ℕ) → ((x : ℕ) → x ≤ c → Beside x) → (b x : ℕ) → b < x → x < c
+      → SameColumns 11 (own c) (own b) → SameColumns 11 (own c) (own x)
+  stand-together zero h b x k l e = absurd (omega arith)
+  stand-together (suc c) h b x k l e =
+      let one : suc c - 1 ≡ c = omega arith in
+      let left : SameColumns 11 (own (suc c)) (own c) = rw one at (h (suc c) (omega arith) b (omega arith) e) in
+      either x c
+      (λ m.
+      same-on (own (suc c)) (own c) (own x) left
+      (stand-together c (λ y i. h y (omega arith)) b x k m
+      (same-on (own c) (own (suc c)) (own b) (same-turned (own (suc c)) (own c) left) e)))
+      (λ m. let z : x ≡ c = omega arith in rw z left)
+
+module _ (d : Bool) (first common rs : List Record) (n1 n2 n : ℕ) (s : Shown first n1) (t : Shown common n2) where
+  abbrev others : List (List ℕ)
+  others = shown first n1 ++ shown common n2
+
+  -- a heading that equals a cell of the rows equals a heading of them, and the other way round
+  shown-cell : (rows : List Record) (m : ℕ) → Shown rows m → (f : List ℕ)
+      → ((x : ℕ) → x < length rows * 6 → SameColumns 11 f (cell rows x) → ⊥) → SameIn f (shown rows m) → ⊥
+  shown-cell rows m a f h e =
+      let l = a .fits in
+      let k = shown-length rows m in
+      let (x, i, p) = some-at (SameColumns 11 f) [] (shown rows m) e in
+      h x (omega arith) (rw (shown-at rows m x (omega arith)) at p)
+
+  cell-shown : (rows : List Record) (m : ℕ) → Shown rows m → (f : List ℕ) → isWord 10 f ≡ true
+      → (SameIn f (shown rows m) → ⊥) → (x : ℕ) → x < length rows * 6 → SameColumns 11 f (cell rows x) → ⊥
+  cell-shown rows m a f w h x l e =
+      let k = shown-length rows m in
+      either x m
+      (λ i. h (at-some (SameColumns 11 f) [] (shown rows m) x (omega arith) (rw (shown-at rows m x i) e)))
+      (λ i.
+      differ
+      (sym (equal-exactly 11 f (cell rows x) .1 e)
+      ∙ heading-differs f (cell rows x) w (blank-exactly 11 (cell rows x) .1 (a .unused x i l))))
+
+  -- the headings of a table, each of which fits behind those of two earlier ones
+  pub fits-all : ((x : ℕ) → x < n → Fits d first common rs x) → HeadingsFit d others (shown rs n)
+  fits-all h =
+      let k = shown-length rs n in
+      record {
+        one-section = λ c l e.
+            let m : c < n = omega arith in
+            let f = cell rs c in
+            some-none (shown first n1) (shown common n2)
+            (shown-cell first n1 s f (h c m .in-first)) (shown-cell common n2 t f (h c m .in-common))
+            (rw (shown-at rs n c m) at e);
+        listed = λ b c i l e.
+            let m : c < n = omega arith in
+            rw (shown-at rs n c m) (h c m .listed b i (shown-same rs n c b m (omega arith) e));
+        together = λ b x c i j l e.
+            let m : c < n = omega arith in
+            same-shown rs n c x m (omega arith)
+            (stand-together (cell rs) c (λ y o. h y (omega arith) .beside) b x i j
+            (shown-same rs n c b m (omega arith) e));
+      }
+
+  pub all-fits : ((x : ℕ) → x < n → Heading (cell rs x)) → HeadingsFit d others (shown rs n)
+      → (x : ℕ) → x < n → Fits d first common rs x
+  all-fits words h c m =
+      let k = shown-length rs n in
+      let l : c < length (shown rs n) = omega arith in
+      let f = cell rs c in
+      let word = word-exactly 10 f .1 (words c m .word) in
+      let apart : SameIn f others → ⊥ = λ e. h .one-section c l (rw (shown-at rs n c m) e) in
+      record {
+        in-first = cell-shown first n1 s f word (λ e. apart (some-left (shown first n1) (shown common n2) e));
+        in-common = cell-shown common n2 t f word (λ e. apart (some-right (shown first n1) (shown common n2) e));
+        listed = λ x i e. rw (shown-at rs n c m) at (h .listed x c i l (same-shown rs n c x m (omega arith) e));
+        beside = λ x i e.
+            either x (c - 1)
+            (λ j.
+            shown-same rs n c (c - 1) m (omega arith)
+            (h .together x (c - 1) c j (omega arith) l (same-shown rs n c x m (omega arith) e)))
+            (λ j. let z : x ≡ c - 1 = omega arith in rw z at e);
+      }
 
 -- ---- pointers
 

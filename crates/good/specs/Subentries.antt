@@ -1,11 +1,13 @@
 -- Subentries (document 01, "Nesting and counts" and "BIB, headings, pointers").
 use Prim.Native.Nat.{ℕ, _<_, _≤_}
 use mathlib.Core.Path.{_≡_}
+use mathlib.Core.Bool.{Bool, true, false}
 use mathlib.Core.List.{List, [], _∷_, _++_}
-use lib.ListN.{length}
+use lib.ListN.{length, getD}
 use Rattle.laws.specs.Walk.{All}
 use Rattle.columns.specs.Fields.{fieldsOf, n1, n2}
 use Rattle.record_words.specs.Word.{pointerOf}
+use Rattle.record_repeats.specs.PlainRepeats.{MayRepeat}
 use Rattle.record_names.specs.Identifier.{SUBENT, NOSUBENT, ENDSUBENT}
 use Rattle.record.specs.System.{subentryOf}
 use Rattle.record_words.specs.Same.{SameColumns}
@@ -13,8 +15,9 @@ use Rattle.record.specs.Plain.{Date, SubentN1}
 use Rattle.record_expected.specs.Expected.{identificationFor, subentIdentification, subentAccession}
 use Rattle.rules_state.specs.Limits.{LAST-SUBENTRY}
 use Rattle.rules_plain.specs.Places.{Some, pointersIn, pointersOn}
+use Rattle.rules_plain.specs.Repeated.{SameIn}
 use Rattle.good.specs.Parts.{Record, Subentry001, Later, Subentry, nosubent, subent, bodyOfFirst, bodyOf}
-use Rattle.good.specs.Marks.{Marked, Following, nameOf, CountIs, Once}
+use Rattle.good.specs.Marks.{Marked, Following, nameOf, CountIs}
 use Rattle.good.specs.Bib.{GoodBibPart, textsOfPart}
 use Rattle.good.specs.Tables.{GoodCommonPart, GoodDataPart, headingsOfPart}
 
@@ -42,13 +45,23 @@ pub record Encloses (accession : List ℕ) (opening : Record) (body : List Recor
 
 -- ---- headings and pointers
 
--- "No heading with its pointer occurs twice within the COMMON of 001, this subentry's COMMON and its DATA together."
-abbrev pub headingsTogether : Subentry001 → Later → List (List ℕ)
-headingsTogether first s =
-    headingsOfPart (first .common) ++ (headingsOfPart (s .common) ++ headingsOfPart (s .values))
+-- the heading in the column c of a section, counted from 0
+abbrev pub headingIn : List (List ℕ) → ℕ → List ℕ
+headingIn headings c = getD headings c []
 
-abbrev pub NoneTwice : List (List ℕ) → Type 0
-NoneTwice headings = Once (SameColumns 11) [] headings
+-- The headings of one section, COMMON or DATA, behind those of the sections before it. "No heading with its pointer
+-- occurs twice within the COMMON of 001, this subentry's COMMON and its DATA together." Document 02, M-101: "The same
+-- heading and pointer may repeat for E-LVL, EN-RES, ..", which `MayRepeat` lists; "All equal ones must stand together
+-- and in one section only."
+pub record HeadingsFit (inData : Bool) (others own : List (List ℕ)) : Type 0 where
+  -- "in one section only"
+  pub one-section : (c : ℕ) → c < length own → SameIn (headingIn own c) others → ⊥
+  -- "may repeat for": one that is equal to an earlier one is in the list
+  pub listed : (b c : ℕ) → b < c → c < length own → SameColumns 11 (headingIn own c) (headingIn own b)
+      → MayRepeat inData (headingIn own c)
+  -- "must stand together": between two equal ones all are equal
+  pub together : (b x c : ℕ) → b < x → x < c → c < length own → SameColumns 11 (headingIn own c) (headingIn own b)
+      → SameColumns 11 (headingIn own c) (headingIn own x)
 
 -- "A pointer on a DATA heading must occur in BIB column 11 of this subentry or 001, or on a heading of either one's
 -- COMMON."
@@ -70,7 +83,7 @@ pub record GoodFirst (accession : List ℕ) (s : Subentry001) : Type 0 where
   pub number : ownNumber (s .opening) ≡ 1
   pub bib : GoodBibPart (s .bib)
   pub common : GoodCommonPart (s .common)
-  pub headings : NoneTwice (headingsOfPart (s .common))
+  pub headings : HeadingsFit false [] (headingsOfPart (s .common))
   pub encloses : Encloses accession (s .opening) (bodyOfFirst s) (s .ending)
 
 -- a later one with its records
@@ -79,7 +92,9 @@ pub record GoodLater (accession : List ℕ) (first : Subentry001) (s : Later) : 
   pub bib : GoodBibPart (s .bib)
   pub common : GoodCommonPart (s .common)
   pub values : GoodDataPart (s .values)
-  pub headings : NoneTwice (headingsTogether first s)
+  pub common-headings : HeadingsFit false (headingsOfPart (first .common)) (headingsOfPart (s .common))
+  pub data-headings :
+      HeadingsFit true (headingsOfPart (first .common) ++ headingsOfPart (s .common)) (headingsOfPart (s .values))
   pub pointers : All (Occurs (pointersKnown first s)) (headingsOfPart (s .values))
   pub encloses : Encloses accession (s .opening) (bodyOf s) (s .ending)
 

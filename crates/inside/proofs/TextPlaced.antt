@@ -9,7 +9,7 @@ use lib.Dec.{eqb}
 use lib.ListN.{length, getD}
 use borrow.Author.Tests.{eqb-true, eqb-false, eq-eqb}
 use Rattle.laws.specs.Blocks.{blockAt}
-use Rattle.laws.proofs.Booleans.{differ, either-as}
+use Rattle.laws.proofs.Booleans.{differ, either-as, or-either}
 use Rattle.columns.specs.Fields.{fieldsOf}
 use Rattle.record_names.specs.Identifier.{BIB, ENDBIB, OTHER, identifierOf}
 use Rattle.rules_state.specs.State.{Context}
@@ -18,7 +18,7 @@ use Rattle.rules_state.specs.Role.{only, bibRole, roleIn}
 use Rattle.rules_state.proofs.RolePlaces.{inBib, text-in-bib}
 use Rattle.entry_next.specs.Due.{phaseAfter}
 use Rattle.entry_next.specs.Next.{contextAfter}
-use Rattle.entry_next.proofs.Following.{bib-led, one-of}
+use Rattle.entry_next.proofs.Following.{bib-led}
 use Rattle.entry_judging.specs.Judging.{Accepted}
 use Rattle.entry_judging.specs.Contexts.{contextAt, roleAt}
 use Rattle.questions_rows.proofs.RowChanges.{bib}
@@ -102,7 +102,7 @@ module _ (s : List ℕ) (accepted : Accepted s) where
   found zero h = λ e. absurd (start-outside s e)
   found (suc i) h =
       λ e.
-      one-of (eqb (roleAt s i) BIB) (eqb (roleAt s i) TEXT) (bib-led (roleAt s i) (rw (phase-next s i) at e))
+      or-either (eqb (roleAt s i) BIB) (eqb (roleAt s i) TEXT) (bib-led (roleAt s i) (rw (phase-next s i) at e))
       (λ q. found-first i (omega arith) (eqb-true (roleAt s i) BIB q))
       (λ q. found-next i (omega arith) (eqb-true (roleAt s i) TEXT q) (found i (omega arith)))
 

@@ -91,11 +91,6 @@ any-one p xs x e = by-test (anyOf p xs) (p x) (sym (any-append p xs (x ∷ [])) 
     by-test false true h = differ h
     by-test false false h = (refl, refl)
 
-pub one-any : {A : Type 0} (p : A → Bool) (xs : List A) (x : A) → anyOf p xs ≡ false → p x ≡ false
-    → anyOf p (xs ++ (x ∷ [])) ≡ false
-unfolding anyOf
-one-any p xs x a b = any-append p xs (x ∷ []) ∙ rw (a, b)
-
 pub any-map : {A B : Type 0} (t : B → Bool) (f : A → B) (xs : List A) → anyOf t (map f xs) ≡ anyOf (λ x. t (f x)) xs
 unfolding anyOf
 any-map t f [] = refl

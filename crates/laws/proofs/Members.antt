@@ -2,12 +2,12 @@
 -- invariant says, and what each turn keeps of it. The list is told by its places, so the loop never makes it.
 -- Assumes nothing.
 use Prim.Native.Nat.{ℕ, zero, suc, _+_, _-_, _<_, _≤_}
-use mathlib.Core.Path.{_≡_, _∙_, refl, sym}
+use mathlib.Core.Path.{_≡_, _∙_, refl, sym, ap}
 use mathlib.Core.Bool.{Bool, true, false, cond}
 use mathlib.Core.List.{List, [], _∷_, _++_}
 use native.Mathlib.Omega.{arith}
 use native.Mathlib.Nat.{add-zero, le-of-suc-le-suc, not-suc-le-zero}
-use lib.ListN.{getD}
+use lib.ListN.{length, getD}
 use Rattle.laws.specs.Members.{listOf, joinOf, anyOf}
 use Rattle.laws.proofs.Search.{less}
 
@@ -96,3 +96,8 @@ list-at f i (suc n) zero d h = rw (add-zero i) refl
 list-at f i (suc n) (suc k) d h =
     let e : i + 1 + k ≡ i + suc k = omega arith in
     list-at f (i + 1) n k d (le-of-suc-le-suc h) ∙ rw e refl
+
+pub list-length : {A : Type 0} (f : ℕ → A) (i n : ℕ) → length (listOf f i n) ≡ n
+unfolding listOf
+list-length f i zero = refl
+list-length f i (suc n) = ap suc (list-length f (i + 1) n)

@@ -10,7 +10,7 @@ use borrow.Author.Tests.{eq-eqb, ne-eqb, eqb-true}
 use lib.Dec.{eqb}
 use lib.ListN.{length, getD}
 use Rattle.laws.specs.Blocks.{blockAt}
-use Rattle.laws.proofs.Booleans.{differ, either-as}
+use Rattle.laws.proofs.Booleans.{differ, either-as, or-either}
 use Rattle.columns_places.specs.Places.{recordOf}
 use Rattle.columns.specs.Fields.{fieldsOf}
 use Rattle.record_names.specs.Identifier.{ENTRY, SUBENT, NOSUBENT, BIB, COMMON, DATA}
@@ -23,7 +23,6 @@ use Rattle.rules_state.proofs.EitherWay.{either-way}
 use Rattle.entry_counted.specs.Counted.{trackAfter, afterSystem, afterInside}
 use Rattle.entry_tally.specs.Tally.{textRead}
 use Rattle.entry_next.specs.Next.{contextAfter}
-use Rattle.entry_next.proofs.Following.{one-of}
 use Rattle.entry_step.specs.declared.step.Judge.{Judge}
 use Rattle.entry_step.specs.declared.pass.Passed.{Passed}
 use Rattle.entry_judging.specs.Judging.{judgeOf, Accepted}
@@ -65,7 +64,7 @@ module _ (t : Track) (role : ℕ) (fs : List (List ℕ)) (r : List ℕ) where
     where
       by-test : (o : Bool) → opensSubentry role ≡ o → Number (subentryIn t role fs) (trackAfter t role fs r)
       by-test true o =
-          one-of (eqb role SUBENT) (eqb role NOSUBENT) o (λ q. rw (eqb-true role SUBENT q))
+          or-either (eqb role SUBENT) (eqb role NOSUBENT) o (λ q. rw (eqb-true role SUBENT q))
           (λ q. rw (eqb-true role NOSUBENT q))
       by-test false o = other-records o ∙ sym (same-subentry o)
 

@@ -2,7 +2,7 @@
 -- Assumes nothing.
 use Prim.Native.Nat.{ℕ, zero, suc, _+_, _-_, _<_, _≤_}
 use mathlib.Core.Path.{_≡_, refl, sym, ap, _∙_}
-use mathlib.Core.Bool.{Bool, true, false, not, _&&_, _||_}
+use mathlib.Core.Bool.{Bool, true, false, not, _||_}
 use mathlib.Core.List.{List}
 use native.Mathlib.Omega.{arith}
 use native.Mathlib.Nat.{zero-add}
@@ -11,7 +11,7 @@ use lib.ListN.{length, getD, take, length-replicate, getD-replicate, List·getD-
 use lib.Seq.{getD-take, length-take-le, ext-getD}
 use borrow.Author.Tests.{eqb-true, eqb-false, eq-eqb, ne-eqb, leb-true, le-leb, not-true, not-false}
 use Rattle.laws.specs.Search.{first}
-use Rattle.laws.proofs.Booleans.{differ, and-left, and-right, or-other}
+use Rattle.laws.proofs.Booleans.{differ, and-both, and-left, and-right, or-first, or-second, or-other}
 use Rattle.laws.proofs.Counting.{first-before, first-past}
 use Rattle.laws.proofs.Search.{either, first-pass, first-to, pass-first}
 use Rattle.number.specs.Grammar.{blanks}
@@ -23,18 +23,6 @@ use Rattle.record.specs.Plain.{Word, UnitWord, PointerOrBlank, no-pointe
 use Rattle.record.specs.Plain.{BlankExactly, EqualExactly, TakenExactly, WordExactly, UnitExactly}
 use Rattle.record.specs.Plain.{PointerExactly}
 use Rattle.record_words.proofs.EqualColumns.{equal-at, at-equal}
-
--- ---- tests joined
-
-pub and-both : {a b : Bool} → a ≡ true → b ≡ true → (a && b) ≡ true
-and-both p q = rw (p, q)
-
-pub or-first : (a b : Bool) → a ≡ true → (a || b) ≡ true
-or-first a b e = rw e
-
-pub or-second : (a b : Bool) → b ≡ true → (a || b) ≡ true
-or-second true b e = refl
-or-second false b e = e
 
 -- ---- a column that says something is there
 

@@ -11,7 +11,7 @@ use lib.ListN.{length, getD, take, drop, length-append, length-drop, length-repl
 use lib.Seq.{getD-take, getD-drop, take-suc, take-take, take-add, take-at, drop-at, ext-getD}
 use borrow.Author.Tests.{eqb-true, eqb-false, eq-eqb, ne-eqb, leb-true, le-leb, not-false}
 use Rattle.laws.specs.Search.{first}
-use Rattle.laws.proofs.Booleans.{differ, and-left, and-right, or-other}
+use Rattle.laws.proofs.Booleans.{differ, and-left, and-right, or-other, and-both, or-first, or-second}
 use Rattle.laws.proofs.Counting.{first-before, first-is}
 use Rattle.laws.proofs.Search.{either, first-pass, first-to, pass-first}
 use Rattle.number.specs.Grammar.{blanks, Digits, digitsText, num}
@@ -24,7 +24,7 @@ use Rattle.record.specs.System.{noDigitAt, digitsIn, digitOf, numberIn, 
 use Rattle.record.specs.System.{isAccession, isEntryN1, isSubentN1, subentryOf}
 use Rattle.record.specs.Plain.{DigitsSay, CountSays, Date, CapitalOrDigit, a-capital, a-digit, Accession, EntryN1}
 use Rattle.record.specs.Plain.{SubentN1, DigitsExactly, CountExactly, DateExactly, EntryExactly, SubentExactly}
-use Rattle.record.proofs.PlainColumns.{and-both, or-first, or-second, there, columns-blank, blank-columns}
+use Rattle.record.proofs.PlainColumns.{there, columns-blank, blank-columns}
 use Rattle.record.proofs.PlainColumns.{blank-exactly}
 
 -- ---- digits, column by column

@@ -100,7 +100,7 @@ pub fn same_heading(a: [u8; 11], b: [u8; 11]) -> bool
 }
 
 // How many of ten columns stand before the first blank.
-fn word_end(f: [u8; 11]) -> usize
+pub fn word_end(f: [u8; 11]) -> usize
     ensures { λ r. ⌜ r ≡ wordEnd 10 f ⌝ }
     ensures { λ r. ⌜ r ≤ 10 ⌝ }
 {

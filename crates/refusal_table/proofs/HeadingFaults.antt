@@ -16,7 +16,6 @@ use Rattle.rules_pointers.specs.Pointers.{rule14}
 use Rattle.rules.specs.Order.{faultOf, Before, noFinding, Least}
 use Rattle.rules.proofs.Least.{fault-least, fault-none}
 use Rattle.rules_plain.specs.Places.{Some}
-use Rattle.rules_plain.specs.Repeated.{Repeated}
 use Rattle.rules_plain.proofs.Somewhere.{some-at}
 use Rattle.rules_plain.proofs.Repeated.{repeated-exactly, lost-exactly}
 use Rattle.entry_verdict.specs.Verdict.{refused}
@@ -27,7 +26,8 @@ use Rattle.entry_walk.proofs.FirstRefused.{refused-first}
 use Rattle.entry_walk.proofs.FirstAlone.{first-alone}
 use Rattle.refusal_table.specs.Table.{among, headings}
 use Rattle.refusal_table.specs.KindOf.{fieldsIn}
-use Rattle.refusal_table.specs.HeadingFaults.{WrongHeading, LostHeading, ThirteenSaid, FourteenSaid, DueThere}
+use Rattle.refusal_table.specs.HeadingFaults.{WrongHeading, RepeatedHeading, LostHeading, ThirteenSaid}
+use Rattle.refusal_table.specs.HeadingFaults.{FourteenSaid, DueThere}
 use Rattle.refusal_table.specs.HeadingFaults.{RefusedThere, RepeatedRefused, LostRefused}
 use Rattle.refusal_table.proofs.Standing.{one-kind, heading-kinds}
 use Rattle.refusal_table.proofs.KindAt.{kind-at}
@@ -35,7 +35,7 @@ use Rattle.refusal_table.proofs.ByNumber.{least-found, on-some, first-a
 use Rattle.refusal_table.proofs.HeadingParts.{held-against}
 
 module _ (s : List ℕ) (i k : ℕ) where
-  thirteen : FirstAt s i 13 k → WrongHeading headings Repeated s i k
+  thirteen : FirstAt s i 13 k → WrongHeading headings RepeatedHeading s i k
   thirteen h =
       let c = contextAt s i in
       let there = h .there in
@@ -47,9 +47,10 @@ module _ (s : List ℕ) (i k : ℕ) where
         kind = roleAt s i;
         one-of = heading-kinds (roleAt s i) role;
         is = kind-at s i (h .earlier);
+        due = refl;
         before = b;
         held = held;
-        wrong = repeated-exactly (c .seen) (c .track) b (blockAt 81 s i) (held .seen) k .0 found;
+        wrong = repeated-exactly (c .seen) (c .track) (roleAt s i) b (blockAt 81 s i) (held .seen) k .0 found;
       }
 
   fourteen : FirstAt s i 14 k → WrongHeading (among (DATA-HEADING ∷ [])) LostHeading s i k
@@ -64,6 +65,7 @@ module _ (s : List ℕ) (i k : ℕ) where
         kind = roleAt s i;
         one-of = one-kind DATA-HEADING (roleAt s i) role;
         is = kind-at s i (h .earlier);
+        due = refl;
         before = b;
         held = held;
         wrong = lost-exactly (c .seen) (c .track) b (blockAt 81 s i) (held .seen) k .0 found;
@@ -130,9 +132,10 @@ pub repeated-refused : RepeatedRefused
 repeated-refused s i k d w =
     let c = contextAt s i in
     refused-there s i isHeading d 13 k 11 (omega arith) refl
-    (some-on (λ c. c ≡ k) (isHeading (roleAt s i)) (rule13 (c .seen) (c .track) (fieldsIn s i) (blockAt 81 s i))
-    (d .role)
-    (repeated-exactly (c .seen) (c .track) (w .before) (blockAt 81 s i) (w .held .seen) k .1 (w .wrong)))
+    (some-on (λ c. c ≡ k) (isHeading (roleAt s i))
+    (rule13 (c .seen) (c .track) (roleAt s i) (fieldsIn s i) (blockAt 81 s i)) (d .role)
+    (repeated-exactly (c .seen) (c .track) (roleAt s i) (w .before) (blockAt 81 s i) (w .held .seen) k .1
+    (rw (w .due) (w .wrong))))
 
 pub lost-refused : LostRefused
 lost-refused s i k d w =

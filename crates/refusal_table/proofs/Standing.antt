@@ -228,7 +228,7 @@ module _ (t : Track) (s : Seen) (role : ℕ) (fs : List (List ℕ)) (r : List �
   in-used : (j : ℕ) → j < used t → j < 6
   in-used j l = let h = used-few t in omega arith
 
-  found13 : isHeading role ≡ true → Each (Found 13) (rule13 s t fs r)
+  found13 : isHeading role ≡ true → Each (Found 13) (rule13 s t role fs r)
   unfolding rule13
   found13 h =
       each-where (Found 13) _ fieldColumn (used t)

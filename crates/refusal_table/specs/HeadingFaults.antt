@@ -39,24 +39,30 @@ pub record HeldAgainst (s : List ℕ) (i : ℕ) (b : RecordsBefore) : Type 0 whe
   pub common : All (StandsBefore s i headings) (b .common)
   pub table : All (StandsBefore s i headings) (b .table)
 
--- the record with the index i is one of headings, and this is wrong at the used field whose first column is k
-pub record WrongHeading (kinds : ℕ → Bool) (Wrong : RecordsBefore → Record → ℕ → Type 0) (s : List ℕ) (i k : ℕ)
+-- the record with the index i is one of headings, of the kind that is due there, and this is wrong at the used field
+-- whose first column is k
+pub record WrongHeading (kinds : ℕ → Bool) (Wrong : ℕ → RecordsBefore → Record → ℕ → Type 0) (s : List ℕ) (i k : ℕ)
     : Type 0 where
   pub kind : ℕ
   pub one-of : kinds kind ≡ true
   pub is : KindOf s i kind
+  pub due : roleAt s i ≡ kind
   pub before : RecordsBefore
   pub held : HeldAgainst s i before
-  pub wrong : FirstOf (contextAt s i .track) (Wrong before (blockAt 81 s i)) k
+  pub wrong : FirstOf (contextAt s i .track) (Wrong kind before (blockAt 81 s i)) k
+
+-- in DATA more may repeat than in COMMON
+abbrev pub RepeatedHeading : ℕ → RecordsBefore → Record → ℕ → Type 0
+RepeatedHeading kind b r k = Repeated (eqb kind DATA-HEADING) b r k
 
 -- "13 | heading repeated | field's first"; records are numbered from 1
 abbrev pub ThirteenSaid : Type 0
 ThirteenSaid =
-    (s : List ℕ) (i k : ℕ) → judgeOf s ≡ refused 13 (record { 0 = i + 1 }) k → WrongHeading headings Repeated s i k
+    (s : List ℕ) (i k : ℕ) → judgeOf s ≡ refused 13 (record { 0 = i + 1 }) k → WrongHeading headings RepeatedHeading s i k
 
 -- "14 | DATA pointer not found | field's first"
-abbrev pub LostHeading : RecordsBefore → Record → ℕ → Type 0
-LostHeading b r k = Lost b (fieldAt r k)
+abbrev pub LostHeading : ℕ → RecordsBefore → Record → ℕ → Type 0
+LostHeading kind b r k = Lost b (fieldAt r k)
 
 abbrev pub FourteenSaid : Type 0
 FourteenSaid =
@@ -82,7 +88,7 @@ pub record RefusedThere (s : List ℕ) (i n k : ℕ) : Type 0 where
 
 abbrev pub RepeatedRefused : Type 0
 RepeatedRefused =
-    (s : List ℕ) (i k : ℕ) → DueThere s i isHeading → WrongHeading headings Repeated s i k → RefusedThere s i 13 k
+    (s : List ℕ) (i k : ℕ) → DueThere s i isHeading → WrongHeading headings RepeatedHeading s i k → RefusedThere s i 13 k
 
 abbrev pub LostRefused : Type 0
 LostRefused =

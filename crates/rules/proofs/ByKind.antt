@@ -152,7 +152,7 @@ module _ (t : Track) (s : Seen) (role : ℕ) (fs : List (List ℕ)) (r : List �
       }
 
   pub clean-heading : isHeading role ≡ true → rule11Heading t fs ≡ [] → rule12Heading t fs ≡ []
-      → rule13 s t fs r ≡ [] → (eqb role DATA-HEADING ≡ true → rule14 s t fs ≡ []) → Clean t s role fs r
+      → rule13 s t role fs r ≡ [] → (eqb role DATA-HEADING ≡ true → rule14 s t fs ≡ []) → Clean t s role fs r
   clean-heading h eleven twelve thirteen fourteen =
       let is = heading-kind role h in
       record {

@@ -153,7 +153,7 @@ module _ (t : Track) (s : Seen) (role : ℕ) (fs : List (List ℕ)) (r : List �
   unfolding rule12Unit
   rising12-unit = fields-rising _ 6 (omega arith)
 
-  rising13 : Rising 1 (rule13 s t fs r)
+  rising13 : Rising 1 (rule13 s t role fs r)
   unfolding rule13
   rising13 = fields-rising _ (used t) (used-few t)
 

@@ -40,7 +40,7 @@ pub record Clean (t : Track) (s : Seen) (role : Role) (fs : Fields) (r : Record)
   pub eleven : isHeading role ≡ true → rule11Heading t fs ≡ []
   pub twelve : isHeading role ≡ true → rule12Heading t fs ≡ []
   pub twelve-unit : isUnit role ≡ true → rule12Unit t fs ≡ []
-  pub thirteen : isHeading role ≡ true → rule13 s t fs r ≡ []
+  pub thirteen : isHeading role ≡ true → rule13 s t role fs r ≡ []
   pub fourteen : eqb role DATA-HEADING ≡ true → rule14 s t fs ≡ []
   pub fifteen : isValue role ≡ true → rule15 t role fs ≡ []
 

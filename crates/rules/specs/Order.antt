@@ -43,7 +43,7 @@ findings t s role fs r =
     ∷ finding 10 (on (eqb role TEXT) (rule10 (s .bib) t fs))
     ∷ finding 11 (cond (eqb role TEXT) (rule11Text (s .under) fs) (on (isHeading role) (rule11Heading t fs)))
     ∷ finding 12 (cond (isHeading role) (rule12Heading t fs) (on (isUnit role) (rule12Unit t fs)))
-    ∷ finding 13 (on (isHeading role) (rule13 s t fs r))
+    ∷ finding 13 (on (isHeading role) (rule13 s t role fs r))
     ∷ finding 14 (on (eqb role DATA-HEADING) (rule14 s t fs))
     ∷ finding 15 (on (isValue role) (rule15 t role fs))
     ∷ []

@@ -2,6 +2,7 @@
 -- Assumes nothing.
 use Prim.Native.Nat.{ℕ, _+_, _-_, _<_, _≤_}
 use mathlib.Core.Path.{_≡_, refl, sym, _∙_, ap, subst}
+use mathlib.Core.Bool.{Bool, true, false}
 use mathlib.Core.List.{List, []}
 use mathlib.Core.Logic.{inl, inr}
 use native.Mathlib.Omega.{arith}
@@ -10,14 +11,18 @@ use Rattle.laws.proofs.Booleans.{differ}
 use Rattle.laws.proofs.Search.{either}
 use Rattle.record.proofs.PlainColumns.{equal-exactly}
 use Rattle.rules_roles.specs.Fault.{Record}
-use Rattle.rules_section.specs.declared.headings.Found.{Found}
-use Rattle.rules_section.specs.declared.headings.Found.the-variants.{At, Nothing}
-use Rattle.rules_section.specs.Headings.{equalHeading, isFound}
+use Rattle.rules_earlier.specs.declared.earlier.Found.{Found}
+use Rattle.rules_earlier.specs.declared.earlier.Found.the-variants.{At, Nothing}
+use Rattle.rules_earlier.specs.Earlier.{equalHeading}
 use Rattle.rules_plain.specs.Repeated.{RecordsBefore, headingsOn, tableSoFar}
 use Rattle.rules_plain.specs.Found.{headingsOfSection, EqualAt, Sooner, FirstEqual, searched, FoundExactly}
 use Rattle.rules_plain.specs.Found.{NothingExactly}
 use Rattle.rules_plain.proofs.SearchEnd.{NoneIn, FirstIn, SearchEnd, in-first, in-second, in-third, in-none}
 use Rattle.rules_plain.proofs.SearchEnd.{search-end}
+
+abbrev isFound : Found → Bool
+isFound (At section column) = true
+isFound Nothing = false
 
 abbrev sectionIn : Found → ℕ
 sectionIn (At section column) = section

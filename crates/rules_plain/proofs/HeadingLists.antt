@@ -14,7 +14,7 @@ use Rattle.columns.specs.Fields.{fieldsOf}
 use Rattle.columns.proofs.ReadColumns.{field-of}
 use Rattle.rules_roles.specs.Fault.{Record}
 use Rattle.record_words.specs.Word.{pointerOf}
-use Rattle.rules_section.specs.Headings.{headingAt, headingsIn}
+use Rattle.rules_earlier.specs.Earlier.{headingAt, headingsIn}
 use Rattle.rules_pointers.specs.Pointers.{headingPointerAt, headingPointers}
 use Rattle.rules_plain.specs.Places.{Long, concat, cell, pointersOn}
 use Rattle.rules_plain.specs.Repeated.{headingsOn}

@@ -13,7 +13,7 @@ use Rattle.laws.proofs.Blocks.{length-joined}
 use Rattle.columns.specs.Fields.{fieldAt}
 use Rattle.rules_roles.specs.Fault.{Record}
 use Rattle.record_words.specs.Word.{pointerOf}
-use Rattle.rules_section.specs.Headings.{headingAt, headingsIn}
+use Rattle.rules_earlier.specs.Earlier.{headingAt, headingsIn}
 use Rattle.rules_pointers.specs.Pointers.{headingPointerAt}
 use Rattle.rules_plain.specs.Places.{Long, cell}
 use Rattle.rules_plain.proofs.Lists.{drop-record}

@@ -11,16 +11,14 @@ use borrow.Author.Tests.{ltb-true, ltb-false}
 use Rattle.laws.specs.Turns.{Turn, go, out, after, run}
 use Rattle.laws.specs.Walk.{All}
 use Rattle.laws.specs.Blocks.{joined}
-use Rattle.laws.proofs.Booleans.{differ}
 use Rattle.laws.proofs.Search.{either}
 use Rattle.laws.proofs.Counting.{first-before, first-holds}
 use Rattle.columns.specs.Fields.{fieldsOf}
 use Rattle.record_words.specs.Word.{equalTo}
 use Rattle.rules_roles.specs.Fault.{Record}
-use Rattle.rules_section.specs.declared.headings.Found.{Found}
-use Rattle.rules_section.specs.declared.headings.Found.the-variants.{At, Nothing}
-use Rattle.rules_section.specs.Headings.{headingAt, headingsIn, equalAt, equalIn, equalHeading, sectionTurn, nowhere}
-use Rattle.rules_section.specs.Headings.{isFound}
+use Rattle.rules_earlier.specs.declared.earlier.Found.{Found}
+use Rattle.rules_earlier.specs.declared.earlier.Found.the-variants.{At, Nothing}
+use Rattle.rules_earlier.specs.Earlier.{headingAt, headingsIn, equalAt, equalIn, equalHeading, sectionTurn, nowhere}
 use Rattle.rules_plain.specs.Places.{Long}
 use Rattle.rules_plain.specs.Repeated.{RecordsBefore, LongHeadings, headingsOn, tableSoFar}
 use Rattle.rules_plain.specs.Found.{searched}
@@ -44,7 +42,7 @@ none-front : (f : List ℕ) (xs ys : List (List ℕ)) (m : ℕ) → m ≤ length
 none-front f xs ys m l h j q =
     ap (equalTo 11 f) (List·getD-append xs ys [] j (omega arith)) ∙ h j q
 
-pub none-both : (f : List ℕ) (xs ys : List (List ℕ)) (m : ℕ) → NoneIn f xs (length xs) → NoneIn f ys m
+none-both : (f : List ℕ) (xs ys : List (List ℕ)) (m : ℕ) → NoneIn f xs (length xs) → NoneIn f ys m
     → NoneIn f (xs ++ ys) (length xs + m)
 none-both f xs ys m h k j q =
     either j (length xs)
@@ -53,14 +51,6 @@ none-both f xs ys m h k j q =
     let e : j ≡ length xs + (j - length xs) = omega arith in
     ap (λ (x : ℕ). equalTo 11 f (getD (xs ++ ys) x [])) e
     ∙ ap (equalTo 11 f) (getD-append-add xs ys (j - length xs) []) ∙ k (j - length xs) (omega arith))
-
-pub none-apart : (f : List ℕ) (xs ys : List (List ℕ)) → NoneIn f (xs ++ ys) (length (xs ++ ys))
-    → NoneIn f xs (length xs) × NoneIn f ys (length ys)
-none-apart f xs ys h =
-    let n : length (xs ++ ys) ≡ length xs + length ys = length-append xs ys in (
-      λ j q. ap (equalTo 11 f) (sym (List·getD-append xs ys [] j q)) ∙ h j (omega arith),
-      λ j q. ap (equalTo 11 f) (sym (getD-append-add xs ys j [])) ∙ h (length xs + j) (omega arith),
-    )
 
 first-front : (f : List ℕ) (xs ys : List (List ℕ)) (m : ℕ) → FirstIn f xs m → FirstIn f (xs ++ ys) m
 first-front f xs ys m h =
@@ -113,29 +103,6 @@ pub data SearchEnd (f : List ℕ) (xs ys zs : List (List ℕ)) : Found → Type 
   in-third : NoneIn f xs (length xs) → NoneIn f ys (length ys) → (m : ℕ) → FirstIn f zs m
       → SearchEnd f xs ys zs (At 3 (m + 1))
   in-none : NoneIn f xs (length xs) → NoneIn f ys (length ys) → NoneIn f zs (length zs) → SearchEnd f xs ys zs Nothing
-
--- nothing is found exactly when no heading is equal
-pub record NoneEqual (f : List ℕ) (xs ys zs : List (List ℕ)) : Type 0 where
-  pub first : NoneIn f xs (length xs)
-  pub second : NoneIn f ys (length ys)
-  pub third : NoneIn f zs (length zs)
-
-first-there : {X : Type 0} (f : List ℕ) (xs : List (List ℕ)) (m : ℕ) → NoneIn f xs (length xs) → FirstIn f xs m → X
-first-there f xs m n h = differ (sym (h .equal) ∙ n m (h .there))
-
-pub end-none : (f : List ℕ) (xs ys zs : List (List ℕ)) (found : Found) → SearchEnd f xs ys zs found
-    → isFound found ≡ false → NoneEqual f xs ys zs
-end-none f xs ys zs found (in-first m h) e = differ e
-end-none f xs ys zs found (in-second n m h) e = differ e
-end-none f xs ys zs found (in-third n p m h) e = differ e
-end-none f xs ys zs found (in-none n p q) e = record { first = n; second = p; third = q }
-
-pub none-end : (f : List ℕ) (xs ys zs : List (List ℕ)) (found : Found) → SearchEnd f xs ys zs found
-    → NoneEqual f xs ys zs → isFound found ≡ false
-none-end f xs ys zs found (in-first m h) e = first-there f xs m (e .first) h
-none-end f xs ys zs found (in-second n m h) e = first-there f ys m (e .second) h
-none-end f xs ys zs found (in-third n p m h) e = first-there f zs m (e .third) h
-none-end f xs ys zs found (in-none n p q) e = refl
 
 -- a turn ends the search, or goes on
 turn-either : (P : Found → Type 0) (b : Bool) (x : Found) (rest : Unit {0} → Found) → (b ≡ true → P x)

@@ -12,7 +12,7 @@ use lib.ListN.{length, getD, take, drop, length-drop, take-append-drop}
 use lib.Seq.{getD-drop}
 use Rattle.laws.specs.Members.{anyOf}
 use Rattle.laws.specs.Walk.{All}
-use Rattle.laws.proofs.Booleans.{differ, and-left, and-right}
+use Rattle.laws.proofs.Booleans.{differ, and-left, and-right, and-both, or-first, or-second}
 use Rattle.laws.proofs.Listing.{all-right, any-map}
 use Rattle.laws.proofs.Search.{either}
 use Rattle.columns.specs.Fields.{fieldsOf}
@@ -23,7 +23,7 @@ use Rattle.record_words.specs.Word.{blankTo, equalTo, isWord, pointerOf}
 use Rattle.record_faults.specs.Faults.{badPointer}
 use Rattle.record_words.specs.Same.{SameColumns}
 use Rattle.record.specs.Plain.{Word}
-use Rattle.record.proofs.PlainColumns.{and-both, or-first, or-second, blank-exactly, equal-exactly, word-exactly}
+use Rattle.record.proofs.PlainColumns.{blank-exactly, equal-exactly, word-exactly}
 use Rattle.record.proofs.PlainColumns.{pointer-exactly}
 use Rattle.rules_state.specs.declared.state.Track.{Track}
 use Rattle.rules_roles.specs.Fault.{Record}

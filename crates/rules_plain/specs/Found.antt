@@ -2,7 +2,7 @@
 --
 --   "A heading is compared with all earlier ones, section by section, and the search ends at the first equal heading"
 --
--- The code follows `equalHeading` (rules_section, Headings). That it hands back the first place with an equal heading
+-- The code follows `equalHeading` (rules_earlier, Earlier). That it hands back the first place with an equal heading
 -- is stated here (`FoundExactly`), and that it hands back none exactly where no heading is equal (`NothingExactly`).
 use Prim.Native.Nat.{ℕ, _-_, _<_, _≤_}
 use mathlib.Core.Path.{_≡_}
@@ -14,8 +14,8 @@ use lib.ListN.{length, getD}
 use Rattle.laws.specs.Blocks.{joined}
 use Rattle.record_words.specs.Same.{SameColumns}
 use Rattle.rules_roles.specs.Fault.{Record}
-use Rattle.rules_section.specs.declared.headings.Found.the-variants.{At, Nothing}
-use Rattle.rules_section.specs.Headings.{Earlier, equalHeading, earlier}
+use Rattle.rules_earlier.specs.declared.earlier.Found.the-variants.{At, Nothing}
+use Rattle.rules_earlier.specs.Earlier.{Earlier, equalHeading, earlier}
 use Rattle.rules_plain.specs.Repeated.{RecordsBefore, LongHeadings, headingsOn, tableSoFar}
 
 -- ---- places

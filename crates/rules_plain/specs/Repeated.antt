@@ -1,21 +1,25 @@
--- What is wrong at a heading for refusals 13 and 14 (document 01, "BIB, headings, pointers"): said over the records
--- that stand before it, with no offset and no search.
+-- What is wrong at a heading for refusals 13 and 14 (document 01, "BIB, headings, pointers"; document 02, M-101): said
+-- over the records that stand before it, with no offset and no search.
 --
 -- The code follows `rule13` (rules_section, Headings) and `rule14` (rules_pointers, Pointers), which compute over the
 -- bytes of these records. That they find exactly the headings that are said here is stated below (`RepeatedExactly`,
 -- `LostExactly`).
-use Prim.Native.Nat.{ℕ, _<_}
+use Prim.Native.Nat.{ℕ, _-_, _<_}
 use mathlib.Core.Path.{_≡_}
-use mathlib.Core.List.{List, _++_, map}
+use mathlib.Core.Bool.{Bool}
+use mathlib.Core.List.{List, [], _++_, map}
 use mathlib.Core.Logic.{_↔_}
-use lib.ListN.{take}
+use lib.Dec.{eqb}
+use lib.ListN.{length, getD, take}
 use Rattle.laws.specs.Blocks.{joined}
 use Rattle.laws.specs.Walk.{All}
 use Rattle.columns.specs.Fields.{fieldAt, fieldsOf}
 use Rattle.record_words.specs.Word.{pointerOf}
 use Rattle.record_words.specs.Same.{SameColumns}
+use Rattle.record_repeats.specs.PlainRepeats.{MayRepeat}
 use Rattle.rules_state.specs.declared.state.Track.{Track}
 use Rattle.rules_state.specs.State.{Seen, used}
+use Rattle.rules_roles.specs.Roles.{DATA-HEADING}
 use Rattle.rules_roles.specs.Fault.{Record, Columns, fieldColumn}
 use Rattle.rules_section.specs.Headings.{rule13}
 use Rattle.rules_pointers.specs.Pointers.{rule14}
@@ -64,9 +68,9 @@ headingsOn rows = concat (map fieldsOf rows)
 abbrev pub tableSoFar : RecordsBefore → Record → ℕ → List (List ℕ)
 tableSoFar b r k = headingsOn (b .table) ++ take k (fieldsOf r)
 
--- "the COMMON of 001, this subentry's COMMON and its DATA together", as far as they stand before the field k of r
-abbrev pub earlierHeadings : RecordsBefore → Record → ℕ → List (List ℕ)
-earlierHeadings b r k = headingsOn (b .common001) ++ (headingsOn (b .common) ++ tableSoFar b r k)
+-- the sections before it: the COMMON of 001, and this subentry's COMMON
+abbrev pub otherHeadings : RecordsBefore → List (List ℕ)
+otherHeadings b = headingsOn (b .common001) ++ headingsOn (b .common)
 
 -- "BIB column 11 of this subentry or 001, or .. a heading of either one's COMMON"
 abbrev pub pointersMet : RecordsBefore → List ℕ
@@ -76,9 +80,23 @@ pointersMet b =
 
 -- ---- 13, "heading repeated"
 
--- "No heading with its pointer occurs twice": one of the earlier headings has the same eleven columns
-abbrev pub Repeated : RecordsBefore → Record → ℕ → Type 0
-Repeated b r k = Some (SameColumns 11 (fieldAt r k)) (earlierHeadings b r k)
+-- one of these headings has the same eleven columns
+abbrev pub SameIn : List ℕ → List (List ℕ) → Type 0
+SameIn f headings = Some (SameColumns 11 f) headings
+
+-- the last one of the table so far: the heading to the left
+abbrev pub leftIn : List (List ℕ) → List ℕ
+leftIn headings = getD headings (length headings - 1) []
+
+-- the heading in the field k of r, in COMMON or in DATA, repeats an earlier one where it may not
+pub data Repeated (inData : Bool) (b : RecordsBefore) (r : Record) (k : ℕ) : Type 0 where
+  -- "in one section only": an equal one stands in another section
+  elsewhere : SameIn (fieldAt r k) (otherHeadings b) → Repeated inData b r k
+  -- "The same heading and pointer may repeat for ..": one stands in this section, and the word is not in the list
+  not-listed : SameIn (fieldAt r k) (tableSoFar b r k) → (MayRepeat inData (fieldAt r k) → ⊥) → Repeated inData b r k
+  -- "All equal ones must stand together": one stands in this section, and the heading to the left is another
+  apart : SameIn (fieldAt r k) (tableSoFar b r k)
+      → (SameColumns 11 (fieldAt r k) (leftIn (tableSoFar b r k)) → ⊥) → Repeated inData b r k
 
 -- ---- 14, "DATA pointer not found"
 
@@ -102,8 +120,8 @@ Finds columns t P = (column : ℕ) → Some (λ c. c ≡ column) columns ↔ Fir
 
 abbrev pub RepeatedExactly : Type 0
 RepeatedExactly =
-    (s : Seen) (t : Track) (b : RecordsBefore) (r : Record) → SeenBefore s b
-    → Finds (rule13 s t (fieldsOf r) r) t (Repeated b r)
+    (s : Seen) (t : Track) (role : ℕ) (b : RecordsBefore) (r : Record) → SeenBefore s b
+    → Finds (rule13 s t role (fieldsOf r) r) t (Repeated (eqb role DATA-HEADING) b r)
 
 abbrev pub LostExactly : Type 0
 LostExactly =

@@ -11,7 +11,7 @@ use Rattle.rules_state.specs.declared.state.Track.{Track}
 use Rattle.rules_state.specs.State.{Seen, used}
 use Rattle.rules_roles.specs.Fault.{Fields, Columns, columnsWhere, fieldColumn}
 use Rattle.rules_text.specs.Text.{pointersOf}
-use Rattle.rules_section.specs.Headings.{headingsIn}
+use Rattle.rules_earlier.specs.Earlier.{headingsIn}
 
 abbrev pub headingPointerAt : List ℕ → ℕ → ℕ
 headingPointerAt part m = getD part (m / 6 * 81 + m % 6 * 11 + 10) 0

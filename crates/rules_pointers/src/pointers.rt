@@ -8,11 +8,11 @@ ghost use Rattle.rules_state.specs.Ranging.{Stands, seenOf};
 ghost use Rattle.rules_roles.specs.Roles.{DATA-HEADING};
 ghost use Rattle.rules_roles.specs.Fault.{leftmost, on};
 ghost use Rattle.rules_pointers.specs.Pointers.{headingPointers, pointersFor, pointerLost, lostAt, rule14};
+use rules_earlier::earlier::headings_in;
 use rules_roles::fault::field_column;
 use rules_roles::ranging::Ranges;
 use rules_roles::ranging::part;
 use rules_roles::roles::DATA_HEADING;
-use rules_section::headings::headings_in;
 use rules_state::state::Track;
 use rules_text::text::pointer_in;
 

@@ -1,2 +1,1 @@
-pub mod EarlierParts
 pub mod SomeColumns

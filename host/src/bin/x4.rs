@@ -31,6 +31,11 @@ Prints seven numbers: refusal, record, column, subentries, keywords, DATA lines,
 A refused one has the number, record and column of its first fault, and zeros; then come what was expected there, what
 stands there, and the record with a mark under the column. With several files each line of numbers begins with the
 file's name. With --json each file is one line, an object.
+
+A heading with its pointer stands once in the COMMON of 001, a subentry's COMMON and its DATA together. E-LVL, EN-RES,
+words ending in -ERR or -RSL and words starting with ANG may repeat, and in DATA also FLAG and words starting with HL:
+all equal ones side by side, in one of these sections.
+
 Exit status: 0 if every entry is good, 1 if one is refused, 2 if a file cannot be read.
 ";
 
@@ -40,6 +45,8 @@ x4 tables [--json] [--digits] [FILE]
 Prints every table of a good entry. Each row begins with the subentry, COMMON or DATA, and 'heading', 'pointer', 'unit'
 or the number of the line; then comes a field for each column. Numbers are exact decimals as text: 1.45-1 is 0.145.
 A blank field is empty, and zero is 0. With --json the tables are an array of objects; numbers are texts, blank is null.
+Some headings may stand on several columns side by side, such as HL in seconds, days and years: a column goes by its
+place, not by its heading.
 
 With --digits a count stands beside each value: the digits that were written, from the first that is not zero to the
 last, before and behind the point. 0.140 has 3, 0.14 has 2, 100. has 3, zero and a blank have 0. As comma-separated

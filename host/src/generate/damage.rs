@@ -1,7 +1,7 @@
 //! Damage to a valid entry: one for each cause in the paper's table of refusals, where the refusal that is due follows
 //! from the paper by hand, and noise, where it does not.
 
-use super::sheet::{identifier, word, FILLED, IDENTIFIERS, POINTERS};
+use super::sheet::{identifier, repeats, single, word, FILLED, IDENTIFIERS, POINTERS};
 use super::{number_field, Kind, Random, Sheet};
 use crate::{Refusal, RECORD};
 
@@ -70,6 +70,8 @@ pub const CAUSES: &[(&str, Act)] = &[
     ("12 unit's eleventh column filled", unit_eleventh),
     ("12 unused field filled", unused_word),
     ("13 heading repeated in its section", repeated_inside),
+    ("13 heading repeated beside itself", repeated_beside),
+    ("13 heading that may repeat, apart", repeated_apart),
     ("13 heading repeated from COMMON", repeated_across),
     ("14 pointer not found", lost_pointer),
     ("15 value malformed", bad_value),
@@ -96,7 +98,7 @@ pub fn noise(random: &mut Random, sheet: &mut Sheet) {
         }
         let at = random.below(records);
         let column = random.within(1, 81);
-        match random.below(10) {
+        match random.below(11) {
             0 => sheet.remove(at),
             1 => {
                 let (record, kind) = (sheet.record(at).to_vec(), sheet.kinds[at]);
@@ -116,9 +118,21 @@ pub fn noise(random: &mut Random, sheet: &mut Sheet) {
             5 => sheet.put(at, 11 * random.within(1, 2) + 1, format!("{:>11}", random.below(30)).as_bytes()),
             6 => sheet.put(at, column.min(80), b" "),
             7 => sheet.put(at, column, &[random.bits() as u8]),
+            8 => copy_heading(random, sheet),
             _ => sheet.put(at, column.min(80), &[random.one(FILLED)]),
         }
     }
+}
+
+/// Copies a field of a heading record to a field of one: the same record or another, beside itself or apart.
+fn copy_heading(random: &mut Random, sheet: &mut Sheet) {
+    let places = sheet.find(|kind| matches!(kind, Kind::Heading { .. }));
+    let Some(from) = pick(random, &places) else { return };
+    let to = if random.once_in(4) { random.one(&places) } else { from };
+    let field = 11 * random.below(6) + 1;
+    let heading = sheet.columns(from, field, field + 10).to_vec();
+    let beside = if field < 56 && random.once_in(2) { field + 11 } else { 11 * random.below(6) + 1 };
+    sheet.put(to, beside, &heading);
 }
 
 /// Bytes without any rule, or of permitted characters in records.
@@ -627,23 +641,83 @@ fn repeat(sheet: &mut Sheet, from: (usize, usize), to: (usize, usize)) -> Option
     Some((if ends { 4 } else { 13 }, to.0, 11 * to.1 + 1))
 }
 
-fn repeated_inside(random: &mut Random, sheet: &mut Sheet) -> Option<Fault> {
-    let at = system(random, sheet, &["COMMON", "DATA"])?;
-    let columns = number(sheet, at, 1) as usize;
-    if columns == 1 {
-        return None;
-    }
-    let later = random.within(2, columns);
-    let earlier = random.within(1, later - 1);
-    let place = |column: usize| (at + 1 + (column - 1) / 6, (column - 1) % 6);
-    repeat(sheet, place(earlier), place(later))
+/// A table: its section, its first heading record and its headings.
+struct Headings {
+    section: &'static str,
+    at: usize,
+    headings: Vec<Vec<u8>>,
 }
 
+impl Headings {
+    /// Those of the table that a COMMON or DATA record opens.
+    fn of(sheet: &Sheet, opening: usize) -> Headings {
+        let section = if sheet.kinds[opening] == Kind::System("DATA") { "DATA" } else { "COMMON" };
+        let columns = number(sheet, opening, 1) as usize;
+        let own = Headings { section, at: opening + 1, headings: Vec::new() };
+        let places = (0..columns).map(|column| own.place(column));
+        let headings = places.map(|(at, field)| sheet.columns(at, 11 * field + 1, 11 * field + 11).to_vec()).collect();
+        Headings { headings, ..own }
+    }
+
+    /// Record and field of a column, all from 0.
+    fn place(&self, column: usize) -> (usize, usize) {
+        (self.at + column / 6, column % 6)
+    }
+
+    /// Whether the heading of a column may stand on several here, where that can be told.
+    fn repeats(&self, column: usize) -> Option<bool> {
+        repeats(String::from_utf8_lossy(&self.headings[column][..10]).trim_end(), self.section)
+    }
+}
+
+/// A table with so many columns or more.
+fn table(random: &mut Random, sheet: &Sheet, columns: u64) -> Option<Headings> {
+    let mut places = sheet.find(|kind| matches!(kind, Kind::System("COMMON" | "DATA")));
+    places.retain(|&at| number(sheet, at, 1) >= columns);
+    Some(Headings::of(sheet, pick(random, &places)?))
+}
+
+/// A heading that may not repeat, on a later column. What stands to the right of that is not met.
+fn repeated_inside(random: &mut Random, sheet: &mut Sheet) -> Option<Fault> {
+    let table = table(random, sheet, 2)?;
+    let later = random.within(1, table.headings.len() - 1);
+    let single: Vec<usize> = (0..later).filter(|&column| table.repeats(column) == Some(false)).collect();
+    let earlier = pick(random, &single)?;
+    repeat(sheet, table.place(earlier), table.place(later))
+}
+
+/// A new word that may not repeat, on two columns side by side.
+fn repeated_beside(random: &mut Random, sheet: &mut Sheet) -> Option<Fault> {
+    let table = table(random, sheet, 2)?;
+    let heading = format!("{:11}", single(random, table.section)).into_bytes();
+    // It is new in all sections, so that the second is the first at fault.
+    let met = |at: usize| sheet.columns(at, 1, 66).chunks(11).any(|field| field == heading);
+    if sheet.find(|kind| matches!(kind, Kind::Heading { .. })).into_iter().any(met) {
+        return None;
+    }
+    let left = random.below(table.headings.len() - 1);
+    let (at, field) = table.place(left);
+    sheet.put(at, 11 * field + 1, &heading);
+    repeat(sheet, (at, field), table.place(left + 1))
+}
+
+/// A heading that may repeat, on a later column that is no neighbour of the others.
+fn repeated_apart(random: &mut Random, sheet: &mut Sheet) -> Option<Fault> {
+    let table = table(random, sheet, 3)?;
+    let later = random.within(2, table.headings.len() - 1);
+    let apart =
+        |&column: &usize| table.repeats(column) == Some(true) && table.headings[column] != table.headings[later - 1];
+    let earlier = pick(random, &(0..later).filter(apart).collect::<Vec<_>>())?;
+    repeat(sheet, table.place(earlier), table.place(later))
+}
+
+/// A heading of COMMON in DATA, or of the COMMON of 001 in another, whether it may repeat or not.
 fn repeated_across(random: &mut Random, sheet: &mut Sheet) -> Option<Fault> {
-    let (at, field) = heading(random, sheet, Some("DATA"))?;
+    let (at, field) = heading(random, sheet, None)?;
     let own = (0..at).rev().find(|&at| sheet.kinds[at] == Kind::System("SUBENT"))?;
+    let section = (own..at).rev().find(|&at| matches!(sheet.kinds[at], Kind::System(_)))?;
     let second = sheet.find(|kind| kind == Kind::System("ENDSUBENT"))[0];
-    let seen = |place: usize| place < second || (own < place && place < at);
+    let seen = |place: usize| (place < second && own > second) || (own < place && place < section);
     let commons = sheet.find(|kind| matches!(kind, Kind::Heading { section: "COMMON", .. }));
     let commons: Vec<usize> = commons.into_iter().filter(|&place| seen(place)).collect();
     let from = pick(random, &commons)?;
@@ -668,7 +742,14 @@ fn lost_pointer(random: &mut Random, sheet: &mut Sheet) -> Option<Fault> {
         lost.retain(|pointer| !known.contains(pointer));
     }
     let pointer = lost.get(random.below(lost.len().max(1)))?;
+    let table = Headings::of(sheet, data);
+    let column = 6 * (at - table.at) + field;
     sheet.put(at, 11 * field + 11, &[*pointer]);
+    // Between two equal headings of its record it parts them, and 13 comes before 14.
+    let beside = |near: usize| table.headings.get(near) == Some(&table.headings[column]);
+    if field < 5 && column > 0 && beside(column - 1) && beside(column + 1) {
+        return Some((13, at, 11 * field + 12));
+    }
     Some((14, at, 11 * field + 1))
 }
 

@@ -136,6 +136,68 @@ const WORDS: [&str; 20] = [
     "ENDX",
 ];
 
+/// Words that may stand on several columns side by side (M-101), and whether in DATA only.
+const REPEATING: [(&str, bool); 16] = [
+    ("E-LVL", false),
+    ("EN-RES", false),
+    ("DATA-ERR", false),
+    ("MONIT1-ERR", false),
+    ("-ERR", false),
+    ("EN-RSL", false),
+    ("EN-RSL-RSL", false),
+    ("ANG", false),
+    ("ANG-CM", false),
+    ("ANGULAR-DI", false),
+    ("HL-ERR", false),
+    ("FLAG", true),
+    ("HL", true),
+    ("HL1", true),
+    ("HL-MONITOR", true),
+    ("HLX", true),
+];
+
+/// Words that may not, most of them much like those.
+const SINGLE: [&str; 18] = [
+    "E-LVL1",
+    "E-LV",
+    "EN-RES1",
+    "FLAG1",
+    "DECAY-FLAG",
+    "ERR",
+    "RSL",
+    "X-ERR1",
+    "EN-RSL-",
+    "EN-err",
+    "ang",
+    "AN",
+    "X-ANG",
+    "H",
+    "X-HL",
+    "hl",
+    "MASS",
+    "DATA",
+];
+
+/// Whether a word may repeat in a section, where that can be told by looking: it is one of the words above, or has none
+/// of A, H and -, while every word of M-101's list has.
+pub(super) fn repeats(word: &str, section: &str) -> Option<bool> {
+    if let Some((_, data_only)) = REPEATING.iter().find(|(listed, _)| *listed == word) {
+        return Some(section == "DATA" || !data_only);
+    }
+    let known = SINGLE.contains(&word) || WORDS.contains(&word) || !word.contains(['A', 'H', '-']);
+    known.then_some(false)
+}
+
+/// A word that may not repeat in a section; now and then one that may in another.
+pub(super) fn single(random: &mut Random, section: &str) -> &'static str {
+    let elsewhere: Vec<&str> =
+        REPEATING.iter().map(|(word, _)| *word).filter(|word| repeats(word, section) == Some(false)).collect();
+    if elsewhere.is_empty() || random.once_in(2) {
+        return random.one(&SINGLE);
+    }
+    random.one(&elsewhere)
+}
+
 /// A word of at most ten columns.
 pub(super) fn word(random: &mut Random) -> String {
     if random.once_in(3) {
@@ -172,7 +234,7 @@ struct Known {
 }
 
 /// A valid entry. Its shape is left to chance: one to seven subentries, with and without each section, tables of one to
-/// eighteen columns, pointers, and numbers in every spelling.
+/// eighteen columns, headings that repeat where they may, pointers, and numbers in every spelling.
 pub fn entry(random: &mut Random) -> Sheet {
     let first = random.one(b"ABCXYZ0123456789") as char;
     let accession = format!("{first}{:04}", random.below(10_000));
@@ -302,23 +364,51 @@ impl Writer<'_> {
         self.system("ENDBIB", count, None);
     }
 
-    /// A heading that has not been met yet, with its pointer.
-    fn heading(&mut self, section: &str, first: bool) -> Vec<u8> {
+    /// A word with a pointer that the section may use, or none.
+    fn pointed(&mut self, word: &str, section: &str) -> Vec<u8> {
         let mut pointers: Vec<u8> = match section {
             "COMMON" => POINTERS.to_vec(),
             _ => self.shared.pointers.union(&self.own.pointers).copied().collect(),
         };
         pointers.push(b' ');
+        let pointer = if self.random.once_in(2) { b' ' } else { self.random.one(&pointers) };
+        format!("{word:10}{}", char::from(pointer)).into_bytes()
+    }
+
+    /// Whether a heading has not been met yet; from then on it has.
+    fn new_heading(&mut self, heading: &[u8]) -> bool {
+        !self.shared.headings.contains(heading) && self.own.headings.insert(heading.to_vec())
+    }
+
+    /// A heading that has not been met yet, with its pointer.
+    fn heading(&mut self, section: &str, first: bool) -> Vec<u8> {
         loop {
-            let pointer = if self.random.once_in(2) { b' ' } else { self.random.one(&pointers) };
-            let heading = format!("{:10}{}", word(self.random), char::from(pointer)).into_bytes();
-            let known = self.shared.headings.contains(&heading) || self.own.headings.contains(&heading);
+            let word = if self.random.once_in(8) { self.random.one(&SINGLE).into() } else { word(self.random) };
+            let heading = self.pointed(&word, section);
             let ends = first && identifier(&heading) && heading.starts_with(b"END");
-            if !known && !ends {
-                self.own.headings.insert(heading.clone());
+            if !ends && self.new_heading(&heading) {
                 return heading;
             }
         }
+    }
+
+    /// The headings of a table, all new; now and then one that may repeat stands on several columns.
+    fn headings(&mut self, section: &str, columns: usize) -> Vec<Vec<u8>> {
+        let mut headings = Vec::new();
+        while headings.len() < columns {
+            let listed = self.random.one(&REPEATING).0;
+            if self.random.once_in(4) && repeats(listed, section) == Some(true) {
+                let heading = self.pointed(listed, section);
+                if self.new_heading(&heading) {
+                    let times = self.random.one(&[2, 2, 3, 4, 8]);
+                    headings.extend(std::iter::repeat_n(heading, times));
+                    continue;
+                }
+            }
+            headings.push(self.heading(section, headings.len() % 6 == 0));
+        }
+        headings.truncate(columns);
+        headings
     }
 
     /// A row of a table, six fields to a record.
@@ -337,7 +427,7 @@ impl Writer<'_> {
         let n1 = self.count(columns);
         let n2 = self.count(if section == "COMMON" { 3 * k } else { lines });
         self.system(section, n1, n2);
-        let headings: Vec<Vec<u8>> = (0..columns).map(|column| self.heading(section, column % 6 == 0)).collect();
+        let headings = self.headings(section, columns);
         self.row(&headings, |used, _, _| Kind::Heading { section, used });
         if section == "COMMON" {
             self.own.pointers.extend(headings.iter().map(|heading| heading[10]).filter(|&byte| byte != b' '));

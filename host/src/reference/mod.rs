@@ -2,9 +2,10 @@
 //!
 //! It is written from the paper alone and finds things in another way, so that a slip made in one is unlikely in the
 //! other. The whole entry is first laid out as a tree by nesting and counts. Then each row of the table of refusals
-//! walks the tree by itself and notes all its faults, with sets and maps for what may not occur twice; the verdict is
-//! the least of the noted faults. A number field is taken apart as text, its digits are counted by its characters, and
-//! the canonical field is found by trying the shapes of fields in the paper's order of preference.
+//! walks the tree by itself and notes all its faults, with sets and maps for what may not occur twice and runs of equal
+//! neighbours for headings that may (M-101); the verdict is the least of the noted faults. A number field is taken
+//! apart as text, its digits are counted by its characters, and the canonical field is found by trying the shapes of
+//! fields in the paper's order of preference.
 
 pub mod number;
 pub mod questions;
@@ -15,7 +16,7 @@ pub mod tree;
 use crate::{Refusal, Verdict};
 pub use number::{read_number, write_number};
 pub use questions::{canonical_copy, heading, passage, unit, value};
-pub use rules::{identification_due, keyword_total};
+pub use rules::{identification_due, keyword_total, may_repeat};
 use tree::Tree;
 
 /// "An entry is 1 to 20,000 records."

@@ -2,7 +2,7 @@
 
 use super::number::{read, Reading};
 use super::record::{blank, count, digits, is_accession, is_date, is_pointer, is_word, permitted, Name, Record};
-use super::tree::{Bib, Role, Stop, Subentry, Table, Tree};
+use super::tree::{Bib, Cell, Role, Stop, Subentry, Table, Tree};
 use crate::{Totals, RECORD};
 use std::collections::BTreeSet;
 
@@ -272,16 +272,37 @@ fn words(tree: &Tree, table: &Table, notes: &mut Notes) {
     }
 }
 
+/// M-101: "The same heading and pointer may repeat for E-LVL, EN-RES, FLAG (DATA only), any word ending in -ERR or
+/// -RSL, any starting with ANG and any starting with HL (DATA only)." One of these is enough, of the word alone.
+pub fn may_repeat(place: &[u8], section: Name) -> bool {
+    let text = String::from_utf8_lossy(place);
+    let word = text.trim_end_matches(' ');
+    let only_in_data = word == "FLAG" || word.starts_with("HL");
+    let anywhere = ["E-LVL", "EN-RES"].contains(&word)
+        || ["-ERR", "-RSL"].iter().any(|ending| word.ends_with(ending))
+        || word.starts_with("ANG");
+    anywhere || (only_in_data && section == Name::Data)
+}
+
 /// Row 13: "No heading with its pointer occurs twice within the COMMON of 001, this subentry's COMMON and its DATA
-/// together." The later of two equal ones is noted. In 001 the first two are one section.
+/// together", save those that may repeat: "All equal ones must stand together and in one section only." Headings are
+/// taken in runs of equal neighbours, so a run met before stands elsewhere or apart; in a new one the first is good,
+/// and the others are if they may repeat. In 001 the first two are one section.
 fn repeated_headings(tree: &Tree, subentry: &Subentry, notes: &mut Notes) {
     let first = &tree.subentries[0];
     let mut met = BTreeSet::new();
     if subentry.opening != first.opening {
         met.extend(first.common.iter().flat_map(|table| table.headings(tree)).map(|cell| cell.bytes));
     }
-    for cell in subentry.tables().flat_map(|table| table.headings(tree)) {
-        notes.check(met.insert(cell.bytes), 13, cell.record, cell.first_column());
+    for table in subentry.tables() {
+        let headings: Vec<Cell> = table.headings(tree).collect();
+        for run in headings.chunk_by(|left, right| left.bytes == right.bytes) {
+            let new = met.insert(run[0].bytes);
+            let listed = may_repeat(run[0].word(), table.name);
+            for (place, cell) in run.iter().enumerate() {
+                notes.check(new && (place == 0 || listed), 13, cell.record, cell.first_column());
+            }
+        }
     }
 }
 

@@ -72,7 +72,7 @@ static size_t mutate(size_t n) {
     static const char likely[] = " 0123456789+-.EA\n";
     for (size_t times = below(4); times > 0 && n > RECORD; times--) {
         size_t records = n / RECORD, at = below(n), a = below(records) * RECORD, b = below(records) * RECORD;
-        switch (below(8)) {
+        switch (below(9)) {
         case 0: work[at] = (uint8_t)bits(); break;
         case 1: work[at] = (uint8_t)likely[below(sizeof likely - 1)]; break;
         case 2: memmove(work + a, work + b, RECORD); break;
@@ -85,6 +85,7 @@ static size_t mutate(size_t n) {
             break;
         case 5: memcpy(work + a + 11 * below(6), names[below(sizeof names / sizeof *names)], 11); break;
         case 6: n = below(6) ? n - RECORD : at; break;
+        case 7: memmove(work + a + 11 * below(6), work + a + 11 * below(6), 11); break; /* a heading repeated */
         default: work[at] ^= (uint8_t)(1u << below(8)); break;
         }
     }

@@ -2,7 +2,7 @@ use Rattle.laws.proofs.Members.{look-done, look-found, look-next, Look, look-al
 use Prim.Native.Nat.{_-_}
 use Rattle.laws.specs.Members.{anyOf}
 use Rattle.rules_pointers.specs.Pointers.{headingPointerAt, headingPointers}
-use Rattle.rules_section.specs.Headings.{headingsIn}
+use Rattle.rules_earlier.specs.Earlier.{headingsIn}
 use borrow.Author.Tests.{eq-eqb, ne-eqb}
 use lib.Dec.{eqb}
 use mathlib.Core.Path.{_≡_}
@@ -12,7 +12,7 @@ use Rattle.rules_pointers.proofs.pointers.heading_pointer_in.Statement.
 use Rattle.rules_pointers.proofs.pointers.heading_pointer_in.Tie as tie
 use Rattle.rules_pointers.proofs.pointers.heading_pointer_in.Reads as reads
 use Rattle.rules_pointers.proofs.pointers.heading_pointer_in.Lts as lts
-use Rattle.rules_section.proofs.headings.headings_in.Reads as headings-in-reads
+use Rattle.rules_earlier.proofs.earlier.headings_in.Reads as headings-in-reads
 
 abbrev Inv-loop : tie.InvT-loop
 Inv-loop part pointer n m₀ m =

@@ -1,7 +1,7 @@
 use Prim.Native.Nat.{_-_, _≤_}
 use Rattle.laws.proofs.Search.{Scan, scan-all, scan-done, scan-found, scan-next}
 use Rattle.laws.specs.Search.{first}
-use Rattle.rules_section.specs.Headings.{headingRepeated}
+use Rattle.rules_repeats.specs.Repeats.{headingRepeated}
 use mathlib.Core.Path.{_∙_, sym}
 use native.Mathlib.Omega.{arith}
 use borrow.Author.Needs.{needs}
@@ -9,16 +9,16 @@ use Rattle.rules_section.proofs.headings.repeated_at.Statement.{stateme
 use Rattle.rules_section.proofs.headings.repeated_at.Tie as tie
 use Rattle.rules_section.proofs.headings.repeated_at.Reads as reads
 use Rattle.rules_section.proofs.headings.repeated_at.Lts as lts
-use Rattle.rules_section.proofs.headings.equal_heading.Reads as equal-heading-reads
-use Rattle.rules_section.proofs.headings.is_found.Reads as is-found-reads
+use Rattle.rules_earlier.proofs.earlier.equal_heading.Reads as equal-heading-reads
+use Rattle.rules_repeats.proofs.repeats.is_clash.Reads as is-clash-reads
 
 abbrev Inv-loop : tie.InvT-loop
-Inv-loop common001 common table here n fs k₀ k =
-    (n ≤ 6) × Scan (headingRepeated common001 common table here fs)
-    (first (headingRepeated common001 common table here fs) 0 n) k n
+Inv-loop in-data common001 common table here n fs k₀ k =
+    (n ≤ 6) × Scan (headingRepeated in-data common001 common table here fs)
+    (first (headingRepeated in-data common001 common table here fs) 0 n) k n
 
 abbrev μ-loop : tie.MeasureT-loop
-μ-loop common001 common table here n fs k₀ k = n - k
+μ-loop in-data common001 common table here n fs k₀ k = n - k
 
 loop-holds : tie.Need-loop-holds Inv-loop μ-loop
 loop-holds c = (c .before .before .before .before .pre .1, scan-all _)
@@ -32,13 +32,13 @@ array-copy-out-f c = search needs
 equal-heading-requires : tie.Need-equal-heading-requires Inv-loop μ-loop
 equal-heading-requires c κs = (c .before .before .before .before .before .before .before .pre .0, omega arith)
 
-is-found-requires : tie.Need-is-found-requires Inv-loop μ-loop
-is-found-requires c κs = search needs
+is-clash-requires : tie.Need-is-clash-requires Inv-loop μ-loop
+is-clash-requires c κs = omega arith
 
 returns : tie.Need-returns Inv-loop μ-loop
 returns c =
     scan-found (c .before .before .before .before .before .loop .inv .1) (omega arith)
-    (rw (← c .before .before .equal-heading .ensures) (sym (c .before .is-found .ensures) ∙ c .if1 .taken))
+    (rw (← c .before .before .equal-heading .ensures) (sym (c .before .is-clash .ensures) ∙ c .if1 .taken))
 
 add-k : tie.Need-add-k Inv-loop μ-loop
 add-k c = search needs
@@ -50,7 +50,7 @@ loop-again : tie.Need-loop-again Inv-loop μ-loop
 loop-again c = (
   c .before .before .before .before .before .loop .inv .0,
   scan-next (c .before .before .before .before .before .loop .inv .1) (omega arith)
-      (rw (← c .before .before .equal-heading .ensures) (sym (c .before .is-found .ensures) ∙ c .if1 .left)),
+      (rw (← c .before .before .equal-heading .ensures) (sym (c .before .is-clash .ensures) ∙ c .if1 .left)),
 )
 
 returns-2 : tie.Need-returns-2 Inv-loop μ-loop
@@ -66,7 +66,7 @@ repeated-at-spec =
     mul-f
     array-copy-out-f
     equal-heading-requires
-    is-found-requires
+    is-clash-requires
     returns
     add-k
     loop-less

@@ -1,3 +1,6 @@
+use Prim.Native.Nat.{ℕ}
+use mathlib.Core.Path.{_∙_, ap}
+use Rattle.rules_roles.specs.Fault.{columnAt, fieldColumn}
 use Rattle.rules_roles.proofs.Leftmost.{leftmost-where}
 use Rattle.rules_section.specs.Headings.{rule13}
 use borrow.Author.Tests.{not-false, not-true}
@@ -7,10 +10,10 @@ use Rattle.rules_section.proofs.headings.rule13.Tie as tie
 use Rattle.rules_section.proofs.headings.rule13.Reads as reads
 use Rattle.rules_section.proofs.headings.rule13.Lts as lts
 use Rattle.rules_roles.proofs.fault.field_column.Reads as field-column-reads
-use Rattle.rules_section.proofs.headings.repeated_at.Reads as repeated-at-reads
-use Rattle.rules_roles.proofs.roles.is_heading.Reads as is-heading-reads
-use Rattle.rules_state.proofs.state.Track.used.Reads as used-reads
 use Rattle.rules_roles.proofs.ranging.part.Reads as part-reads
+use Rattle.rules_roles.proofs.roles.is_heading.Reads as is-heading-reads
+use Rattle.rules_section.proofs.headings.repeated_at.Reads as repeated-at-reads
+use Rattle.rules_state.proofs.state.Track.used.Reads as used-reads
 
 is-heading-requires : tie.Need-is-heading-requires
 is-heading-requires c κs = search needs
@@ -42,18 +45,19 @@ field-column-requires c κs = search needs
 returns-2 : tie.Need-returns-2
 unfolding rule13
 returns-2 c =
+    let c1 = c .before .before .before .before .before .before .before .before .before in
     rw (
-      ← c .before .before .before .before .before .before .before .before .before .before .is-heading .ensures,
-      not-false (c .before .before .before .before .before .before .before .before .before .before .is-heading .result)
-          (c .before .before .before .before .before .before .before .before .before .if1 .left),
+      ← c1 .before .is-heading .ensures,
+      not-false (c1 .before .is-heading .result) (c1 .if1 .left),
       leftmost-where,
       ← c .before .before .before .before .before .used .ensures .0,
       ← c .before .before .before .before .part .ensures,
       ← c .before .before .before .part2 .ensures,
       ← c .before .before .part3 .ensures,
-      ← c .before .repeated-at .ensures,
     )
-    (c .field-column .ensures)
+    (c .field-column .ensures
+    ∙ ap (λ (k : ℕ). columnAt fieldColumn k (c .before .before .before .before .before .used .result))
+    (c .before .repeated-at .ensures))
 
 pub rule13-spec : {M : Type 1} → statement M
 rule13-spec =

@@ -1,0 +1,2 @@
+pub mod Repeats
+pub mod PlainRepeats

@@ -1,0 +1,2 @@
+// Headings that may repeat.
+pub mod repeats;

@@ -1,0 +1,2 @@
+// The search for an earlier heading that is equal.
+pub mod earlier;
