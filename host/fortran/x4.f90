@@ -1,5 +1,5 @@
 ! The functions of the proved archives (rt staticlib) for Fortran. The numbers are document 01's; the count of digits is
-! that of document 02, M-104.
+! that of document 02, M-104, and refusal 17, a flag with an exponent or one that equals no code, that of M-105.
 !
 ! A call returns a word, 0 where it is answered, and then stores what it answers in an array that is lent to it:
 ! totals(4) are subentries, keywords, DATA lines, numbers; value(8) are kind (0 blank, 1 number), 1 if below zero,
@@ -40,7 +40,7 @@ module x4
     character(kind=c_char) :: pointer = ' '
   end type x4_part
 
-  ! The verdict on an entry: the seven numbers.
+  ! The verdict on an entry: the seven numbers; a refusal is 1 to 17.
   type :: x4_verdict
     integer(c_int32_t) :: refusal = 0, place = 0, column = 0
     integer(c_int32_t) :: subentries = 0, keywords = 0, lines = 0, numbers = 0
@@ -190,7 +190,8 @@ contains
     p = part_in(word, numbers)
   end function x4_ask_passage
 
-  ! Stores the canonical copy in the front of a text that is as long as the entry or longer.
+  ! Stores the canonical copy in the front of a text that is as long as the entry or longer. Columns under FLAG and
+  ! DECAY-FLAG stay as they were.
   function x4_copied(entry, copy) result(r)
     character(len=*, kind=c_char), intent(in) :: entry
     character(len=*, kind=c_char), intent(inout) :: copy

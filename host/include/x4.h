@@ -2,7 +2,7 @@
  *
  * A slice of bytes is a pointer and a length. Every call answers for every argument: nothing has to be tested before,
  * but a pointer must be that of so many bytes or numbers. The numbers are document 01's; the count of digits is that of
- * document 02, M-104.
+ * document 02, M-104, and refusal 17 that of M-105.
  *
  * A call returns a word, 0 where it is answered, and then stores what it answers in the array that is lent to it, as
  * long as its parameter says. A refused call stores nothing.
@@ -40,7 +40,8 @@ extern "C" {
 
 uint32_t x4_version(void);
 
-/* The verdict on an entry: its totals, or refusal 1 to 16 with its record and column. */
+/* The verdict on an entry: its totals, or refusal 1 to 17 with its record and column. 17 is a number under FLAG or
+ * DECAY-FLAG with an exponent, or one under FLAG that equals no code under the keyword FLAG. */
 uint64_t x4_judge(const uint8_t *entry, size_t length, uint64_t totals[4]);
 
 /* The value in a line and a column of section 1 (COMMON, line 1 only) or 2 (DATA) of a subentry, and the count of its
@@ -60,8 +61,8 @@ uint64_t x4_unit(const uint8_t *entry, size_t length, uint32_t subentry, uint32_
 uint64_t x4_passage(const uint8_t *entry, size_t length, uint32_t subentry, const uint8_t *keyword,
                     size_t keyword_length, uint8_t pointer, uint64_t part[3]);
 
-/* Stores the canonical copy in the front of a buffer that does not overlap the entry. Refusals: 31, 37 buffer shorter
- * than the entry. */
+/* Stores the canonical copy in the front of a buffer that does not overlap the entry; columns under FLAG and DECAY-FLAG
+ * stay as they were. Refusals: 31, 37 buffer shorter than the entry. */
 uint64_t x4_copy(const uint8_t *entry, size_t length, uint8_t *out, size_t out_length);
 
 /* What a number field says, and the count of its digits. Refusals: 40 not eleven bytes, 15 malformed. */

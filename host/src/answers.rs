@@ -24,7 +24,7 @@ pub struct Totals {
 /// Why an entry is not accepted, and where: the paper's number, record and column.
 #[derive(Clone, Copy, Debug, PartialEq, Eq, Hash)]
 pub struct Refusal {
-    /// 1 to 16, from the paper's table of refusals.
+    /// 1 to 17, from the paper's table of refusals.
     pub number: u32,
     /// The record, from 1. It is 0 with number 1, and one past the last record with number 16.
     pub record: u32,
@@ -52,6 +52,7 @@ impl Refusal {
             14 => "the pointer of the DATA heading is not found",
             15 => "the value is malformed, or blank where it may not be",
             16 => "the records end before ENDENTRY",
+            17 => "the number under FLAG or DECAY-FLAG has an exponent, or that under FLAG equals no code",
             _ => "the paper has no such refusal",
         }
     }

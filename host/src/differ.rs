@@ -281,20 +281,23 @@ fn same<T: PartialEq + fmt::Debug>(asked: &str, one: &T, other: &T) -> Result<()
     }
 }
 
-/// An input: a valid entry, one damaged by a known cause, often by a repeated heading, one with noise, or bytes.
+/// An input: a valid entry, one damaged by a known cause, often by a repeated heading or a flag, one with noise, or bytes.
 fn input(random: &mut Random) -> Sheet {
     let mut sheet = generate::entry(random);
-    let kind = random.below(11);
+    let kind = random.below(16);
     match kind {
-        0 | 1 => {}
-        2..=7 => {
-            let wanted = |cause: &usize| kind < 7 || CAUSES[*cause].0.starts_with("13 ");
+        0..=4 => {}
+        5..=12 => {
+            let wanted = |cause: &usize| match kind {
+                11 => CAUSES[*cause].0.starts_with("13 "),
+                12 => CAUSES[*cause].0.starts_with("17 "),
+                _ => true,
+            };
             let causes: Vec<usize> = (0..CAUSES.len()).filter(wanted).collect();
             let cause = random.one(&causes);
-            // Where the entry has no place for the cause, it stays valid.
-            let _ = generate::damage(random, &mut sheet, cause);
+            sheet = generate::damaged(random, cause).0;
         }
-        8 | 9 => generate::noise(random, &mut sheet),
+        13 | 14 => generate::noise(random, &mut sheet),
         _ => sheet = Sheet { bytes: generate::random_bytes(random), kinds: Vec::new() },
     }
     sheet

@@ -3,10 +3,12 @@
 //! The number, record and column come from judging. The words are made here, from the entry laid out by the reference.
 
 use crate::answers::counted;
+use crate::reference::flags::{codes, without_zeros_before, Codes, FlagFault, FlagHeading};
 use crate::reference::record::{blank, is_pointer, is_word, Name, Record};
 use crate::reference::tree::{Cell, Role, Stop, Subentry, Table, Tree};
 use crate::reference::{identification_due, keyword_total, may_repeat};
 use crate::{Refusal, RECORD};
+use std::collections::BTreeSet;
 
 /// What can be said of a refusal.
 #[derive(Clone, Debug, PartialEq, Eq)]
@@ -42,9 +44,12 @@ pub fn explain(entry: &[u8], refusal: &Refusal) -> Explanation {
         13 => (case.other_heading(), case.field()),
         14 => (case.known_pointer(), case.field()),
         15 => (case.value(), case.field()),
+        17 => (case.flag(), case.field()),
         _ => (case.due_record(), "the end of the input".into()),
     };
-    Explanation { expected, found, note: note(entry, refusal) }
+    // Where the entry is laid out otherwise than judging took it, the refusal's own words are left.
+    let expected = if expected.is_empty() { format!("not this: {}", refusal.meaning()) } else { expected };
+    Explanation { expected, found, note: case.flag_note(refusal).or_else(|| note(entry, refusal)) }
 }
 
 /// The record of a refusal as compilers of programs show a line: its number, its text, and a mark under the column.
@@ -158,7 +163,7 @@ impl<'t, 'a> Case<'t, 'a> {
     /// The refused field of a table.
     fn cell(&self) -> Option<Cell<'a>> {
         let table = self.table()?;
-        let row = (self.at - table.opening - 1) / table.records_per_line();
+        let row = self.at.checked_sub(table.opening + 1)? / table.records_per_line();
         let mut cells = table.cells(self.tree, row);
         cells.find(|cell| cell.record == self.at && cell.field == (self.column - 1) / 11)
     }
@@ -335,7 +340,7 @@ impl<'t, 'a> Case<'t, 'a> {
     /// Refusal 14.
     fn known_pointer(&self) -> String {
         let first = self.tree.subentries.first();
-        let mut known = std::collections::BTreeSet::new();
+        let mut known = BTreeSet::new();
         for place in first.into_iter().chain(self.subentry()) {
             if let Some(bib) = &place.bib {
                 known.extend(self.tree.records[bib.text.clone()].iter().map(|record| record.pointer()));
@@ -360,6 +365,62 @@ impl<'t, 'a> Case<'t, 'a> {
                   field: a sign and digits, or E and digits"
                 .into(),
         }
+    }
+
+    /// The flag heading over the refused number, and what is wrong with the number.
+    fn flag_fault(&self) -> Option<(FlagHeading, FlagFault)> {
+        let (subentry, table, cell) = (self.subentry()?, self.table()?, self.cell()?);
+        let heading = FlagHeading::of(&table.headings(self.tree).nth(cell.column - 1)?)?;
+        Some((heading, Codes::of(self.tree, subentry).fault(heading, cell.bytes)?))
+    }
+
+    /// Refusal 17.
+    fn flag(&self) -> String {
+        match self.flag_fault() {
+            Some((_, FlagFault::Exponent)) => "a number without exponent".into(),
+            Some((_, FlagFault::NoCode)) => self.coded(),
+            None => String::new(),
+        }
+    }
+
+    /// Where no code is equal: the codes that there are, equal ones once, the first twelve of them.
+    fn coded(&self) -> String {
+        let mut codes = self.subentry().map(|subentry| codes(self.tree, subentry)).unwrap_or_default();
+        let mut met = BTreeSet::new();
+        codes.retain(|digits| met.insert(without_zeros_before(digits)));
+        let listed = codes.iter().take(12).map(|digits| code_text(digits)).collect::<Vec<_>>().join(", ");
+        match codes.len() {
+            0 => "a number that equals a code under FLAG; there is none".into(),
+            1 => format!("a number that equals the code under FLAG: {listed}"),
+            2..=12 => format!("a number that equals one of the codes under FLAG: {listed}"),
+            many => format!("a number that equals one of the codes under FLAG: {listed} and {} more", many - 12),
+        }
+    }
+
+    /// The rule that a flag breaks.
+    fn flag_note(&self, refusal: &Refusal) -> Option<String> {
+        if refusal.number != 17 {
+            return None;
+        }
+        let (heading, fault) = self.flag_fault()?;
+        Some(match fault {
+            FlagFault::Exponent => format!("a number under {} has no exponent", heading.spelling()),
+            FlagFault::NoCode => CODE.into(),
+        })
+    }
+}
+
+/// How a code is written.
+const CODE: &str =
+    "a code is ( in column 12, one digit at least, a point and ), as in (2.), under the keyword FLAG of \
+                    this subentry or of 001";
+
+/// A code, and of one of more than twenty digits the first and last eight.
+fn code_text(digits: &[u8]) -> String {
+    let text = String::from_utf8_lossy(digits);
+    match text.len() {
+        0..=20 => format!("({text}.)"),
+        length => format!("({}..{}.)", &text[..8], &text[length - 8..]),
     }
 }
 

@@ -1,11 +1,11 @@
 //! Reads one EXFOR entry, from ENTRY to ENDENTRY: judges it, answers questions about its tables and passages,
 //! reads and writes number fields, and copies the entry canonically.
 //!
-//! "The paper" is document 01, `Build requirements and exact rules`, with two requests of document 02: M-104, the count
-//! of digits, and M-101, headings that may repeat. Its numbers are kept: a refusal here has the number that the paper
-//! gives it, records, lines and columns count from 1, and an accepted entry has the paper's four totals. Programs call
-//! [`library`]; [`reference`] is a second implementation, written from the paper alone, which the tests hold against
-//! the first.
+//! "The paper" is document 01, `Build requirements and exact rules`, with three requests of document 02: M-104, the
+//! count of digits, M-101, headings that may repeat, and M-105, a number under FLAG equals a code. Its numbers are kept:
+//! a refusal here has the number that the paper gives it, records, lines and columns count from 1, and an accepted entry
+//! has the paper's four totals. Programs call [`library`]; [`reference`] is a second implementation, written from the paper
+//! alone, which the tests hold against the first.
 //!
 //! ```
 //! use glockenbeacon::{library, Value, Verdict, DATA};

@@ -58,7 +58,8 @@ pub fn passage(entry: &[u8], subentry: u32, keyword: &[u8], pointer: u8) -> Resu
     archives_or_reference::passage(entry, subentry, keyword, pointer)
 }
 
-/// Writes the canonical copy of the entry to the front of the buffer. Refused, it stores nothing.
+/// Writes the canonical copy of the entry to the front of the buffer; columns under FLAG and DECAY-FLAG stay as they
+/// were. Refused, it stores nothing.
 pub fn canonical_copy(entry: &[u8], buffer: &mut [u8]) -> Result<(), NoAnswer> {
     archives_or_reference::canonical_copy(entry, buffer)
 }

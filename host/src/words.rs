@@ -61,11 +61,11 @@ mod tests {
 
     #[test]
     fn rooms_are_where_the_table_says() {
-        let refusal = Refusal { number: 16, record: 20_001, column: 81 };
-        let beside = (16 << 8) + (81 << 16) + (20_001 << 24);
+        let refusal = Refusal { number: 17, record: 20_001, column: 81 };
+        let beside = (17 << 8) + (81 << 16) + (20_001 << 24);
         assert_eq!(answered(31 + beside), Err(NoAnswer { number: 31, entry: Some(refusal) }));
         assert_eq!((answered(0), answered(37)), (Ok(()), Err(NoAnswer::numbered(37))));
-        assert_eq!(verdict(16 + beside, [7; 4]), Verdict::Refused(refusal));
+        assert_eq!(verdict(17 + beside, [7; 4]), Verdict::Refused(refusal));
         let totals = Totals { subentries: 998, keywords: 19_993, lines: 20_000, numbers: 120_000 };
         assert_eq!(verdict(0, [998, 19_993, 20_000, 120_000]), Verdict::Accepted(totals));
         let number = |negative, coefficient, power, digits| {

@@ -1,5 +1,8 @@
 //! The library beside the reference; and slips planted on purpose, to see that they would be found.
 
+mod common;
+
+use common::flags;
 use glockenbeacon::differ::{Implementation, Library, Pair, Reference};
 use glockenbeacon::reference::may_repeat;
 use glockenbeacon::reference::record::Name;
@@ -8,7 +11,7 @@ use glockenbeacon::{reference, Decimal, FieldRead, NoAnswer, Part, Refusal, Tota
 
 /// The short run: a long one is `cargo run --release --bin differ`.
 const SEED: u64 = 7;
-const ENTRIES: u64 = 1_500;
+const ENTRIES: u64 = 3_000;
 
 #[test]
 fn the_library_and_the_reference_agree() {
@@ -18,12 +21,36 @@ fn the_library_and_the_reference_agree() {
     let outcome = outcome.and_then(|()| pair.bytes(include_bytes!("../data/sample.x4"), b" 01A.E\n#"));
     outcome.unwrap_or_else(|difference| panic!("{difference}"));
     let counts = pair.counts;
-    assert!((0..=16).all(|number| counts.verdicts.of(number) >= 5), "every refusal occurs:\n{counts}");
+    assert!((0..=17).all(|number| counts.verdicts.of(number) >= 5), "every refusal occurs:\n{counts}");
     for number in [0, 31, 32, 33, 34, 35, 36, 37] {
         assert!(counts.answers.of(number) >= 100, "every answer occurs:\n{counts}");
     }
     assert!([0, 15, 40].iter().all(|&number| counts.readings.of(number) >= 1_000), "{counts}");
     assert!([0, 40, 41].iter().all(|&number| counts.writings.of(number) >= 1_000), "{counts}");
+}
+
+/// The bytes that stand in the place of each byte of the sample with flags.
+const FOR_FLAGS: &[u8; 13] = b" 0124+-.()EFX";
+
+/// How often changed bytes of an entry are refused by 17, where the library and the reference agree.
+fn seventeens(entry: &[u8]) -> u64 {
+    let mut pair = Pair::new(&Library, &Reference);
+    pair.bytes(entry, FOR_FLAGS).unwrap_or_else(|difference| panic!("{difference}"));
+    pair.counts.verdicts.of(17)
+}
+
+/// Each byte of the sample with flags changed: its headings, codes and flags among them.
+#[test]
+fn changed_bytes_reach_flags() {
+    // One flag or more hangs on each code, so each change of a code is refused: 4 bytes of (1.) and of (2.), 5 of (10.)
+    // and of (03.), by the 12 that differ from them. Other changes come on top.
+    assert!(seventeens(&flags(&[])) > (4 + 4 + 5 + 5) * 12);
+    // DECAY-FLAG alone, over 2.510 at the end of its field: +, - or E in the place of 5 or 1 makes an exponent.
+    let decay = flags(&[(23, 23, "X-FLAG"), (23, 34, "DECAY-FLAG"), (25, 34, "      2.510")]);
+    assert_eq!(seventeens(&decay), 2 * 3);
+    for entry in [flags(&[]), decay] {
+        assert!(Pair::new(&WrongColumn(17), &Reference).bytes(&entry, FOR_FLAGS).is_err(), "goes unseen");
+    }
 }
 
 /// A slip is found by the same short run.

@@ -2,13 +2,15 @@
 //! gives for it, and canonical copies have the properties that the paper asks for.
 
 use glockenbeacon::explain::{explain, shown};
-use glockenbeacon::generate::{self, damage, Kind, Random, Shape, CAUSES, SHAPES};
+use glockenbeacon::generate::{self, damage, damaged, Kind, Random, Shape, CAUSES, SHAPES};
 use glockenbeacon::library::{canonical_copy, heading, judge, read_number, unit, value, write_number};
+use glockenbeacon::reference::flags::{Codes, FlagHeading};
 use glockenbeacon::reference::number::{canonical_text, read, Reading};
-use glockenbeacon::reference::tree::{Cell, Tree};
+use glockenbeacon::reference::tree::{Cell, Subentry, Tree};
 use glockenbeacon::tables::tables;
-use glockenbeacon::{Decimal, FieldRead, Refusal, Totals, Value, Verdict, COMMON, DATA};
+use glockenbeacon::{Decimal, FieldRead, Refusal, Totals, Value, Verdict, COMMON, DATA, RECORD};
 use std::collections::{BTreeMap, BTreeSet};
+use std::ops::Range;
 
 const SEED: u64 = 20_240_105;
 
@@ -28,7 +30,39 @@ fn valid_entries_are_accepted_and_copied() {
         let mut again = copy.to_vec();
         canonical_copy(copy, &mut again).expect("a copy is copied");
         assert_eq!(again, copy, "a copy is its own copy");
+        let mut due = entry.clone();
+        for number in number_fields(entry) {
+            let Ok(FieldRead { value: Value::Number(decimal), .. }) = read_number(&entry[number.clone()]) else {
+                continue;
+            };
+            write_number(decimal, &mut due[number]).expect("a number that was read is written");
+        }
+        assert!(
+            copy == due,
+            "canonical fields in the number fields, all else as it was: entry {number} of seed {SEED}"
+        );
     }
+}
+
+/// The places of the number fields of a valid entry: the values of COMMON and DATA, save those under FLAG and
+/// DECAY-FLAG, which "demand 3 treats as bytes outside number fields" (M-105).
+fn number_fields(entry: &[u8]) -> Vec<Range<usize>> {
+    let tree = Tree::of(entry);
+    let mut places = Vec::new();
+    for table in tree.subentries.iter().flat_map(Subentry::tables) {
+        let headings: Vec<Cell> = table.headings(&tree).collect();
+        let flag = |cell: &Cell| {
+            let word = String::from_utf8_lossy(headings[cell.column - 1].word()).to_string();
+            ["FLAG", "DECAY-FLAG"].contains(&word.trim_end())
+        };
+        for cell in (2..2 + table.lines).flat_map(|row| table.cells(&tree, row)).filter(|cell| cell.used) {
+            let first = cell.record * RECORD + 11 * cell.field;
+            if !flag(&cell) {
+                places.push(first..first + 11);
+            }
+        }
+    }
+    places
 }
 
 /// Every system record occurs, tables of one to eighteen columns in 001's COMMON, in other COMMONs and in DATA,
@@ -83,15 +117,52 @@ fn headings_repeat_in_every_way() {
     assert_eq!(words.len(), 11 + 16, "words in COMMON, and words in DATA");
 }
 
+/// Flags stand in 001's COMMON, in other COMMONs and in DATA, on each of the three records of a line, with and without a
+/// pointer, over numbers and over blanks, and have their codes in the same subentry or in 001.
+#[test]
+fn flags_are_made_in_every_way() {
+    let mut random = Random::seeded(SEED + 11);
+    let (mut ways, mut hang) = (BTreeMap::new(), BTreeMap::new());
+    for _ in 0..10_000 {
+        let entry = generate::entry(&mut random).bytes;
+        let tree = Tree::of(&entry);
+        for (subentry, table) in tree.subentries.iter().flat_map(|own| own.tables().map(move |table| (own, table))) {
+            let first = subentry.opening == 1;
+            let headings: Vec<Cell> = table.headings(&tree).collect();
+            for cell in (2..2 + table.lines).flat_map(|row| table.cells(&tree, row)).filter(|cell| cell.used) {
+                let heading = headings[cell.column - 1];
+                let Some(flag) = FlagHeading::of(&heading) else { continue };
+                let blank = cell.bytes == [b' '; 11];
+                let way = (flag, table.name, first, (cell.column - 1) / 6, heading.eleventh() != b' ', blank);
+                *ways.entry(way).or_insert(0) += 1;
+                if flag == FlagHeading::Flag && !blank {
+                    // Of a subentry alone its own codes can be asked, with no other before it.
+                    let alone = |from: &Subentry| {
+                        let own = Tree { subentries: vec![from.clone()], ..Tree::of(&entry) };
+                        Codes::of(&own, from).fault(flag, cell.bytes).is_none()
+                    };
+                    *hang.entry((table.name, alone(subentry), alone(&tree.subentries[0]))).or_insert(0) += 1;
+                }
+            }
+        }
+    }
+    // Two headings, columns 1-6, 7-12 or 13-18, with a pointer or not: in 001's COMMON and other COMMONs, which have no
+    // blanks, and in DATA over numbers and over blanks.
+    assert_eq!(ways.len(), 2 * 3 * 2 * (1 + 1 + 2), "{ways:?}");
+    assert!(ways.values().all(|&times: &i32| times >= 10), "{ways:?}");
+    // Codes of its own, of 001, of both; in COMMON also of 001 itself, whose own is the first.
+    assert_eq!(hang.len(), 3 + 3, "{hang:?}");
+    assert!(hang.values().all(|&times: &i32| times >= 20), "{hang:?}");
+}
+
 #[test]
 fn every_cause_gets_its_refusal() {
     let mut random = Random::seeded(SEED + 1);
     let mut seen: BTreeMap<&str, usize> = BTreeMap::new();
-    let mut numbers = [0; 17];
+    let mut numbers = [0; 18];
     for round in 0..100 {
         for cause in 0..CAUSES.len() {
-            let mut sheet = generate::entry(&mut random);
-            let Some(done) = damage(&mut random, &mut sheet, cause) else { continue };
+            let (sheet, Some(done)) = damaged(&mut random, cause) else { continue };
             let verdict = judge(&sheet.bytes);
             let text = String::from_utf8_lossy(&sheet.bytes).to_string();
             assert_eq!(verdict, Verdict::Refused(done.due), "{} (round {round}):\n{text}", done.cause);
@@ -247,6 +318,20 @@ fn refusals_are_explained() {
             let words = explain(&sheet.bytes, &refusal);
             assert!(!words.expected.is_empty() && !words.found.is_empty(), "{refusal}: {words:?}");
             assert_eq!(shown(&sheet.bytes, &refusal).is_some(), !matches!(refusal.number, 1 | 16));
+        }
+    }
+}
+
+/// A refusal that the reference does not see has words, too.
+#[test]
+fn an_expectation_is_never_empty() {
+    let entry = include_bytes!("../data/flags.x4");
+    for number in [8, 10, 12, 13, 15, 17] {
+        for record in 1..=30 {
+            for column in [1, 12, 23, 34, 45, 56] {
+                let words = explain(entry, &Refusal { number, record, column });
+                assert!(!words.expected.is_empty(), "{number} on record {record}, column {column}");
+            }
         }
     }
 }

@@ -2,7 +2,7 @@
 
 mod common;
 
-use common::{changed, entry, put, replaced, sample, wide, SAMPLE};
+use common::{changed, entry, flags, put, replaced, sample, wide, FLAGS, SAMPLE};
 use glockenbeacon::library::{canonical_copy, heading, judge, passage, read_number, unit, value, write_number};
 use glockenbeacon::{Decimal, FieldRead, NoAnswer, Part, Refusal, Value, COMMON, DATA};
 
@@ -178,6 +178,246 @@ fn columns_under_one_heading() {
     }
     assert_eq!(value(&bytes, 2, DATA, 2, 1), number(false, 2, 1, 2));
     assert_eq!(value(&bytes, 2, DATA, 2, 3), number(false, 25, 0, 2));
+}
+
+/// Changes of the sample with flags, and the verdict.
+type Flagged<'a> = (&'a [(usize, usize, &'a str)], &'a str);
+
+/// The sample with flags, changed, has its verdict.
+fn flags_judged(cases: &[Flagged]) {
+    for (changes, verdict) in cases {
+        assert_eq!(judged(&flags(changes)), *verdict, "{changes:?}");
+    }
+}
+
+/// What the sample with flags is judged where it is accepted.
+const GOOD: &str = "0 0 0 2 5 3 12";
+
+#[test]
+fn the_sample_with_flags_is_accepted() {
+    assert_eq!(judged(&flags(&[])), GOOD);
+    let file = concat!(env!("CARGO_MANIFEST_DIR"), "/data/flags.x4");
+    assert_eq!(std::fs::read(file).expect("the sample with flags as a file"), flags(&[]));
+}
+
+/// M-105: "numbers under a FLAG heading must be repeated as codes under the keyword FLAG". The heading is a word, with any
+/// pointer or none.
+#[test]
+fn flags_have_codes() {
+    flags_judged(&[
+        (&[], GOOD),
+        (&[(25, 34, "4.")], "17 25 34 0 0 0 0"),
+        (&[(25, 23, "4."), (25, 34, "4.")], "17 25 23 0 0 0 0"),
+        (&[(26, 23, "4.")], "17 26 23 0 0 0 0"),
+        (&[(23, 44, "1"), (25, 34, "4.")], "17 25 34 0 0 0 0"),
+        (&[(23, 34, "FLAG1"), (25, 34, "4.")], GOOD),
+        (&[(23, 34, "LVL-FLAG"), (25, 34, "       4.-1")], GOOD),
+        (&[(23, 34, "flag"), (25, 34, "4.")], GOOD),
+    ]);
+}
+
+/// "under FLAG in this subentry or 001": from the keyword to the next, whatever the pointers.
+#[test]
+fn codes_stand_under_flag() {
+    flags_judged(&[
+        (&[(25, 34, "10.")], GOOD),
+        (&[(23, 44, "1"), (25, 34, "3.")], GOOD),
+        (&[(17, 11, "2")], GOOD),
+        (&[(6, 1, "FLAGS")], "17 25 23 0 0 0 0"),
+        (&[(17, 1, "FLAGS")], "17 25 34 0 0 0 0"),
+        (&[(17, 1, "FLA ")], "17 25 34 0 0 0 0"),
+        (&[(6, 12, "(2.)")], "17 25 23 0 0 0 0"),
+        // STATUS takes the code 3. and its passage with pointer 1 the code 10.
+        (&[(15, 22, "3"), (18, 1, "STATUS")], "17 26 23 0 0 0 0"),
+        // A code before the keyword FLAG is none.
+        (&[(16, 12, "(4.)"), (25, 34, "4.")], "17 25 34 0 0 0 0"),
+    ]);
+}
+
+/// "this subentry or 001": both together; no other subentry; for the COMMON of 001 it is 001 alone.
+#[test]
+fn codes_of_this_subentry_or_001() {
+    flags_judged(&[
+        (&[(9, 1, "FLAG"), (11, 1, "1. ")], "13 23 23 0 0 0 0"),
+        (&[(9, 1, "FLAG      1"), (11, 1, "1. ")], GOOD),
+        (&[(9, 1, "FLAG      1"), (11, 1, "2. ")], "17 11 1 0 0 0 0"),
+        (&[(9, 1, "FLAG      1"), (11, 1, "       1.+0")], "17 11 1 0 0 0 0"),
+    ]);
+    let third = |bib: &str, between: usize, value: &str| {
+        let more = format!(
+            "SUBENT        90001003   20240105\n{bib}COMMON               1          3\nFLAG\nNO-DIM\n{value}\n\
+             ENDCOMMON            3\nNODATA\nENDSUBENT            {between}\nENDENTRY             3\n"
+        );
+        judged(&entry(&FLAGS.replace("ENDENTRY             2\n", &more)))
+    };
+    assert_eq!(third("NOBIB\n", 7, "1."), "0 0 0 3 5 3 13", "the code of 001");
+    assert_eq!(third("NOBIB\n", 7, "2."), "17 35 1 0 0 0 0", "a code of 002");
+    let bib = "BIB                  1          1\nFLAG       (4.)\nENDBIB               1\n";
+    assert_eq!(third(bib, 9, "4."), "0 0 0 3 6 3 13", "its own code");
+    assert_eq!(third(bib, 9, "2."), "17 37 1 0 0 0 0", "a code of 002");
+    let later = FLAGS.replace("ENDENTRY             2\n", "SUBENT        90001003   20240105\n");
+    let later = later + bib + "NOCOMMON\nNODATA\nENDSUBENT            5\nENDENTRY             3\n";
+    let mut bytes = entry(&later);
+    assert_eq!(judged(&bytes), "0 0 0 3 6 3 12");
+    put(&mut bytes, 25, 34, "4.");
+    assert_eq!(judged(&bytes), "17 25 34 0 0 0 0", "a code of 003 for 002");
+}
+
+/// "A code is an opening parenthesis in column 12, digits, a point, a closing parenthesis": what follows is text, one
+/// code stands on a record, and anything else is no code and no fault.
+#[test]
+fn what_a_code_is() {
+    for text in ["(2)", "(2.", "( 2.)", "(2. )", "(2.0)", "(+2.)", "(-2.)", "2.)", "((2.)", "(2,)", " (2.)", "(1.)(2.)"]
+    {
+        assert_eq!(judged(&flags(&[(17, 12, &format!("{text:12}"))])), "17 25 34 0 0 0 0", "{text}");
+    }
+    for text in ["(2.)X", "(2.)(1.)", "(002.)", "(2.)."] {
+        assert_eq!(judged(&flags(&[(17, 12, &format!("{text:12}"))])), GOOD, "{text}");
+    }
+    flags_judged(&[
+        (&[(17, 12, "(.)"), (25, 34, "0.")], "17 25 34 0 0 0 0"),
+        (&[(17, 12, "(0.)"), (25, 34, "0.")], GOOD),
+        // Columns 13 to 64 are digits, the parenthesis stands in column 66; one digit more, and it has no place.
+        (&[(17, 12, &format!("({:0>52}.)", 2))], GOOD),
+        (&[(17, 12, &format!("({:0>53}.", 2))], "17 25 34 0 0 0 0"),
+    ]);
+}
+
+/// "it matches by exact value", of any size.
+#[test]
+fn flags_match_by_exact_value() {
+    for (code, flag) in [
+        ("2", "2."),
+        ("2", "+2."),
+        ("2", "02.0"),
+        ("002", "2.000"),
+        ("0", "-.0"),
+        ("000", "0."),
+        ("1000", "1000."),
+        ("4294967298", "4294967298."),
+        ("9999999999", "9999999999."),
+    ] {
+        let bytes = flags(&[(17, 12, &format!("({code}.)")), (25, 34, &format!("{flag:11}"))]);
+        assert_eq!(judged(&bytes), GOOD, "{code} and {flag}");
+    }
+    for (code, flag) in [
+        ("2", "-2."),
+        ("2", "2.5"),
+        ("2", ".2"),
+        ("20", "2."),
+        ("5", "0."),
+        ("4294967298", "2."),
+        ("18446744073709551618", "2."),
+        ("36893488147419103234", "2."),
+        ("340282366920938463463374607431768211458", "2."),
+        ("99999999990", "9999999999."),
+        ("10000000000000000000000000000000000000000000000002", "2."),
+    ] {
+        let bytes = flags(&[(17, 12, &format!("({code}.)")), (25, 34, &format!("{flag:11}"))]);
+        assert_eq!(judged(&bytes), "17 25 34 0 0 0 0", "{code} and {flag}");
+    }
+}
+
+/// "A non-blank FLAG or DECAY-FLAG value, in COMMON or DATA, must have no exponent": none is written, be it zero.
+/// DECAY-FLAG needs no code, and a blank asks nothing.
+#[test]
+fn flags_have_no_exponent() {
+    flags_judged(&[
+        (&[(25, 23, "       1.+0")], "17 25 23 0 0 0 0"),
+        (&[(25, 23, "    1. E 00")], "17 25 23 0 0 0 0"),
+        (&[(25, 23, "       1.E0")], "17 25 23 0 0 0 0"),
+        (&[(27, 23, "       1.+1")], "17 27 23 0 0 0 0"),
+        (&[(23, 34, "DECAY-FLAG"), (25, 34, "77.5")], GOOD),
+        (&[(23, 34, "DECAY-FLAG"), (25, 34, "-77.5")], GOOD),
+        (&[(23, 34, "DECAY-FLAG"), (25, 34, "       2.-0")], "17 25 34 0 0 0 0"),
+        (&[(23, 34, "DECAY-FLAG1"), (27, 34, "      +1.+0")], "17 27 34 0 0 0 0"),
+        (&[(23, 34, "DECAY-DATA"), (25, 34, "       2.-0")], GOOD),
+        (&[(9, 1, "DECAY-FLAG"), (11, 1, "      14.E0")], "17 11 1 0 0 0 0"),
+    ]);
+    let none =
+        FLAGS.replace("FLAG       (", "STATUS     (").replace("1.         2.", "").replace("0.140      3.", "0.140");
+    assert_eq!(
+        judged(&entry(&none.replace("0110.0       +01.", "01"))),
+        "0 0 0 2 5 3 7",
+        "blank flags need no keyword"
+    );
+    let alone = flags(&[(26, 1, &" ".repeat(22))]);
+    assert_eq!(judged(&alone), "0 0 0 2 5 3 10", "a flag is a number of its line");
+}
+
+/// "on the value record after 15, column as for 15": 15 anywhere on the record comes first.
+#[test]
+fn flags_come_after_15() {
+    flags_judged(&[
+        (&[(25, 1, "10"), (25, 3, " "), (25, 34, "4.")], "15 25 1 0 0 0 0"),
+        (&[(25, 23, "1 "), (25, 34, "4.")], "15 25 23 0 0 0 0"),
+        (&[(25, 23, "4."), (25, 34, "2 ")], "15 25 34 0 0 0 0"),
+        (&[(25, 23, "4."), (25, 45, "2.")], "15 25 45 0 0 0 0"),
+        (&[(25, 34, "4."), (26, 1, "X")], "17 25 34 0 0 0 0"),
+        (&[(25, 1, "X"), (26, 23, "4.")], "15 25 1 0 0 0 0"),
+        (&[(25, 34, "4."), (28, 12, "          4")], "17 25 34 0 0 0 0"),
+    ]);
+}
+
+/// A column of the table is not a field of a record: with seven columns the seventh has its own heading.
+#[test]
+fn flags_past_the_sixth_column() {
+    let mut seven = wide(7);
+    put(&mut seven, 15, 1, "FLAG      1(1.)");
+    put(&mut seven, 21, 1, "FLAG");
+    assert_eq!(judged(&seven), "17 25 1 0 0 0 0", "1.07 equals no code");
+    put(&mut seven, 25, 1, "1.00");
+    assert_eq!(judged(&seven), "17 27 1 0 0 0 0", "nor does 2.07");
+    put(&mut seven, 27, 1, "    ");
+    assert_eq!(judged(&seven), "0 0 0 2 3 2 14");
+    let mut seven = wide(7);
+    put(&mut seven, 20, 1, "FLAG");
+    put(&mut seven, 24, 1, "    ");
+    put(&mut seven, 26, 1, "    ");
+    assert_eq!(judged(&seven), "0 0 0 2 3 2 13", "the seventh column is none where the first is one");
+}
+
+/// With thirteen columns a line has three records, 26-28 and 29-31; column 13 stands alone on the third.
+#[test]
+fn flags_past_the_twelfth_column() {
+    let mut thirteen = wide(13);
+    put(&mut thirteen, 15, 1, "FLAG      1(1.)");
+    put(&mut thirteen, 22, 1, "FLAG");
+    assert_eq!(judged(&thirteen), "17 28 1 0 0 0 0", "1.13 equals no code");
+    put(&mut thirteen, 28, 1, "1.00");
+    assert_eq!(judged(&thirteen), "17 31 1 0 0 0 0", "nor does 2.13");
+    put(&mut thirteen, 31, 1, "    ");
+    assert_eq!(judged(&thirteen), "0 0 0 2 3 2 26");
+    put(&mut thirteen, 22, 1, "DECAY-FLAG");
+    put(&mut thirteen, 31, 1, "77.5");
+    assert_eq!(judged(&thirteen), "0 0 0 2 3 2 27", "DECAY-FLAG needs no code");
+    put(&mut thirteen, 31, 1, "       1.+0");
+    assert_eq!(judged(&thirteen), "17 31 1 0 0 0 0");
+    let mut eighteen = wide(18);
+    put(&mut eighteen, 22, 56, "FLAG");
+    assert_eq!(judged(&eighteen), "17 28 56 0 0 0 0", "1.18 equals no code");
+}
+
+/// "The copy leaves both kinds of column unaltered"; totals and questions still see the numbers.
+#[test]
+fn the_copy_leaves_flags_as_they_were() {
+    let own = flags(&[(23, 34, "DECAY-FLAG"), (26, 34, "077.50")]);
+    let mut copy = own.clone();
+    canonical_copy(&own, &mut copy).unwrap();
+    let mut due = own.clone();
+    put(&mut due, 11, 1, "        14.");
+    put(&mut due, 25, 1, "        10.       1.451.         2.");
+    put(&mut due, 26, 1, "        20.        .143.         077.50");
+    put(&mut due, 27, 1, "        30.        25.10.0       +01.");
+    assert_eq!(String::from_utf8_lossy(&copy), String::from_utf8_lossy(&due));
+    assert_eq!(judged(&copy), "0 0 0 2 5 3 13");
+    for bytes in [&own, &copy] {
+        assert_eq!(value(bytes, 2, DATA, 3, 3), number(false, 1, 1, 3), "10.0, with three digits in the copy, too");
+        assert_eq!(value(bytes, 2, DATA, 2, 4), number(false, 775, -1, 4), "077.50");
+        assert_eq!(value(bytes, 2, DATA, 3, 4), number(false, 1, 0, 1), "+01.");
+    }
+    assert_eq!(value(&own, 2, DATA, 2, 2), number(false, 14, -2, 3), "0.140");
+    assert_eq!(value(&copy, 2, DATA, 2, 2), number(false, 14, -2, 2), ".14");
 }
 
 /// Changes of several places.

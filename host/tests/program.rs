@@ -2,7 +2,7 @@
 
 mod common;
 
-use common::{changed, replaced, sample, wide, SAMPLE};
+use common::{changed, entry, flags, replaced, sample, wide, FLAGS, SAMPLE};
 use std::io::Write;
 use std::path::PathBuf;
 use std::process::{Command, Output, Stdio};
@@ -158,6 +158,73 @@ fn headings_that_may_repeat_are_named() {
         help.contains("E-LVL, EN-RES,\nwords ending in -ERR or -RSL and words starting with ANG may repeat"),
         "{help}"
     );
+}
+
+/// M-105: which of the two faults a flag has, which codes there are, and what a code is.
+#[test]
+fn flags_are_explained() {
+    let exponent = printed(&run(&["judge"], &flags(&[(25, 34, "       2.-0")])));
+    let words = "17 25 34 0 0 0 0\n\
+                 refusal 17, record 25, column 34: the number under FLAG or DECAY-FLAG has an exponent, or that under \
+                 FLAG equals no code\n";
+    assert!(exponent.starts_with(words), "{exponent}");
+    let words = "  expected: a number without exponent\n  found:    '       2.-0'\n";
+    assert!(exponent.ends_with(&format!("{words}  note:     a number under FLAG has no exponent\n")), "{exponent}");
+    let decay = printed(&run(&["judge"], &flags(&[(23, 34, "DECAY-FLAG"), (25, 34, "       2.-0")])));
+    assert!(decay.ends_with(&format!("{words}  note:     a number under DECAY-FLAG has no exponent\n")), "{decay}");
+    let missing = printed(&run(&["judge"], &flags(&[(25, 34, "4.")])));
+    let words = [
+        "  25 | 10.        1.45       1.         4.                               9000100200012",
+        "     |                                  ^~~~~~~~~~~",
+        "  expected: a number that equals one of the codes under FLAG: (1.), (2.), (03.), (10.)",
+        "  found:    '4.         '",
+        "  note:     a code is ( in column 12, one digit at least, a point and ), as in (2.), under the keyword FLAG of this \
+         subentry or of 001",
+    ];
+    let words = words.map(|line| format!("{line}\n")).concat();
+    assert!(missing.ends_with(&words), "{missing}");
+    let first = printed(&run(&["judge"], &flags(&[(6, 12, "(1)"), (9, 1, "FLAG      1")])));
+    assert!(first.starts_with("17 11 1 0 0 0 0\n"), "{first}");
+    assert!(first.contains("  expected: a number that equals a code under FLAG; there is none\n"), "{first}");
+    let one = printed(&run(&["judge"], &flags(&[(9, 1, "FLAG      1")])));
+    assert!(one.contains("  expected: a number that equals the code under FLAG: (1.)\n"), "{one}");
+    let many = (1..=14).map(|code| format!("           ({code}.)\n")).collect::<String>();
+    let many = FLAGS
+        .replace("          1(10.) WITH A POINTER\n", &many)
+        .replace("BIB                  2          4", "BIB                  2         17")
+        .replace("10.0       +01.", "99.0       +01.");
+    let many = printed(&run(&["judge"], &entry(&many.replace("ENDBIB               4", "ENDBIB              17"))));
+    // (1.), (2.) and (3.) once more are not listed.
+    let twelve = "(1.), (2.), (03.), (4.), (5.), (6.), (7.), (8.), (9.), (10.), (11.), (12.)";
+    assert!(many.contains(&format!("codes under FLAG: {twelve} and 2 more\n")), "{many}");
+    let (twenty, longest) = ("12345678901234567890", "(1234567890123456789012345678901234567890123456789052.)");
+    let long = flags(&[(17, 12, &format!("({twenty}.)")), (18, 12, longest), (19, 12, "(0010.)"), (25, 34, "10.0")]);
+    let long = printed(&run(&["judge"], &long));
+    assert!(long.starts_with("17 26 23 0 0 0 0\n"), "{long}");
+    let words = format!("codes under FLAG: (1.), ({twenty}.), (12345678..56789052.), (0010.)\n");
+    assert!(long.contains(&words), "{long}");
+    let help = printed(&run(&["help", "judge"], b""));
+    assert!(
+        help.contains("or DECAY-FLAG has no exponent. A number under FLAG equals a code: 2. equals (2.)"),
+        "{help}"
+    );
+    let json = printed(&run(&["judge", "--json"], &flags(&[(25, 34, "4.")])));
+    assert!(json.contains("\"refusal\":17,\"record\":25,\"column\":34,"), "{json}");
+}
+
+/// Flags are copied as they stand, and compared by value like other numbers.
+#[test]
+fn flags_are_copied_as_they_stand() {
+    let copy = run(&["canon"], &flags(&[])).stdout;
+    let copy = String::from_utf8(copy).unwrap();
+    let line = copy.lines().nth(26).unwrap();
+    assert!(line.starts_with("        30.        25.10.0       +01.  "), "{line}");
+    assert!(printed(&run(&["canon", "--help"], b"")).contains("Columns under FLAG and DECAY-FLAG stay as they were"));
+    let (one, other) = (file("flags-1.x4", &flags(&[])), file("flags-2.x4", &flags(&[(27, 34, "1.  ")])));
+    assert_eq!(printed(&run(&["compare", &one, &other], b"")), "same: 2 tables, 12 numbers\n");
+    let third = file("flags-3.x4", &flags(&[(27, 34, "2.  ")]));
+    let words = "subentry 90001002, DATA, line 3, column 4: first 1, second 2\n";
+    assert_eq!(printed(&run(&["compare", &one, &third], b"")), words);
 }
 
 /// A table with a heading on three columns, as document 001, V.8 prints it: the columns go by their places.

@@ -118,9 +118,10 @@ fn copied(entry: &[u8], length: usize) -> (String, Vec<u8>, usize) {
 fn entries_are_copied_as_stored() {
     let input = stored("copies", "stdin");
     let (sample, rest) = input.split_at(26 * RECORD);
-    let (larger, refused) = rest.split_at(48 * RECORD);
+    let (larger, rest) = rest.split_at(48 * RECORD);
+    let (flags, refused) = rest.split_at(33 * RECORD);
     let mut said = Vec::new();
-    for entry in [sample, larger] {
+    for entry in [sample, larger, flags] {
         let n = entry.len();
         let (answer, out, _) = copied(entry, n);
         said.extend(format!("fits {answer}\n").bytes());
@@ -145,7 +146,7 @@ fn entries_are_copied_as_stored() {
 #[test]
 fn changed_bytes_are_judged_as_stored() {
     let mut entry = stored("mutations", "stdin");
-    let (mut counts, mut sum) = ([0; 17], 0_u64);
+    let (mut counts, mut sum) = ([0; 18], 0_u64);
     let mut add = |entry: &[u8]| {
         let [refusal, record, column, ..] = reference::judge(entry).numbers();
         counts[refusal as usize] += 1;

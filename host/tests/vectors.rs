@@ -5,7 +5,7 @@ mod common;
 
 use common::say;
 use glockenbeacon::differ::{Implementation, Library, Reference};
-use glockenbeacon::{library, reference, Decimal, FieldRead, NoAnswer, Part, Value, Verdict};
+use glockenbeacon::{library, reference, Decimal, FieldRead, NoAnswer, Part, Value, RECORD};
 use std::path::PathBuf;
 
 /// Who is held against the tables.
@@ -79,41 +79,101 @@ fn same_verdict(of: &str, file: &str, numbers: &[String], how: &str) {
     }
 }
 
-/// The rows that hold with M-101 and without M-105, which is not built yet.
+/// The rows that hold with M-105, the last request that they know.
 #[test]
 fn entries_written_by_hand() {
     let Some(rows) = table("hand/index.tsv") else { return };
     let with = |rules: &str| rows.iter().filter(|row| row[1] == rules).cloned().collect::<Vec<_>>();
-    let (before, now) = (with("base"), with("101"));
+    let (base, before, now) = (with("base"), with("101"), with("105"));
     let files = |rows: &[Vec<String>]| rows.iter().map(|row| row[0].clone()).collect::<Vec<_>>();
-    assert_eq!(files(&before), files(&now), "the same entries, in the same order");
+    assert!(files(&base) == files(&now) && files(&before) == files(&now), "the same entries, in the same order");
     for row in &now {
         same_verdict("hand", &row[0], &row[2..9], &row[9]);
     }
-    let changed = before.iter().zip(&now).filter(|(one, other)| one[2..9] != other[2..9]).count();
-    assert!(changed > 0, "M-101 changes none of {}", now.len());
-    say(&format!("hand/index.tsv: {} entries, {changed} of them judged otherwise before M-101", now.len()));
+    let changed = |from: &[Vec<String>], to: &[Vec<String>]| {
+        let changed = from.iter().zip(to).filter(|(one, other)| one[2..9] != other[2..9]).count();
+        assert!(changed > 0, "a request changes none of {}", to.len());
+        changed
+    };
+    let (first, second) = (changed(&base, &before), changed(&before, &now));
+    say(&format!("hand/index.tsv: {} entries, {first} judged otherwise by M-101 and {second} by M-105", now.len()));
 }
 
-/// Generated with repeated headings: verdicts, and the copies of what is accepted.
+/// The canonical copy of an accepted entry.
+fn copy(by: &dyn Implementation, entry: &[u8], file: &str) -> Vec<u8> {
+    let mut copy = vec![b'#'; entry.len()];
+    assert_eq!(by.canonical_copy(entry, &mut copy), Ok(()), "{file}");
+    copy
+}
+
+/// Columns 1-66 of records of a copy; every other byte of these records and all other records are as they were.
 #[test]
-fn entries_that_others_made() {
-    let Some(rows) = table("r101/index.tsv") else { return };
+fn copies_written_by_hand() {
+    let Some(rows) = table("hand/copies.tsv") else { return };
+    for group in rows.chunk_by(|one, next| one[0] == next[0]) {
+        let mut due = entry("hand", &group[0][0]);
+        for row in group {
+            let first = (row[1].parse::<usize>().expect("a record") - 1) * RECORD;
+            due[first..first + 66].copy_from_slice(row[2].as_bytes());
+        }
+        for by in BOTH {
+            let copy = copy(by, &entry("hand", &group[0][0]), &group[0][0]);
+            assert_eq!(String::from_utf8_lossy(&copy), String::from_utf8_lossy(&due), "{}", group[0][0]);
+        }
+    }
+    say(&format!("hand/copies.tsv: {} records", rows.len()));
+}
+
+/// Whether M-105 has anything to say of an entry: FLAG or DECAY-FLAG is a heading of one of its tables, with any
+/// pointer or none. The entries of `r101` are judged without that request.
+fn flagged(of: &str, file: &str) -> bool {
+    let bytes = entry(of, file);
+    let records: Vec<&[u8]> = bytes.chunks_exact(RECORD).collect();
+    let opens = |record: &[u8]| record.starts_with(b"COMMON     ") || record.starts_with(b"DATA       ");
+    (0..records.len()).filter(|&at| opens(records[at])).any(|at| {
+        // As many records of headings as the count of columns asks for.
+        let columns = String::from_utf8_lossy(&records[at][11..22]).trim().parse::<usize>().unwrap_or(0);
+        let headings = records[at + 1..].iter().take(columns.div_ceil(6));
+        let mut fields = headings.flat_map(|record| record.chunks_exact(11).take(6));
+        fields.any(|field| matches!(&field[..10], b"FLAG      " | b"DECAY-FLAG"))
+    })
+}
+
+/// Verdicts, and the copies of what is accepted.
+fn same_verdicts_and_copies(of: &str, known: impl Fn(&str) -> bool) {
+    let Some(mut rows) = table(&format!("{of}/index.tsv")) else { return };
+    rows.retain(|row| known(&row[0]));
     let mut copies = 0;
     for row in &rows {
-        same_verdict("r101", &row[0], &row[1..8], &row[9]);
+        same_verdict(of, &row[0], &row[1..8], &row[9]);
         if row[1] != "0" {
             continue;
         }
-        let (own, due) = (entry("r101", &row[0]), entry("r101", &row[0].replace(".x4", ".copy")));
+        let (own, due) = (entry(of, &row[0]), entry(of, &row[0].replace(".x4", ".copy")));
         for by in BOTH {
-            let mut copy = vec![b'#'; own.len()];
-            assert_eq!(by.canonical_copy(&own, &mut copy), Ok(()), "{}", row[0]);
-            assert!(copy == due, "{}: the copy", row[0]);
+            assert!(copy(by, &own, &row[0]) == due, "{of}/{}: the copy", row[0]);
         }
         copies += 1;
     }
-    say(&format!("r101/index.tsv: {} entries, {copies} of them copied", rows.len()));
+    let flags = rows.iter().filter(|row| row[1] == "17").count();
+    say(&format!("{of}/index.tsv: {} entries, {copies} of them copied, {flags} refused by 17", rows.len()));
+}
+
+/// Generated with repeated headings, and with flags.
+#[test]
+fn entries_that_others_made() {
+    same_verdicts_and_copies("r101", |file| !flagged("r101", file));
+    same_verdicts_and_copies("r105", |_| true);
+}
+
+/// Inputs that agree with an entry of `r105` in its first records.
+#[test]
+fn entries_that_others_changed_below() {
+    let Some(rows) = table("r105/prefix.tsv") else { return };
+    for row in &rows {
+        same_verdict("r105", &row[0], &row[4..11], &row[3]);
+    }
+    say(&format!("r105/prefix.tsv: {} inputs", rows.len()));
 }
 
 /// The number of a refused question, and the three beside 31.
@@ -146,41 +206,22 @@ fn answered(by: &dyn Implementation, entry: &[u8], question: &str, asked: &[&str
     }
 }
 
-#[test]
-fn questions_that_others_answered() {
-    let Some(rows) = table("r101/questions.tsv") else { return };
+/// Questions with their whole answers.
+fn same_answers(of: &str, known: impl Fn(&str) -> bool) {
+    let Some(mut rows) = table(&format!("{of}/questions.tsv")) else { return };
+    rows.retain(|row| known(&row[0]));
     for row in &rows {
         let asked: Vec<&str> = row[2].split(' ').collect();
         for by in BOTH {
-            assert_eq!(answered(by, &entry("r101", &row[0]), &row[1], &asked), row[3], "{row:?}");
+            assert_eq!(answered(by, &entry(of, &row[0]), &row[1], &asked), row[3], "{row:?}");
         }
     }
     let given = rows.iter().filter(|row| row[3].starts_with("0 ")).count();
-    say(&format!("r101/questions.tsv: {} questions, {given} of them with an answer", rows.len()));
+    say(&format!("{of}/questions.tsv: {} questions, {given} of them with an answer", rows.len()));
 }
 
-/// The last number of a value's answer is its count. The entries are judged there with M-105 too, which is not built
-/// yet. Left out are the questions about an entry that is refused here or there, all questions but values, and of the
-/// answers all but refusal and count.
 #[test]
-fn values_that_others_looked_up() {
-    let Some(rows) = table("r105/questions.tsv") else { return };
-    let (mut compared, mut numbers) = (0, 0);
-    for row in rows.iter().filter(|row| row[1] == "value") {
-        let entry = entry("r105", &row[0]);
-        let answer: Vec<&str> = row[3].split(' ').collect();
-        if matches!(reference::judge(&entry), Verdict::Refused(_)) || answer[0] == "31" {
-            continue;
-        }
-        let asked: Vec<u32> = row[2].split(' ').map(|number| number.parse().expect("a number")).collect();
-        let [n, section, line, column] = asked[..] else { panic!("{row:?}") };
-        let ours = library::value(&entry, n, section, line, column);
-        assert_eq!(ours, reference::value(&entry, n, section, line, column), "{row:?}");
-        let refusal = ours.map_or_else(|refused| refused.number, |_| 0).to_string();
-        assert_eq!((refusal.as_str(), told(ours)[4].as_str()), (answer[0], answer[answer.len() - 1]), "{row:?}");
-        compared += 1;
-        numbers += usize::from(answer[4] == "number");
-    }
-    assert!(numbers > 0, "none of {} is a number", rows.len());
-    say(&format!("r105/questions.tsv: {compared} values compared, {numbers} of them numbers"));
+fn questions_that_others_answered() {
+    same_answers("r101", |file| !flagged("r101", file));
+    same_answers("r105", |_| true);
 }

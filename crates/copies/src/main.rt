@@ -1,6 +1,6 @@
-// Copies the sample, which is the first 26 records of the input, and the larger entry behind it, into a buffer that
-// fits, one that is a byte short and one that is longer; then the sample without its last record. Of each it says what
-// the call answers and leaves. Every buffer is full of stars before.
+// Copies the sample, which is the first 26 records of the input, the larger entry behind it and one with flags, each
+// into a buffer that fits, one that is a byte short and one that is longer; then the sample without its last record. Of
+// each it says what the call answers and leaves. Every buffer is full of stars before.
 ghost use Prim.Native.Nat.{_≤_};
 use check::same;
 use copy::copy::copy;
@@ -93,6 +93,19 @@ fn say_larger() {
     say_buffer(b"long ", &entry, &mut long);
 }
 
+// Flags in COMMON and DATA: their columns stay as they stood.
+fn say_flags() {
+    let mut entry = [0u8; 2673];
+    let mut out = [b'*'; 2673];
+    let mut again = [b'*'; 2673];
+    let mut short = [b'*'; 2672];
+    let mut long = [b'*'; 2683];
+    io::read_full(0, &mut entry);
+    say_copy(&entry, &mut out, &mut again);
+    say_buffer(b"short ", &entry, &mut short);
+    say_buffer(b"long ", &entry, &mut long);
+}
+
 // The sample without its last record.
 fn say_refused() {
     let mut entry = [0u8; 2025];
@@ -106,5 +119,6 @@ fn say_refused() {
 fn main() {
     say_sample();
     say_larger();
+    say_flags();
     say_refused();
 }

@@ -6,7 +6,7 @@ use mathlib.Core.Path.{_≡_, refl, sym, _∙_, ap}
 use mathlib.Core.Bool.{Bool, true, false}
 use mathlib.Core.List.{List, [], _∷_, _++_}
 use native.Mathlib.Omega.{arith}
-use lib.ListN.{length, take, drop, getD, length-drop, List·getD-append, List·getD-eq-default, take-append-drop}
+use lib.ListN.{length, take, drop, getD, length-drop, List·getD-append, List·getD-eq-default}
 use lib.Seq.{length-take-le, getD-take, getD-drop, getD-append-add, ext-getD}
 use Rattle.copy_records.specs.Replaced.{replaced, Each, FieldsAlike}
 use Rattle.laws.proofs.Search.{either}
@@ -74,16 +74,6 @@ letters-field : (m : Bool) (f : List ℕ) → Fit m f → (i : ℕ) → i < 11 �
 letters-field true f h i l p =
     read-permitted (canonical f) (rw (canonical-same f) (h .good refl)) i (rw (canonical-length f, h .wide) l)
 letters-field false f h i l p = p
-
--- ---- no number field: nothing is changed
-
-pub none-copied : (ms : List Bool) (r : List ℕ) → ((i : ℕ) → i < length ms → getD ms i false ≡ false)
-    → replaced copyField ms r ≡ r
-unfolding replaced
-none-copied [] r h = refl
-none-copied (m ∷ ms) r h =
-    let e : m ≡ false = h 0 (omega arith) in
-    rw (e, none-copied ms (drop 11 r) (λ i l. h (suc i) (omega arith))) (take-append-drop 11 r)
 
 -- ---- the fields of a record
 

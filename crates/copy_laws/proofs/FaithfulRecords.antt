@@ -1,9 +1,9 @@
 -- The judge's turn at a copied record: it goes on to the same context, and the copy of a record is faithful to it. Of
--- the rules only 2, 3, 5, 6 and 15 are met here, and these by their laws.
+-- the rules only 2, 3, 5, 6, 15 and 17 are met here, and these by their laws.
 -- Assumes nothing.
 use Prim.Native.Nat.{ℕ, _+_, _*_, _<_}
 use mathlib.Core.Path.{_≡_, refl, sym, _∙_, ap}
-use mathlib.Core.Bool.{Bool, true, false}
+use mathlib.Core.Bool.{Bool, true, false, not}
 use mathlib.Core.List.{List, []}
 use native.Mathlib.Omega.{arith}
 use lib.Dec.{ltb}
@@ -13,7 +13,8 @@ use Rattle.laws.specs.Turns.{go}
 use Rattle.laws.specs.Copies.{Passing, Passing2, Faithful}
 use Rattle.copy_records.specs.Replaced.{replaced, Each, FieldsAlike}
 use Rattle.copy_records.proofs.Replaced.{each-of, length-mask, mask-at}
-use Rattle.laws.proofs.Booleans.{and-left}
+use Rattle.copy_records.proofs.WholeRecords.{none-copied}
+use Rattle.laws.proofs.Booleans.{and-left, and-none}
 use Rattle.number.specs.Reading.{readField}
 use Rattle.classes.specs.Class.{isPermitted}
 use Rattle.columns.specs.Fields.{fieldAt, fieldsOf}
@@ -27,12 +28,13 @@ use Rattle.rules_every.specs.Every.{rule3}
 use Rattle.rules.specs.Order.{faultOf}
 use Rattle.entry_next.specs.Next.{contextAfter}
 use Rattle.entry_judging.specs.Judging.{roleOf, turnOf}
-use Rattle.copy_records.specs.CopyField.{copyField}
+use Rattle.rules_flags.specs.Flags.{flagColumn}
+use Rattle.copy_records.specs.CopyField.{valueField, copyField}
 use Rattle.copy_laws.specs.Copy.{isNumberField, maskOf, copyRecord}
 use Rattle.copy_laws.specs.Demand.{AlikeField}
 use Rattle.rules.proofs.WithoutFault.{fine-long, fine-permitted, fine-reads, permitted-alike, judged-alike}
 use Rattle.entry_walk.proofs.GoingOn.{go-fine, fine-go, next-alike}
-use Rattle.copy_laws.proofs.CanonicalFields.{Fit, none-copied, copied-length, copied-past, copied-reads}
+use Rattle.copy_laws.proofs.CanonicalFields.{Fit, copied-length, copied-field, copied-past, copied-reads}
 use Rattle.copy_laws.proofs.CanonicalFields.{copied-identifier, copied-once, alike-copied, copied-alike}
 use Rattle.copy_laws.proofs.CanonicalFields.{copied-letters}
 
@@ -42,7 +44,7 @@ pub length-mask-of : (c : Context) (r : List ℕ) → length (maskOf c r) ≡ 6
 unfolding maskOf
 length-mask-of c r = length-mask (isNumberField c (roleOf c r)) 0 6
 
-mask-of-at : (c : Context) (r : List ℕ) (k : ℕ) → k < 6 → getD (maskOf c r) k false ≡ isNumberField c (roleOf c r) k
+pub mask-of-at : (c : Context) (r : List ℕ) (k : ℕ) → k < 6 → getD (maskOf c r) k false ≡ isNumberField c (roleOf c r) k
 unfolding maskOf
 mask-of-at c r k h =
     let e : 0 + k ≡ k = omega arith in
@@ -51,7 +53,15 @@ mask-of-at c r k h =
 -- only a value record has number fields
 value-of : (c : Context) (role k : ℕ) → isNumberField c role k ≡ true → isValue role ≡ true
 unfolding isNumberField
-value-of c role k e = and-left (isValue role) (ltb k (used (c .track))) e
+value-of c role k e =
+    and-left (isValue role) (ltb k (used (c .track)))
+    (and-left (valueField (c .track) role k) (not (flagColumn (c .seen .table) (c .track) k)) e)
+
+-- and none of them is under a flag
+no-flag : (c : Context) (role k : ℕ) → flagColumn (c .seen .table) (c .track) k ≡ true
+    → isNumberField c role k ≡ false
+unfolding isNumberField
+no-flag c role k e = and-none (valueField (c .track) role k) (not (flagColumn (c .seen .table) (c .track) k)) (rw e refl)
 
 no-number : (c : Context) (role : ℕ) → isValue role ≡ false → (k : ℕ) → isNumberField c role k ≡ false
 unfolding isNumberField
@@ -64,6 +74,11 @@ not-copied c r e =
     (λ k l.
     let six = length-mask-of c r in
     mask-of-at c r k (omega arith) ∙ no-number c (roleOf c r) e k)
+
+-- a field under a flag has no mark
+pub mask-flags : (c : Context) (r : List ℕ) (k : ℕ) → k < 6 → flagColumn (c .seen .table) (c .track) k ≡ true
+    → getD (maskOf c r) k false ≡ false
+mask-flags c r k l e = mask-of-at c r k l ∙ no-flag c (roleOf c r) k e
 
 -- ---- an accepted record
 
@@ -92,7 +107,8 @@ fits c i r d h =
 -- ---- its copy
 
 module _ (c : Context) (ms : List Bool) (r : List ℕ) (six : length ms ≡ 6) (there : 80 < length r)
-    (fit : Each Fit ms r) where
+    (fit : Each Fit ms r)
+    (flags : (k : ℕ) → k < 6 → flagColumn (c .seen .table) (c .track) k ≡ true → getD ms k false ≡ false) where
   abbrev new : List ℕ
   new = replaced copyField ms r
 
@@ -108,6 +124,13 @@ module _ (c : Context) (ms : List Bool) (r : List ℕ) (six : length ms ≡ 6) (
   letters-same : ((i : ℕ) → i < 80 → isPermitted (getD r i 0) ≡ true) → rule3 new ≡ rule3 r
   letters-same p = permitted-alike r new p (copied-letters ms r (omega arith) fit 80 p)
 
+  -- a field under a flag stands as it was
+  flag-kept : (k : ℕ) → k < 6 → flagColumn (c .seen .table) (c .track) k ≡ true
+      → getD (fieldsOf new) k [] ≡ getD (fieldsOf r) k []
+  flag-kept k h e =
+      field-of new k h ∙ copied-field ms r fit k (omega arith)
+      ∙ ap (λ (b : Bool). copyField b (fieldAt r k)) (flags k h e) ∙ sym (field-of r k h)
+
   -- a value record: no fault before, none now, and the same context next
   value-kept : (i : ℕ) → isValue (roleOf c r) ≡ true → faultOf (c .track) (c .seen) (roleOf c r) (fieldsOf r) r ≡ Fine
       → turnOf c i (replaced copyField ms r) ≡ go (contextAfter c (roleOf c r) (fieldsOf r) r)
@@ -115,12 +138,13 @@ module _ (c : Context) (ms : List Bool) (r : List ℕ) (six : length ms ≡ 6) (
       let role = roleOf c r in
       let letters = letters-same (fine-permitted (c .track) (c .seen) role (fieldsOf r) r e) in
       let behind = copied-past ms r fit 66 (omega arith) in
-      fine-go c i new role role-same (judged-alike (c .track) (c .seen) r new letters behind reads-same role value ∙ e)
+      fine-go c i new role role-same (judged-alike (c .track) (c .seen) r new letters behind reads-same flag-kept role value ∙ e)
       ∙ ap go (next-alike c r new reads-same role value)
 
 pub role-kept : Passing turnOf (λ c i r d. roleOf c (copyRecord c r) ≡ roleOf c r)
 unfolding copyRecord
-role-kept c i r d h = role-same c (maskOf c r) r (length-mask-of c r) (long c i r d h) (fits c i r d h)
+role-kept c i r d h =
+    role-same c (maskOf c r) r (length-mask-of c r) (long c i r d h) (fits c i r d h) (mask-flags c r)
 
 -- the first field bears the same identifier
 pub identifier-kept : Passing turnOf (λ c i r d. identifierOf (fieldAt (copyRecord c r) 0) ≡ identifierOf (fieldAt r 0))
@@ -141,7 +165,8 @@ value-keeps : Passing turnOf (λ c i r d. isValue (roleOf c r) ≡ true
     → turnOf c i (copyRecord c r) ≡ go (contextAfter c (roleOf c r) (fieldsOf r) r))
 unfolding copyRecord
 value-keeps c i r d h e =
-    value-kept c (maskOf c r) r (length-mask-of c r) (long c i r d h) (fits c i r d h) i e (fine c i r d h)
+    value-kept c (maskOf c r) r (length-mask-of c r) (long c i r d h) (fits c i r d h) (mask-flags c r) i e
+    (fine c i r d h)
 
 keeps : Passing turnOf (λ c i r d. turnOf c i (copyRecord c r) ≡ go d)
 keeps c i r d h = by-test (isValue (roleOf c r)) refl

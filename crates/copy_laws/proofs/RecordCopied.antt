@@ -1,4 +1,4 @@
--- The copy of a record by its role and the track before it is its copy in the context.
+-- The copy of a record by its role, the track before it and the headings of its table is its copy in the context.
 -- Assumes nothing.
 use Prim.Native.Nat.{ℕ}
 use mathlib.Core.Path.{_≡_}
@@ -7,11 +7,12 @@ use Rattle.rules_state.specs.declared.state.Track.{Track}
 use Rattle.rules_state.specs.State.{Context}
 use Rattle.entry_judging.specs.Judging.{roleOf}
 use Rattle.copy_records.specs.Replaced.{replaced, mask}
-use Rattle.copy_records.specs.CopyField.{valueField, copyField}
+use Rattle.copy_records.specs.CopyField.{numberIn, copyField}
 use Rattle.copy_laws.specs.Copy.{isNumberField, maskOf, copyRecord}
 
--- what the code stores for a record, from its role and the track before it, is its copy in the context
-pub record-copied : (c : Context) (r : List ℕ) (t : Track) (role : ℕ) → t ≡ c .track → role ≡ roleOf c r
-    → replaced copyField (mask (valueField t role) 0 6) r ≡ copyRecord c r
+-- what the code stores for a record is its copy in the context
+pub record-copied : (c : Context) (r : List ℕ) (t : Track) (table : List ℕ) (role : ℕ)
+    → t ≡ c .track → table ≡ c .seen .table → role ≡ roleOf c r
+    → replaced copyField (mask (numberIn table t role) 0 6) r ≡ copyRecord c r
 unfolding copyRecord maskOf isNumberField
-record-copied c r t role e f = rw (e, f)
+record-copied c r t table role e g f = rw (e, g, f)

@@ -2,6 +2,8 @@
 --
 --   "The canonical copy replaces each non-blank value field of COMMON and DATA by its canonical field and keeps every
 --   other byte."
+--
+-- Document 02, M-105, of FLAG and DECAY-FLAG: "The copy leaves both kinds of column unaltered".
 use Prim.Native.Nat.{ℕ, _/_}
 use mathlib.Core.Bool.{Bool, false}
 use mathlib.Core.List.{List, []}
@@ -9,16 +11,17 @@ use lib.ListN.{length, getD}
 use Rattle.laws.specs.Blocks.{blocks, joined, blockAt}
 use Rattle.laws.specs.Copies.{copies, marks}
 use Rattle.copy_records.specs.Replaced.{replaced, mask}
-use Rattle.copy_records.specs.CopyField.{valueField, copyField}
+use Rattle.copy_records.specs.CopyField.{numberIn, copyField}
 use Rattle.columns.specs.Fields.{fieldAt}
 use Rattle.rules_state.specs.State.{Context, startContext}
 use Rattle.entry_judging.specs.Judging.{roleOf, turnOf}
 
 -- ---- number fields
 
--- the field k (counted from 0) of a record with this role is a number field in its context: every value field is one
+-- the field k (counted from 0) of a record with this role is a number field in its context: every value field is one,
+-- but for those under FLAG and DECAY-FLAG
 unfoldable pub isNumberField : Context → ℕ → ℕ → Bool
-isNumberField c role k = valueField (c .track) role k
+isNumberField c role k = numberIn (c .seen .table) (c .track) role k
 
 -- which of a record's six fields are number fields
 unfoldable pub maskOf : Context → List ℕ → List Bool

@@ -1,11 +1,11 @@
 -- The copy of a whole record, field by field, whatever its fields read to.
 -- Assumes nothing.
-use Prim.Native.Nat.{ℕ, _+_, _*_, _<_, _≤_}
-use mathlib.Core.Path.{_≡_, sym, _∙_, ap}
+use Prim.Native.Nat.{ℕ, suc, _+_, _*_, _<_, _≤_}
+use mathlib.Core.Path.{_≡_, refl, sym, _∙_, ap}
 use mathlib.Core.Bool.{Bool, true, false}
-use mathlib.Core.List.{List}
+use mathlib.Core.List.{List, [], _∷_}
 use native.Mathlib.Omega.{arith}
-use lib.ListN.{length, take, drop, getD, length-drop}
+use lib.ListN.{length, take, drop, getD, length-drop, take-append-drop}
 use lib.Seq.{paste, length-take-le, take-take}
 use Rattle.copy_records.specs.Replaced.{replaced, Each, mask}
 use Rattle.copy_records.proofs.Replaced.{each-of, length-mask, mask-at, length-copy, field-of-copy, behind-copy}
@@ -20,6 +20,16 @@ Eleven m f = length f ≡ 11
 wide : (m : Bool) (f : List ℕ) → length f ≡ 11 → length (copyField m f) ≡ 11
 wide true f h = canonical-length f ∙ h
 wide false f h = h
+
+-- ---- no number field: nothing is changed
+
+pub none-copied : (ms : List Bool) (r : List ℕ) → ((i : ℕ) → i < length ms → getD ms i false ≡ false)
+    → replaced copyField ms r ≡ r
+unfolding replaced
+none-copied [] r h = refl
+none-copied (m ∷ ms) r h =
+    let e : m ≡ false = h 0 (omega arith) in
+    rw (e, none-copied ms (drop 11 r) (λ i l. h (suc i) (omega arith))) (take-append-drop 11 r)
 
 module _ (test : ℕ → Bool) (r : List ℕ) (whole : length r ≡ 81) where
   six : length (mask test 0 6) ≡ 6
@@ -72,3 +82,10 @@ module _ (test : ℕ → Bool) (r : List ℕ) (whole : length r ≡ 81) where
       let new = replaced copyField (mask test 0 6) r in
       let long : length new ≡ 81 = whole-length in
       paste-more d new (drop 66 r) at 66 15 (omega arith) (omega arith) (ap (take 15) (sym whole-rest))
+
+-- a record that has no number field is copied as it is
+pub plain-record : (test : ℕ → Bool) (r : List ℕ) → ((k : ℕ) → test k ≡ false)
+    → replaced copyField (mask test 0 6) r ≡ r
+plain-record test r none =
+    none-copied (mask test 0 6) r
+    (λ k l. mask-at test false 6 0 k (rw (length-mask test 0 6) at l) ∙ none (0 + k))

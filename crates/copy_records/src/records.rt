@@ -1,15 +1,18 @@
 // A record of the copy: its number fields made canonical, every other byte as it is.
 ghost use mathlib.Core.Path.{_≡_};
-ghost use Prim.Native.Nat.{_+_, _≤_};
+ghost use Prim.Native.Nat.{_+_, _<_, _≤_};
 ghost use lib.ListN.{length, drop};
 ghost use lib.Seq.{paste};
 ghost use Rattle.copy_records.specs.Replaced.{replaced, mask};
 ghost use Rattle.columns.specs.Columns.{Whole};
-ghost use Rattle.copy_records.specs.CopyField.{valueField, copyField};
+ghost use Rattle.rules_flags.specs.Lent.{WholeRecords};
+ghost use Rattle.copy_records.specs.CopyField.{valueField, numberIn, copyField};
 use crate::fields::put_field;
 use columns::fields::field;
+use rules_flags::flags::is_flag_column;
 use rules_roles::roles::COMMON_VALUE;
 use rules_roles::roles::DATA_VALUE;
+use rules_roles::roles::is_value;
 use rules_state::state::Track;
 
 // Whether the field k of a record with this role is a value field.
@@ -25,44 +28,70 @@ fn is_value_field(t: Track, role: usize, k: usize) -> bool
     false
 }
 
-// The six fields.
-fn copy_fields(out: &mut [u8], at: usize, t: Track, role: usize, rec: &[u8])
+// Whether it is a number field: none under FLAG or DECAY-FLAG is one.
+fn is_number_field(t: Track, table: &[u8], role: usize, k: usize) -> bool
+    requires { ⌜ WholeRecords (now table) × (k < 6) ⌝ }
+    ensures { λ r. ⌜ r ≡ numberIn (now (table .entry)) t role k ⌝ }
+{
+    if !is_value_field(t, role, k) {
+        return false;
+    }
+    !is_flag_column(t, table, k)
+}
+
+// The six fields; `table` are the heading records of the table in hand.
+fn copy_fields<'a>(out: &mut [u8], at: usize, t: Track, table: &'a [u8], role: usize, rec: &'a [u8])
+    requires { ⌜ WholeRecords (now table) ⌝ }
     requires { ⌜ (at + 66 ≤ length (now out)) × Whole (now rec) ⌝ }
     ensures { λ _. ⌜ now (out .exit)
-        ≡ paste (now (out .entry)) at (replaced copyField (mask (valueField t role) 0 6) (now (rec .entry))) 66 ⌝ }
+        ≡ paste (now (out .entry)) at
+        (replaced copyField (mask (numberIn (now (table .entry)) t role) 0 6) (now (rec .entry))) 66 ⌝ }
 {
     let mut k = 0;
     while k < 6 {
         let column = k * 11;
         let f = field(rec, column);
         let place = at + column;
-        let number = is_value_field(t, role, k);
+        let number = is_number_field(t, table, role, k);
         put_field(out, place, number, f);
         k += 1;
     }
 }
 
-// Columns 67 to 80 and the line feed.
-fn copy_rest(out: &mut [u8], at: usize, rec: &[u8])
-    requires { ⌜ (at + 15 ≤ length (now out)) × Whole (now rec) ⌝ }
-    ensures { λ _. ⌜ now (out .exit) ≡ paste (now (out .entry)) at (drop 66 (now (rec .entry))) 15 ⌝ }
+// Columns as they are: n of them, behind the first `from`.
+fn copy_columns(out: &mut [u8], at: usize, rec: &[u8], from: usize, n: usize)
+    requires { ⌜ (at + n ≤ length (now out)) × (from + n ≤ length (now rec)) ⌝ }
+    ensures { λ _. ⌜ now (out .exit) ≡ paste (now (out .entry)) at (drop from (now (rec .entry))) n ⌝ }
 {
     let mut i = 0;
-    while i < 15 {
-        let from = 66 + i;
+    while i < n {
+        let column = from + i;
         let to = at + i;
-        out[to] = rec[from];
+        out[to] = rec[column];
         i += 1;
     }
 }
 
-// A record with its role, in its place.
-pub fn copy_record(out: &mut [u8], at: usize, t: Track, role: usize, rec: &[u8])
+// A record with its role, in its place. Only a value record has number fields.
+pub fn copy_record<'a>(
+    out: &mut [u8],
+    at: usize,
+    t: Track,
+    table: &'a [u8],
+    role: usize,
+    rec: &'a [u8],
+)
+    requires { ⌜ WholeRecords (now table) ⌝ }
     requires { ⌜ (at + 81 ≤ length (now out)) × Whole (now rec) ⌝ }
     ensures { λ _. ⌜ now (out .exit)
-        ≡ paste (now (out .entry)) at (replaced copyField (mask (valueField t role) 0 6) (now (rec .entry))) 81 ⌝ }
+        ≡ paste (now (out .entry)) at
+        (replaced copyField (mask (numberIn (now (table .entry)) t role) 0 6) (now (rec .entry))) 81 ⌝ }
 {
-    copy_fields(out, at, t, role, rec);
+    if !is_value(role) {
+        copy_columns(out, at, rec, 0, 81);
+        return;
+    }
+    copy_fields(out, at, t, table, role, rec);
     let rest = at + 66;
-    copy_rest(out, rest, rec);
+    copy_columns(out, rest, rec, 66, 15);
 }

@@ -4,7 +4,7 @@ use Prim.Native.Nat.{ℕ, _+_, _-_, _*_, _/_, _<_, _≤_}
 use mathlib.Core.Path.{_≡_, refl, sym, _∙_, ap}
 use mathlib.Core.List.{List}
 use native.Mathlib.Omega.{arith}
-use lib.ListN.{length, take, drop, length-drop}
+use lib.ListN.{length, take, drop, length-drop, take-append-drop}
 use lib.Seq.{paste, paste-zero, length-take-le, take-all, take-take}
 use Rattle.laws.specs.Blocks.{blockAt}
 use Rattle.copy_records.specs.Replaced.{replaced, mask}
@@ -16,9 +16,16 @@ use Rattle.entry_judging.specs.Judging.{Accepted}
 use Rattle.entry_step.specs.ByRanges.{startJudge}
 use Rattle.entry_judging.specs.Contexts.{contextAt}
 use Rattle.entry_step.specs.Pass.{Walking, PassedAt}
+use Rattle.entry_next.proofs.Following.{range-kept}
 use Rattle.entry_step.proofs.Numbered.{whole-records}
-use Rattle.entry_step.proofs.Walking.{walking-start, track-stands}
-use Rattle.copy_records.specs.CopyField.{valueField, copyField}
+use Rattle.entry_step.proofs.Walking.{walking-start, track-stands, context-stands, records-passed, walking-placed}
+use Rattle.rules_state.specs.State.{Context}
+use Rattle.rules_state.specs.Ranging.{Placed}
+use Rattle.rules_roles.specs.declared.ranging.Range.{Range}
+use Rattle.rules_roles.specs.Parts.{bytesOf, Lent}
+use Rattle.rules_flags.specs.Lent.{WholeRecords}
+use Rattle.rules_flags.proofs.Headings.{records-of}
+use Rattle.copy_records.specs.CopyField.{numberIn, copyField}
 use Rattle.copy_laws.specs.Copy.{copyRecord, copyOf}
 use Rattle.copy_laws.specs.Call.{copiedInto}
 use Rattle.copy_laws.specs.Storing.{Room}
@@ -58,6 +65,13 @@ recordAt s i = take (i * 81 + 81 - i * 81) (drop (i * 81) s)
 record-at : (s : List ℕ) (i : ℕ) → recordAt s i ≡ blockAt 81 s i
 record-at s i = let e : i * 81 + 81 - i * 81 ≡ 81 = omega arith in rw e
 
+-- a range of records among the first i, in all bytes and in those before
+bytes-before : (s : List ℕ) (g : Range) (i : ℕ) → length (take (i * 81) s) ≡ i * 81 → Placed g i
+    → bytesOf s g ≡ bytesOf (take (i * 81) s) g
+bytes-before s g i long p =
+    ap (λ (x : List ℕ). bytesOf x g) (sym (take-append-drop (i * 81) s))
+    ∙ range-kept (take (i * 81) s) (drop (i * 81) s) i long g p
+
 -- one record more behind the copy of the first i
 next-pasted : (s lent : List ℕ) (i : ℕ) → Accepted s → i < length s / 81
     → paste (paste lent 0 (copyOf s) (i * 81)) (i * 81) (copyRecord (contextAt s i) (blockAt 81 s i)) 81
@@ -92,14 +106,35 @@ module _ {s lent : List ℕ} {n : ℕ} {j : Judge} {out : List ℕ} {i : ℕ} (k
         let w = k .whole in
         rw (record-at s i) (record { long = length-take-le 81 (drop (i * 81) s) (simp length-drop (omega arith)) })
 
+    -- the heading records of the table in hand: whole records, and those that are seen there
+    placed : Placed (j .ranges .table) i
+    placed = rw (records-passed (k .walking)) at (walking-placed (k .walking) .table)
+
+    pub copied-lent : Lent s (j .ranges .table)
+    copied-lent =
+        let w = k .whole in
+        let p = placed in
+        let b = p .below in
+        record { ordered = p .ordered; within = omega arith }
+
+    pub copied-records : WholeRecords (bytesOf s (j .ranges .table))
+    copied-records = records-of s (j .ranges .table) copied-lent
+
+    copied-table : bytesOf s (j .ranges .table) ≡ contextAt s i .seen .table
+    copied-table =
+        let w = k .whole in
+        bytes-before s (j .ranges .table) i (length-take-le (i * 81) s (omega arith)) placed
+        ∙ ap (λ (c : Context). c .seen .table) (context-stands (k .walking))
+
     -- a record that is passed and stored
     pub copied-next : (x : Passed) → PassedAt x s i → (new : List ℕ)
-        → new ≡ paste out (i * 81) (replaced copyField (mask (valueField (j .track) (x .role)) 0 6) (recordAt s i)) 81
+        → new ≡ paste out (i * 81)
+        (replaced copyField (mask (numberIn (bytesOf s (j .ranges .table)) (j .track) (x .role)) 0 6) (recordAt s i)) 81
         → length new ≡ length out → Copied s lent n (x .next) new (i + 1)
     copied-next x p new e long =
         let role = ap (λ (y : Passed). y .role) (p .same) in
-        let stored = record-copied (contextAt s i) (blockAt 81 s i) (j .track) (x .role) (track-stands (k .walking))
-        role in
+        let stored = record-copied (contextAt s i) (blockAt 81 s i) (j .track) (bytesOf s (j .ranges .table)) (x .role)
+        (track-stands (k .walking)) copied-table role in
         record {
           accepted = k .accepted;
           whole = k .whole;

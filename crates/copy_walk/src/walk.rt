@@ -7,6 +7,7 @@ use entry_step::step::Judge;
 use number::form::kinds;
 use number::form::nexts;
 use record_names::identifier::names;
+use rules_roles::ranging::part;
 
 // Goes over the records of an accepted entry once more and stores each in its place.
 pub fn copy_records(entry: &[u8], out: &mut [u8])
@@ -23,10 +24,13 @@ pub fn copy_records(entry: &[u8], out: &mut [u8])
         let from = i * 81;
         let past = from + 81;
         let t = j.track;
+        let ranges = j.ranges;
+        let headings = ranges.table;
         let passed = j.pass(&names, &kinds, &nexts, entry, i);
         let role = passed.role;
         let next = passed.next;
-        copy_record(out, from, t, role, &entry[from..past]);
+        let table = part(entry, headings);
+        copy_record(out, from, t, table, role, &entry[from..past]);
         j = next;
         i += 1;
     }

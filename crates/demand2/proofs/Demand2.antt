@@ -10,6 +10,8 @@ use Rattle.refusal_table.proofs.Listed.{refusals-listed, length-first}
 use Rattle.refusal_table.proofs.TextFaults.{ten-said, eleven-said}
 use Rattle.refusal_table.proofs.TextsExactly.{ten-exactly, eleven-exactly}
 use Rattle.refusal_table.proofs.HeadingFaults.{thirteen-said, fourteen-said, repeated-refused, lost-refused}
+use Rattle.refusal_table.proofs.FlagFaults.{seventeen-said, flag-refused}
+use Rattle.refusal_table.proofs.ValueLines.{over-fields}
 use Rattle.good.proofs.Theorems.{accepted-exactly, good-accepted}
 use Rattle.inside.proofs.Placed.{value-placed, heading-placed, unit-placed}
 use Rattle.inside.proofs.PassageAnswered.{passage-answered, one-passage}
@@ -34,6 +36,9 @@ demand2 =
       fourteen-said = fourteen-said;
       repeated-refused = repeated-refused;
       lost-refused = lost-refused;
+      seventeen-said = seventeen-said;
+      flag-refused = flag-refused;
+      over-fields = over-fields;
       totals = good-accepted;
       numbers = number-exactly;
       value-of-table = value-of-table;

@@ -1,9 +1,9 @@
 -- Demand 2 of the mission, whole, sentence by sentence. Each statement has its place below: in `number` and `canonical`
 -- (specs/Claims, Marked), `record` (specs/Plain), `good` (specs/Claims), `entry` (specs/First), `refusal_table`
--- (specs/Listed, TextFaults, HeadingFaults), `inside` (specs/Inside, Placed), `answered_tables` (specs/Tables,
--- Passages) or this crate (specs/Writing). `judgeOf`, `valueAsked`, `headingAsked`, `unitAsked`, `passageAsked`,
--- `readField`, `readNumber` and `written` are what the calls promise to answer, and `bytes` is what the writer leaves in
--- the buffer.
+-- (specs/Listed, TextFaults, HeadingFaults, FlagFaults), `inside` (specs/Inside, Placed), `answered_tables`
+-- (specs/Tables, Passages) or this crate (specs/Writing). `judgeOf`, `valueAsked`, `headingAsked`, `unitAsked`,
+-- `passageAsked`, `readField`, `readNumber` and `written` are what the calls promise to answer, and `bytes` is what the
+-- writer leaves in the buffer.
 use Rattle.number.specs.Claims.{SaysExactly, SpeltOnce, ValueFound, ValueOne, ElevenRead, OthersRefused}
 use Rattle.canonical_laws.specs.Claims.{BestOne, ClosedForm, ColumnsSpan}
 use Rattle.canonical_laws.specs.Marked.{MarkedRight}
@@ -12,6 +12,7 @@ use Rattle.entry_walk.specs.First.{RefusedFirst, FirstAlone}
 use Rattle.refusal_table.specs.Listed.{RefusalsListed, LengthFirst}
 use Rattle.refusal_table.specs.TextFaults.{TenSaid, ElevenSaid, TenExactly, ElevenExactly}
 use Rattle.refusal_table.specs.HeadingFaults.{ThirteenSaid, FourteenSaid, RepeatedRefused, LostRefused}
+use Rattle.refusal_table.specs.FlagFaults.{SeventeenSaid, FlagRefused, OverFields}
 use Rattle.good.specs.Claims.{AcceptedExactly, GoodAccepted}
 use Rattle.inside.specs.Inside.{PassageAnswered, OnePassage}
 use Rattle.inside.specs.Placed.{ValuePlaced, HeadingPlaced, UnitPlaced}
@@ -30,8 +31,8 @@ pub record Demand2 : Type 0 where
   -- and every refusal stands in the paper's table: its number, the kind of its record, its column
   pub refusals-listed : RefusalsListed
   pub length-first : LengthFirst
-  -- what is wrong at a record refused with 10, 11, 13 or 14, over the records before it; and nothing that is wrong so
-  -- passes
+  -- what is wrong at a record refused with 10, 11, 13, 14 or 17, over the records before it; and nothing that is wrong
+  -- so passes
   pub ten-said : TenSaid
   pub eleven-said : ElevenSaid
   pub ten-exactly : TenExactly
@@ -40,6 +41,10 @@ pub record Demand2 : Type 0 where
   pub fourteen-said : FourteenSaid
   pub repeated-refused : RepeatedRefused
   pub lost-refused : LostRefused
+  pub seventeen-said : SeventeenSaid
+  pub flag-refused : FlagRefused
+  -- the heading over a value is that of its column: the record's place in its line, six columns each, tells it
+  pub over-fields : OverFields
   -- "An accepted entry comes with its totals as counted there,": the sums over the parts of the good entry, whichever
   -- way the bytes are taken for one
   pub totals : GoodAccepted

@@ -47,7 +47,7 @@ module _ (s : List ℕ) (n : ℕ) (w : Walked s n) where
 
 module _ (s : List ℕ) (accepted : Accepted s) where
   -- a number field stands in a record of the entry
-  row-of : (i k : ℕ) → numberField s i k ≡ true → i < length s / 81
+  pub row-of : (i k : ℕ) → numberField s i k ≡ true → i < length s / 81
   unfolding numberField
   row-of i k e =
       let p = passed s accepted in
@@ -59,7 +59,7 @@ module _ (s : List ℕ) (accepted : Accepted s) where
       (λ l. let none : getD ms i [] ≡ [] = List·getD-eq-default ms [] (rw all l) in
       let z : _≡_ {A = ℕ} 0 1 = (let f = rw none at e in cc) in absurd (omega arith))
 
-  mask-is : (i k : ℕ) → i < length s / 81
+  pub mask-is : (i k : ℕ) → i < length s / 81
       → numberField s i k ≡ getD (maskOf (contextAt s i) (blockAt 81 s i)) k false
   unfolding numberField
   mask-is i k l =

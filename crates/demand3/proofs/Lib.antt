@@ -1,5 +1,6 @@
 pub mod CopiedRecords
 pub mod CopiedFields
+pub mod Flags
 pub mod CopiedRows
 pub mod Parts
 pub mod Values

@@ -1,7 +1,7 @@
 -- Demand 3 of the mission, whole, sentence by sentence. Each statement has its place below: what is inside the shape in
--- `inside` (specs/Inside, Asked), the copy in `copy` (specs/Demand) and here (specs/Fields), the questions asked of
--- both here (specs/Same). `judgeOf`, `valueAsked`, `headingAsked`, `unitAsked`, `passageAsked`, `copied` and
--- `storedCopy` are what the calls promise to answer and to store.
+-- `inside` (specs/Inside, Asked), the copy in `copy` (specs/Demand) and here (specs/Fields), which fields are number
+-- fields here (specs/Flags), the questions asked of both here (specs/Same). `judgeOf`, `valueAsked`, `headingAsked`,
+-- `unitAsked`, `passageAsked`, `copied` and `storedCopy` are what the calls promise to answer and to store.
 use Rattle.inside.specs.Inside.{ValueAnswered, HeadingAnswered, UnitAnswered, PassageAnswered, OnePassage, BegunInside}
 use Rattle.inside.specs.Asked.{ValueInside, HeadingInside, UnitInside, PassageInside}
 use Rattle.copy_laws.specs.Demand.{CopyMade, CopyPart, CopyAccepted, CopyAgain, OneCopy}

@@ -3,7 +3,12 @@
 --   "The canonical copy replaces each non-blank value field of COMMON and DATA by its canonical field and keeps every
 --   other byte."
 --
--- Said by the plain definition of the canonical field, the best of all eleven bytes that read to the value (`Best`);
+-- and, of FLAG and DECAY-FLAG (document 02, M-105):
+--
+--   "The copy leaves both kinds of column unaltered, and demand 3 treats them as bytes outside number fields."
+--
+-- Which fields are number fields is told in Flags (`NumberFields`), and that flags are kept (`FlagsKept`). Here it is
+-- said by the plain definition of the canonical field, the best of all eleven bytes that read to the value (`Best`);
 -- that every other byte is kept is `CopyPart` of copy.
 use Prim.Native.Nat.{ℕ}
 use mathlib.Core.Path.{_≡_}

@@ -41,7 +41,7 @@ use Rattle.rules_state.proofs.RolePlaces.{inBib, inTable, isText, text-in-bib, 
 
 module _ (b r : List ℕ) (n : ℕ) (long : length b ≡ n * 81) where
   -- a range below the record sees nothing of it
-  range-kept : (g : Range) → Placed g n → bytesOf (b ++ r) g ≡ bytesOf b g
+  pub range-kept : (g : Range) → Placed g n → bytesOf (b ++ r) g ≡ bytesOf b g
   range-kept g p =
       let x = p .ordered in
       let y = p .below in

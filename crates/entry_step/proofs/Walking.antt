@@ -12,7 +12,7 @@ use Rattle.laws.specs.Walk.{walk}
 use Rattle.laws.specs.Blocks.{blocks, blockAt}
 use Rattle.rules_state.specs.State.{Context, startContext}
 use Rattle.rules_state.specs.Limits.{MOST-RECORDS}
-use Rattle.rules_state.specs.Ranging.{Bounded}
+use Rattle.rules_state.specs.Ranging.{Bounded, AllPlaced}
 use Rattle.entry_step.specs.declared.step.Judge.{Judge}
 use Rattle.entry_verdict.specs.Verdict.{refused, lengthGood}
 use Rattle.entry_judging.specs.Judging.{turnOf, endOf, judgeOf, Accepted}
@@ -73,6 +73,9 @@ module _ {j : Judge} {s : List ℕ} {i : ℕ} (w : Walking j s i) where
 
   pub walking-bounded : Bounded (j .track)
   walking-bounded = stands .bounded
+
+  pub walking-placed : AllPlaced (j .ranges) (j .track .records .0)
+  walking-placed = stands .placed
 
   -- one record
   module _ (there : i < length s / 81) where

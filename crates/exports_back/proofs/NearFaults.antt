@@ -1,4 +1,4 @@
--- The fault of a record is a refusal up to 16 at a column up to 81: it is in the bounds of the table.
+-- The fault of a record is a refusal up to 17 at a column up to 81: it is in the bounds of the table.
 -- Assumes nothing.
 use Prim.Native.Nat.{ℕ, _<_, _≤_}
 use mathlib.Core.Path.{_≡_}
@@ -10,10 +10,10 @@ use Rattle.rules_state.specs.State.{Seen}
 use Rattle.rules.specs.Order.{faultOf}
 use Rattle.rules.proofs.Least.{fault-bounds}
 
--- a refusal up to 16, at a column up to 81
+-- a refusal up to 17, at a column up to 81
 pub record Near (n k : ℕ) : Type 0 where
   pub some : 0 < n
-  pub number : n ≤ 16
+  pub number : n ≤ 17
   pub column : k ≤ 81
 
 pub near-fault : (t : Track) (s : Seen) (role : ℕ) (fs : List (List ℕ)) (r : List ℕ) (n k : ℕ)

@@ -1,4 +1,4 @@
--- Every verdict fits its word: a refusal is 1 to 16, at a record up to 20,001 and a column up to 81.
+-- Every verdict fits its word: a refusal is 1 to 17, at a record up to 20,001 and a column up to 81.
 -- Assumes nothing.
 use Prim.Native.Nat.{ℕ, _+_, _*_, _/_, _^_, _<_, _≤_}
 use mathlib.Core.Path.{_≡_, refl}

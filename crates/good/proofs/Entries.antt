@@ -36,6 +36,7 @@ ready r =
       keywords = o .keywords;
       lines = o .lines;
       numbers = o .numbers;
+      bib001 = o .bib001;
       common001 = o .common001;
     }
 

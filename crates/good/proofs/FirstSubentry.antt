@@ -8,24 +8,31 @@ use lib.ListN.{length, length-append}
 use borrow.Author.Tests.{eq-eqb}
 use Rattle.laws.specs.Blocks.{joined}
 use Rattle.laws.specs.Members.{listOf}
+use Rattle.laws.proofs.Listing.{all-left, all-right}
 use Rattle.record_names.specs.Identifier.{SUBENT, ENDSUBENT}
+use Rattle.record_expected.specs.Expected.{identificationFor}
 use Rattle.rules_state.specs.declared.state.Phase.the-variants.{Opened}
 use Rattle.rules_state.specs.State.{Context}
 use Rattle.rules_state.specs.Role.{only, roleIn}
 use Rattle.entry_judging.specs.Judging.{roleOf}
 use Rattle.entry_verdict.specs.Verdict.{isDone}
-use Rattle.good.specs.Parts.{Record, bibRecords, tableRecords, Subentry001, bodyOfFirst, firstRecords}
-use Rattle.good.specs.Marks.{nameOf}
-use Rattle.good.specs.Bib.{textsOfPart}
+use Rattle.rules_plain.specs.Places.{Long}
+use Rattle.good.specs.Parts.{Record, Bib, Table, Section, bibRecords, tableRecords, Subentry001, bodyOfFirst}
+use Rattle.good.specs.Parts.{firstRecords}
+use Rattle.good.specs.Marks.{Following, nameOf}
+use Rattle.good.specs.Bib.{GoodBibPart, textsOfPart}
 use Rattle.good.specs.Subentries.{OpensSubentry, ownNumber, GoodFirst}
 use Rattle.good.specs.Totals.{keywordsIn, numbersOf}
 use Rattle.good.proofs.Steps.{next, Passes, next-pass}
 use Rattle.good.proofs.Runs.{role-at, only-role, pass-only, rest-of, Step}
 use Rattle.good.proofs.Moves.{recount}
+use Rattle.good.proofs.Marks.{following-long}
 use Rattle.good.proofs.TableWalked.{headingRows}
 use Rattle.good.proofs.Openings.{takes-opens, opens-takes, first-number, number-first, after-opening}
 use Rattle.good.proofs.Openings.{after-endsubent}
-use Rattle.good.proofs.Subentries.{none-shown, end-due-first, Standing, encloses-of, of-encloses}
+use Rattle.good.proofs.Subentries.{texts-long, rows-long, none-shown, end-due-first, Standing, encloses-of}
+use Rattle.good.proofs.Subentries.{of-encloses}
+use Rattle.good.proofs.FlagParts.{FlagsReady, first-flags}
 use Rattle.good.proofs.SubentryHeads.{Begun, begun-by, afterHead, Head, PassedHead, pass-head, HeadGood}
 use Rattle.good.proofs.SubentryHeads.{good-head, head-pass}
 
@@ -40,6 +47,7 @@ pub record Ready (c : Context) (accession : List ℕ) : Type 0 where
   pub keywords : c .track .totals .keywords ≡ 0
   pub lines : c .track .totals .lines ≡ 0
   pub numbers : c .track .totals .numbers ≡ 0
+  pub bib001 : c .seen .bib001 ≡ []
   pub common001 : c .seen .common001 ≡ []
 
 abbrev pub StandsFirst : Context → List ℕ → Subentry001 → Type 0
@@ -84,6 +92,21 @@ pub record PassedFirst (c : Context) (rs : List Record) (z : Context) (accession
   pub good : GoodFirst accession first
   pub stands : StandsFirst (afterFirst c first) accession first
   pub passes : Passes (afterFirst c first) rest z
+
+-- what its COMMON looks back at for flags: its own BIB, and nothing kept as that of 001
+none-kept : (c : Context) (accession : List ℕ) (r : Record) → Ready c accession → next c SUBENT r .seen .bib001 ≡ []
+none-kept c accession r g = after-opening false c r .bib001 ∙ g .bib001
+
+ready-first : (accession : List ℕ) (r : Record) (bib : Section Bib) (common : Section Table) → GoodBibPart bib
+    → Following (identificationFor accession (ownNumber r)) 2 (bibRecords bib ++ tableRecords common)
+    → FlagsReady bib common
+ready-first accession r bib common g f =
+    let long = following-long (identificationFor accession (ownNumber r)) 2 (bibRecords bib ++ tableRecords common) f in
+    record {
+      good-bib = g;
+      long-texts = texts-long bib (all-left Long (bibRecords bib) (tableRecords common) long);
+      long-rows = rows-long common (all-right Long (bibRecords bib) (tableRecords common) long);
+    }
 
 pub subent-due : (c : Context) → c .phase ≡ Opened → (r : Record) → roleOf c r ≡ only SUBENT (nameOf r)
 unfolding roleIn
@@ -132,6 +155,11 @@ pass-first c rs z accession g done p =
             bib = h .good-bib;
             common = h .good-common;
             headings = h .fit;
+            flags =
+                first-flags (h .bib) (h .common) (joined (textsOfPart (h .bib))) (next c SUBENT r .seen .bib001) refl
+                (none-kept c accession r g)
+                (ready-first accession r (h .bib) (h .common) (h .good-bib) (h .follows)) .0
+                (h .flags);
             encloses = encloses-of (next c SUBENT r) (afterHead (next c SUBENT r) (h .bib) (h .common)) accession r e
                 (bodyOfFirst s) (keywordsIn (h .bib)) 0 (numbersOf (h .common)) (b .accession-is) (b .number-is)
                 (b .records)
@@ -153,6 +181,11 @@ first-head c accession s g f =
       good-bib = f .bib;
       good-common = f .common;
       fit = f .headings;
+      flags =
+          first-flags (s .bib) (s .common) (joined (textsOfPart (s .bib))) (next c SUBENT (s .opening) .seen .bib001)
+          refl (none-kept c accession (s .opening) g)
+          (ready-first accession (s .opening) (s .bib) (s .common) (f .bib) (f .encloses .between)) .1
+          (f .flags);
       follows = rw (append-nil (tableRecords (s .common))) (f .encloses .between);
     }
 

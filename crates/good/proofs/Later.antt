@@ -8,6 +8,7 @@ use lib.ListN.{length, length-append}
 use Rattle.laws.proofs.Booleans.{differ}
 use Rattle.laws.proofs.Listing.{all-left, all-places, all-right, places-all}
 use Rattle.laws.specs.Walk.{All}
+use Rattle.laws.specs.Blocks.{joined}
 use Rattle.record_words.specs.Word.{pointerOf}
 use Rattle.record_names.specs.Identifier.{SUBENT, ENDSUBENT}
 use Rattle.record_expected.specs.Expected.{identificationFor}
@@ -32,9 +33,10 @@ use Rattle.good.proofs.TablesPassed.{pass-table}
 use Rattle.good.proofs.TablesGood.{GoodHere, table-behind, table-pass, grouped-rows}
 use Rattle.good.proofs.Subentries.{texts-long, rows-long, part-shown, part-headings, data-due, end-due}
 use Rattle.good.proofs.Subentries.{encloses-of, of-encloses}
+use Rattle.good.proofs.FlagParts.{later-flags}
 use Rattle.good.proofs.SubentryHeads.{afterHead, Head, pass-head, HeadGood, good-head, head-pass, Begun}
 use Rattle.good.proofs.LaterContexts.{FirstKnown, StandsBehind, headedBy, afterLater, begun-later, stands-later}
-use Rattle.good.proofs.LaterContexts.{pointersBehind, data-known, occurs-same, data-fit, fit-data}
+use Rattle.good.proofs.LaterContexts.{first-kept, pointersBehind, data-known, occurs-same, data-fit, fit-data}
 use Rattle.good.proofs.Openings.{takes-opens, opens-takes, later-number, number-later}
 
 -- ---- the whole body
@@ -87,8 +89,8 @@ following-values c accession s rows b h f =
 
 -- ---- from the walk to the subentry
 
-pub record PassedLater (c : Context) (r : Record) (ts : List Record) (z : Context) (accession : List ℕ) (first : Subentry001)
-    (number m k l n : ℕ) : Type 0 where
+pub record PassedLater (c : Context) (r : Record) (ts : List Record) (z : Context) (accession : List ℕ)
+    (first : Subentry001) (number m k l n : ℕ) : Type 0 where
   pub sub : Later
   pub rest : List Record
   pub split : r ∷ ts ≡ laterRecords (subent sub) ++ rest
@@ -105,12 +107,13 @@ later-split : (r : Record) (bib common values : List Record) (e : Record) (ts : 
 later-split r bib common values e ts = ap (λ (x : List Record). r ∷ x) (simp append-assoc)
 
 -- SUBENT, the head (BIB and COMMON), DATA, ENDSUBENT: each has its theorem, and hands the next one its context. Left
--- for here is what concerns several parts: the headings together, the pointers of DATA, which may stand in three other
--- parts, the marks and the number of all records between SUBENT and ENDSUBENT, and that the number is above the last
--- one.
-pub pass-later : (c : Context) (accession : List ℕ) (first : Subentry001) (number m k l n : ℕ) (r : Record) (ts : List Record)
-    (z : Context) → StandsBehind c accession first number m k l n → FirstKnown accession first → 1 ≤ number → 1 ≤ m
-    → isDone (z .phase) ≡ true → Step c SUBENT r ts z → PassedLater c r ts z accession first number m k l n
+-- for here is what concerns several parts: the headings together, the codes of flags, which may stand in two BIBs, the
+-- pointers of DATA, which may stand in three other parts, the marks and the number of all records between SUBENT and
+-- ENDSUBENT, and that the number is above the last one.
+pub pass-later : (c : Context) (accession : List ℕ) (first : Subentry001) (number m k l n : ℕ) (r : Record)
+    (ts : List Record) (z : Context) → StandsBehind c accession first number m k l n → FirstKnown accession first
+    → 1 ≤ number → 1 ≤ m → isDone (z .phase) ≡ true → Step c SUBENT r ts z
+    → PassedLater c r ts z accession first number m k l n
 unfolding afterLater
 pass-later c accession first number m k l n r ts z g f one some done s =
     let rows = headingRows (first .common) in
@@ -130,6 +133,7 @@ pass-later c accession first number m k l n r ts z g f one some done s =
     let long-texts = texts-long (h .bib) (all-left Long (bibRecords (h .bib)) (tableRecords (h .common)) long) in
     let long-rows = rows-long (h .common) (all-right Long (bibRecords (h .bib)) (tableRecords (h .common)) long) in
     let known = data-known c accession first number m k l n r (h .bib) (h .common) g f long-rows (h .head) in
+    let first-texts = first-kept c accession first number m k l n r g in
     let t = pass-table true c3 (h .rest) z rows (headingRows (h .common))
     (pointersBehind first (h .bib) (h .common)) known
     (data-due c3 (h .head .phase) (λ e. ne (sym (h .head .moved .number ∙ b .number-is) ∙ e)))
@@ -155,6 +159,24 @@ pass-later c accession first number m k l n r ts z g f one some done s =
         values = t .good;
         common-headings = rw (part-headings (first .common)) (h .fit);
         data-headings = data-fit first (h .common) (t .part) (f .good .common) (h .good-common) (t .fit);
+        common-flags =
+            later-flags (h .bib) (first .bib) (h .common) (joined (textsOfPart (h .bib))) (c1 .seen .bib001) refl
+            first-texts
+            (record {
+              good-bib = h .good-bib;
+              long-texts = long-texts;
+              long-rows = long-rows;
+            }) (f .good .bib) (f .long-texts) .0 (h .flags);
+        data-flags =
+            later-flags (h .bib) (first .bib) (t .part) (c3 .seen .bib) (c3 .seen .bib001) (h .head .bib-part)
+            (h .head .moved .bib001 ∙ first-texts)
+            (record {
+              good-bib = h .good-bib;
+              long-texts = long-texts;
+              long-rows = rows-long (t .part)
+                  (following-long (identificationIn c3) (c3 .track .subentry .records + 2) (tableRecords (t .part))
+                  (t .follows));
+            }) (f .good .bib) (f .long-texts) .0 (t .flags);
         pointers = rw (part-headings (t .part))
             (all-places (Occurs (pointersKnown first sub)) (cell (headingRows (t .part))) 0 (columnsIn (t .part))
             (λ x d u.
@@ -177,17 +199,43 @@ pass-later c accession first number m k l n r ts z g f one some done s =
 
 -- ---- from the subentry to the walk
 
+record Longs (s : Later) : Type 0 where
+  texts : All Long (textsOfPart (s .bib))
+  rows : All Long (headingRows (s .common))
+  data-rows : All Long (headingRows (s .values))
+
+longs : (accession : List ℕ) (first : Subentry001) (s : Later) → GoodLater accession first s → Longs s
+longs accession first s p =
+    let a = following-long (identificationFor accession (ownNumber (s .opening))) 2 (bodyOf s) (p .encloses .between) in
+    let b = all-right Long (bibRecords (s .bib)) (tableRecords (s .common) ++ tableRecords (s .values)) a in
+    record {
+      texts = texts-long (s .bib) (all-left Long (bibRecords (s .bib))
+          (tableRecords (s .common) ++ tableRecords (s .values)) a);
+      rows = rows-long (s .common) (all-left Long (tableRecords (s .common)) (tableRecords (s .values)) b);
+      data-rows = rows-long (s .values) (all-right Long (tableRecords (s .common)) (tableRecords (s .values)) b);
+    }
+
 pub later-head : (c : Context) (accession : List ℕ) (first : Subentry001) (number m k l n : ℕ) (s : Later)
     → StandsBehind c accession first number m k l n → FirstKnown accession first → GoodLater accession first s
     → HeadGood (next c SUBENT (s .opening)) accession (ownNumber (s .opening)) (headingRows (first .common))
     (columnsIn (first .common)) (s .bib) (s .common) (tableRecords (s .values))
 later-head c accession first number m k l n s g f p =
+    let long = longs accession first s p in
     record {
       begun = begun-later c accession first number m k l n (s .opening) g (f .long-rows);
       shown-rows = part-shown false (first .common) (f .good .common);
       good-bib = p .bib;
       good-common = p .common;
       fit = rw (← part-headings (first .common)) (p .common-headings);
+      flags =
+          later-flags (s .bib) (first .bib) (s .common) (joined (textsOfPart (s .bib)))
+          (next c SUBENT (s .opening) .seen .bib001) refl
+          (first-kept c accession first number m k l n (s .opening) g)
+          (record {
+            good-bib = p .bib;
+            long-texts = long .texts;
+            long-rows = long .rows;
+          }) (f .good .bib) (f .long-texts) .1 (p .common-flags);
       follows = p .encloses .between;
     }
 
@@ -199,26 +247,13 @@ headed c accession first number m k l n s g f p =
     (columnsIn (first .common)) (s .bib) (s .common) (tableRecords (s .values))
     (later-head c accession first number m k l n s g f p)
 
-record Longs (s : Later) : Type 0 where
-  texts : All Long (textsOfPart (s .bib))
-  rows : All Long (headingRows (s .common))
-
-longs : (accession : List ℕ) (first : Subentry001) (s : Later) → GoodLater accession first s → Longs s
-longs accession first s p =
-    let a = following-long (identificationFor accession (ownNumber (s .opening))) 2 (bodyOf s) (p .encloses .between) in
-    let b = all-right Long (bibRecords (s .bib)) (tableRecords (s .common) ++ tableRecords (s .values)) a in
-    record {
-      texts = texts-long (s .bib) (all-left Long (bibRecords (s .bib))
-          (tableRecords (s .common) ++ tableRecords (s .values)) a);
-      rows = rows-long (s .common) (all-left Long (tableRecords (s .common)) (tableRecords (s .values)) b);
-    }
-
 values-here : (c : Context) (accession : List ℕ) (first : Subentry001) (number m k l n : ℕ) (s : Later)
     → StandsBehind c accession first number m k l n → FirstKnown accession first → GoodLater accession first s
     → GoodHere true (headedBy c s) (s .values) (headingRows (first .common)) (headingRows (s .common))
     (pointersBehind first (s .bib) (s .common))
 values-here c accession first number m k l n s g f p =
     let long = longs accession first s p in
+    let h = headed c accession first number m k l n s g f p in
     record {
       good = p .values;
       fit = fit-data first (s .common) (s .values) (f .good .common) (p .common) (p .values) (p .data-headings);
@@ -229,9 +264,16 @@ values-here c accession first number m k l n s g f p =
           ∙ occurs-found (pointersKnown first s) (cell (headingRows (s .values)) x)
           (places-all (Occurs (pointersKnown first s)) (cell (headingRows (s .values))) 0 (columnsIn (s .values))
           (rw (part-headings (s .values)) at (p .pointers)) x (omega arith) (omega arith)) q;
+      flags =
+          later-flags (s .bib) (first .bib) (s .values) (headedBy c s .seen .bib) (headedBy c s .seen .bib001)
+          (h .bib-part) (h .moved .bib001 ∙ first-kept c accession first number m k l n (s .opening) g)
+          (record {
+            good-bib = p .bib;
+            long-texts = long .texts;
+            long-rows = long .data-rows;
+          }) (f .good .bib) (f .long-texts) .1 (p .data-flags);
       follows = following-values c accession s (headingRows (first .common))
-          (begun-later c accession first number m k l n (s .opening) g (f .long-rows))
-          (headed c accession first number m k l n s g f p) (p .encloses .between);
+          (begun-later c accession first number m k l n (s .opening) g (f .long-rows)) h (p .encloses .between);
     }
 
 values-behind : (c : Context) (accession : List ℕ) (first : Subentry001) (number m k l n : ℕ) (s : Later)

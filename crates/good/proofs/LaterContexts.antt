@@ -101,6 +101,12 @@ stands-later c accession first number m k l n s g ne h t =
     five : {a b d e f : ℕ} → a ≡ b → b ≡ d → d ≡ e → e ≡ f + 1 → f ≡ m → a ≡ m + 1
     five p q r s t = omega arith
 
+-- the BIB of 001 is still there behind SUBENT
+pub first-kept : (c : Context) (accession : List ℕ) (first : Subentry001) (number m k l n : ℕ) (r : Record)
+    → StandsBehind c accession first number m k l n
+    → next c SUBENT r .seen .bib001 ≡ joined (textsOfPart (first .bib))
+first-kept c accession first number m k l n r g = after-opening false c r .bib001 ∙ g .bib001
+
 -- what DATA looks back at
 abbrev pub pointersBehind : Subentry001 → Section Bib → Section Table → List ℕ
 pointersBehind first bib common =
@@ -117,7 +123,7 @@ data-known c accession first number m k l n r bib common g f long h =
     let o = after-opening false c r in
     let v = h .moved in
     let a : afterHead (next c SUBENT r) bib common .seen .bib001 ≡ joined (textsOfPart (first .bib)) =
-    v .bib001 ∙ o .bib001 ∙ g .bib001 in
+    v .bib001 ∙ first-kept c accession first number m k l n r g in
     let b : afterHead (next c SUBENT r) bib common .seen .common001 ≡ joined (headingRows (first .common)) =
     v .common001 ∙ o .common001 ∙ g .common001 in
     record {

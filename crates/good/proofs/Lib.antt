@@ -10,12 +10,14 @@ pub mod Systems
 pub mod SystemRoles
 pub mod BibContexts
 pub mod Bibs
+pub mod FlagCodes
 pub mod Rows
 pub mod RowPlaces
 pub mod Rowwise
 pub mod Cells
 pub mod Pointers
 pub mod Units
+pub mod FlagsByColumn
 pub mod Values
 pub mod ValuesByColumn
 pub mod Earlier
@@ -31,6 +33,7 @@ pub mod TablesGood
 pub mod Together
 pub mod Openings
 pub mod Subentries
+pub mod FlagParts
 pub mod SubentryHeads
 pub mod FirstSubentry
 pub mod LaterContexts

@@ -22,8 +22,10 @@ use Rattle.good.proofs.Marks.{following-append, following-left, followi
 use Rattle.good.proofs.Systems.{identificationIn}
 use Rattle.good.proofs.Rows.{Kind, values, roleFor, linesOf as rowLines}
 use Rattle.good.proofs.RowPlaces.{RowAt, NoEnd, InRow, pass-row, row-pass, row-left}
+use Rattle.good.proofs.FlagsByColumn.{Kept, Keeps, LinesFit}
 use Rattle.good.proofs.ValuesByColumn.{count-numbers, values-good}
-use Rattle.good.proofs.Values.{behind-values}
+use Rattle.good.proofs.Rowwise.{BehindRow, countRow}
+use Rattle.good.proofs.Values.{count, behind-values}
 
 pub in-row : (d : Bool) (k : Kind) (n last line : ℕ) (c : Context) → RowAt c d k n last line n → 1 ≤ n
     → InRow d k n last line c (recordsFor n)
@@ -150,42 +152,52 @@ lines-pass d n last line c (row ∷ rows) rest z a p b f run q =
 abbrev pub LinesGood : Bool → ℕ → List (List Record) → Type 0
 LinesGood d n rows = All (GoodValues d n) rows × (d ≡ true → All (λ row. 1 ≤ numbersInLine n row) rows)
 
-pub lines-good : (d : Bool) (n last line : ℕ) (c : Context) (identification : List ℕ) (s : ℕ)
+keeps-behind : (d : Bool) (kept : Kept) (c e : Context) (rs : List Record) (m : ℕ) → BehindRow c e d values rs m
+    → Keeps c kept → Keeps e kept
+keeps-behind d kept c e rs m w k =
+    record { bib = w .bib ∙ k .bib; bib001 = w .moved .bib001 ∙ k .bib001; table = w .part ∙ k .table }
+
+pub lines-good : (d : Bool) (kept : Kept) (n last line : ℕ) (c : Context) (identification : List ℕ) (s : ℕ)
     (rows : List (List Record))
-    → RowAt c d values n last line n → 1 ≤ n → c .track .table .blank ≡ true → line + length rows ≤ last + 1
-    → identificationIn c ≡ identification → c .track .subentry .records + 2 ≡ s
-    → LinesRun d n c rows ↔ (Following identification s (concat rows) × LinesGood d n rows)
+    → RowAt c d values n last line n → 1 ≤ n → c .track .table .blank ≡ true → Keeps c kept
+    → line + length rows ≤ last + 1 → identificationIn c ≡ identification → c .track .subentry .records + 2 ≡ s
+    → LinesRun d n c rows ↔ (Following identification s (concat rows) × LinesGood d n rows × LinesFit kept n rows)
 unfolding LinesRun concat Following
-lines-good d n last line c identification s [] a p b f i q = (λ r. (tt, (tt, λ e. tt)), λ r. tt)
-lines-good d n last line c identification s (row ∷ rows) a p b f i q =
+lines-good d kept n last line c identification s [] a p b k f i q = (λ r. (tt, (tt, λ e. tt), tt), λ r. tt)
+lines-good d kept n last line c identification s (row ∷ rows) a p b k f i q =
     let c1 = afterRun (roleFor values d) c row in
     let rest : (l : length row ≡ recordsFor n) → Run NoEnd (roleFor values d) c row
-    → LinesRun d n c1 rows ↔ (Following identification (s + length row) (concat rows) × LinesGood d n rows) = λ l run.
+    → LinesRun d n c1 rows
+    ↔ (Following identification (s + length row) (concat rows) × LinesGood d n rows × LinesFit kept n rows) = λ l run.
     let w = behind-values d n last line n c row a p l run in
     let left = row-left d values n last line (omega arith) (recordsFor n) c row
     (in-row d values n last line c a p) l run in
     let x = w .moved .records in
-    lines-good d n last (line + 1) c1 identification (s + length row) rows left p (w .blank) (omega arith)
+    lines-good d kept n last (line + 1) c1 identification (s + length row) rows left p (w .blank)
+    (keeps-behind d kept c c1 row (countRow count n row) w k) (omega arith)
     (rw (w .moved .accession, w .moved .number) i) (omega arith) in (
       λ run.
-          let g = values-good d n last line c row a p b (run .0) .0 (run .1) in
+          let g = values-good d kept n last line c row a p b k (run .0) .0 (run .1) in
           let h = rest (run .0) (run .1) .0 (run .2) in (
             following-append identification s row (concat rows)
                 (following-as (identificationIn c) identification (c .track .subentry .records + 2) s row i q (g .0))
                 (h .0),
             ((g .1, h .1 .0), λ e. (g .2 e, h .1 .1 e)),
+            (g .3, h .2),
           ),
       λ g.
           let l = g .1 .0 .0 .records in
           let run =
-          values-good d n last line c row a p b l .1 (
+          values-good d kept n last line c row a p b k l .1 (
             following-as identification (identificationIn c) s (c .track .subentry .records + 2) row (sym i) (sym q)
                 (following-left identification s row (concat rows) (g .0)),
             g .1 .0 .0,
             λ e. g .1 .1 e .0,
+            g .2 .0,
           ) in (
             l,
             run,
-            rest l run .1 (following-right identification s row (concat rows) (g .0), (g .1 .0 .1, λ e. g .1 .1 e .1)),
+            rest l run .1
+                (following-right identification s row (concat rows) (g .0), (g .1 .0 .1, λ e. g .1 .1 e .1), g .2 .1),
           ),
     )

@@ -30,7 +30,7 @@ use Rattle.good.proofs.Systems.{identificationIn}
 use Rattle.good.proofs.BibContexts.{afterBib, BehindBib, behind-bib}
 use Rattle.good.proofs.Bibs.{pass-bib, bib-pass}
 use Rattle.good.proofs.TableContexts.{PartsKnown}
-use Rattle.good.proofs.TableWalked.{headingRows, columnsIn, afterTable, BehindTable}
+use Rattle.good.proofs.TableWalked.{headingRows, columnsIn, afterTable, BehindTable, FlagsTested, flags-as}
 use Rattle.good.proofs.TablesPassed.{pass-table}
 use Rattle.good.proofs.TablesGood.{GoodHere, table-behind, table-pass}
 use Rattle.good.proofs.Together.{Shown, shown, fits-all, all-fits}
@@ -155,13 +155,15 @@ pub record PassedHead (c : Context) (rs : List Record) (z : Context) (accession 
   pub good-bib : GoodBibPart bib
   pub good-common : GoodCommonPart common
   pub fit : Behind (shown rows n) common
+  pub flags : FlagsTested (joined (textsOfPart bib)) (c .seen .bib001) common
   pub follows : Following (identificationFor accession number) 2 (bibRecords bib ++ tableRecords common)
   pub head : Head c bib common
   pub passes : Passes (afterHead c bib common) rest z
 
 -- BIB and COMMON have their own theorems. What lies between them is what COMMON looks back at (`common-known`): the
 -- heading records of 001, and none of its own subentry. So the headings of COMMON come out as they fit behind those
--- of 001 alone.
+-- of 001 alone. Its flags are handed on over the bytes of both BIBs; which codes these hold is said in the files on 001
+-- and on later subentries.
 pub pass-head : (c : Context) (rs : List Record) (z : Context) (accession : List ℕ) (number : ℕ) (rows : List Record)
     (n : ℕ)
     → Begun c accession number rows → Shown rows n → isDone (z .phase) ≡ true → Passes c rs z
@@ -185,6 +187,8 @@ pass-head c rs z accession number rows n g s done p =
       fit = rw (part-headings (t .part))
           (rw (append-nil (shown rows n)) at
           (fits-all false rows [] (headingRows (t .part)) n 0 (columnsIn (t .part)) s none-shown (t .fit)));
+      flags = flags-as (c2 .seen .bib) (c2 .seen .bib001) (joined (textsOfPart (b .part))) (c .seen .bib001) (t .part)
+          (bb .bib) (bb .moved .bib001) (t .flags);
       follows = head-following c accession number rows (b .part) (t .part) g bb (b .follows) (t .follows);
       head = head-of c (b .part) (t .part) bb (t .behind);
       passes = t .passes;
@@ -198,6 +202,7 @@ pub record HeadGood (c : Context) (accession : List ℕ) (number : ℕ) (rows : 
   pub good-bib : GoodBibPart bib
   pub good-common : GoodCommonPart common
   pub fit : Behind (shown rows n) common
+  pub flags : FlagsTested (joined (textsOfPart bib)) (c .seen .bib001) common
   pub follows : Following (identificationFor accession number) 2 (bibRecords bib ++ (tableRecords common ++ rest))
 
 head-bib : (c : Context) (accession : List ℕ) (number : ℕ) (rows : List Record) (n : ℕ) (bib : Section Bib)
@@ -212,14 +217,16 @@ head-here : (c : Context) (accession : List ℕ) (number : ℕ) (rows : List Rec
     (afterBib c bib .seen .common001))
 unfolding listOf
 head-here c accession number rows n bib common rest h =
+    let b = head-bib c accession number rows n bib common rest h in
     record {
       good = h .good-common;
       fit = all-fits false rows [] (headingRows common) n 0 (columnsIn common) (h .shown-rows) none-shown
           (part-words false common (h .good-common))
           (rw (append-nil (shown rows n)) (rw (part-headings common) at (h .fit)));
       found = λ e. differ (sym e);
-      follows = following-common c accession number rows bib common rest (h .begun)
-          (head-bib c accession number rows n bib common rest h) (h .follows);
+      flags = flags-as (joined (textsOfPart bib)) (c .seen .bib001) (afterBib c bib .seen .bib)
+          (afterBib c bib .seen .bib001) common (sym (b .bib)) (sym (b .moved .bib001)) (h .flags);
+      follows = following-common c accession number rows bib common rest (h .begun) b (h .follows);
     }
 
 pub good-head : (c : Context) (accession : List ℕ) (number : ℕ) (rows : List Record) (n : ℕ) (bib : Section Bib)

@@ -24,6 +24,7 @@ use Rattle.good.proofs.Rows.{headings, units, values, roleFor, endFor}
 use Rattle.good.proofs.Rowwise.{BehindRow, countRow}
 use Rattle.good.proofs.Units.{noCount}
 use Rattle.good.proofs.Lines.{no-line, afterLines, LinesRun, linesOf, BehindLines}
+use Rattle.good.proofs.FlagsByColumn.{keptOf, Keeps, LinesFit}
 use Rattle.good.proofs.TableKinds.{openFor, noFor, phaseBehind, lastFor, Limits}
 use Rattle.good.proofs.TableContexts.{TableOpened, commonBehind, after-end, after-none}
 
@@ -36,6 +37,15 @@ headingRows (absent r) = []
 abbrev pub columnsIn : Section Table → ℕ
 columnsIn (present t) = columnsOf t
 columnsIn (absent r) = 0
+
+-- no value is at fault under FLAG or DECAY-FLAG, over these bytes of the BIBs
+abbrev pub FlagsTested : List ℕ → List ℕ → Section Table → Type 0
+FlagsTested bib bib001 (present t) = LinesFit (keptOf bib bib001 (t .headings)) (columnsOf t) (t .lines)
+FlagsTested bib bib001 (absent r) = Unit {0}
+
+pub flags-as : (bib bib001 bib′ bib001′ : List ℕ) (part : Section Table) → bib ≡ bib′ → bib001 ≡ bib001′
+    → FlagsTested bib bib001 part → FlagsTested bib′ bib001′ part
+flags-as bib bib001 bib′ bib001′ part p q h = rw (p, q) at h
 
 abbrev pub afterHeadings : Bool → Context → Table → Context
 afterHeadings d c t = afterRun (roleFor headings d) (next c (openFor d) (t .opening)) (t .headings)
@@ -68,6 +78,17 @@ pub record Walked (d : Bool) (c : Context) (t : Table) (a b : ℕ) : Type 0 wher
   pub lines-many : 1 + length (t .lines) ≡ lastFor d b + 1
   pub lines-run : LinesRun d a (afterUnits d c t) (t .lines)
   pub lines-behind : BehindLines (afterUnits d c t) (afterRows d c t) d a (lastFor d b) 1 (t .lines)
+
+-- what the lines are held against: both BIBs as they were before the section, and its heading records
+pub keeps-rows : {d : Bool} {c e f g : Context} {n last k l : ℕ} {hs us : List Record} → TableOpened c e d n last
+    → BehindRow e f d headings hs k → BehindRow f g d units us l
+    → Keeps g (keptOf (c .seen .bib) (c .seen .bib001) hs)
+keeps-rows {hs = hs} o h u =
+    record {
+      bib = u .bib ∙ h .bib ∙ o .bib;
+      bib001 = u .moved .bib001 ∙ h .moved .bib001 ∙ o .moved .bib001;
+      table = u .part ∙ h .part ∙ ap (λ (x : List ℕ). x ++ joined hs) (o .part);
+    }
 
 none-counted : (rest : ℕ) (rs : List Record) → countRow noCount rest rs ≡ 0
 unfolding countRow

@@ -27,6 +27,7 @@ use Rattle.good.proofs.Units.{units-good, behind-units}
 use Rattle.good.proofs.Headings.{behind-headings}
 use Rattle.good.proofs.Earlier.{Fits}
 use Rattle.good.proofs.HeadingsByColumn.{headings-good}
+use Rattle.good.proofs.FlagsByColumn.{keptOf}
 use Rattle.good.proofs.Lines.{in-row, behind-lines, lines-pass, lines-good}
 use Rattle.good.proofs.TableKinds.{openFor, noFor, open-for, free-for, end-for, differ-for, marked-end}
 use Rattle.good.proofs.TableKinds.{section-count, no-keywords, lastFor, of-limits, GoodPart, Pieces, secondFor}
@@ -34,7 +35,7 @@ use Rattle.good.proofs.TableKinds.{good-pieces}
 use Rattle.good.proofs.TableContexts.{after-open, PartsKnown, known-open}
 use Rattle.good.proofs.TableWalked.{headingRows, columnsIn, afterHeadings, afterUnits, afterRows, afterTable}
 use Rattle.good.proofs.TableWalked.{Walked, walked-moved, walked-section, BehindTable, behind-none}
-use Rattle.good.proofs.TableWalked.{walked-behind}
+use Rattle.good.proofs.TableWalked.{walked-behind, FlagsTested, keeps-rows}
 use Rattle.good.proofs.TablesPassed.{rows-grouped, last-least}
 
 -- The rows of a good table make the walk: each row's theorem, read from right to left, gives its run in the context
@@ -45,9 +46,9 @@ good-walked : (d : Bool) (c : Context) (t : Table) (b : ℕ) (first common : Lis
     → Following (identificationIn c) (c .track .subentry .records + 3) (rowsOf t)
     → ((x : ℕ) → x < columnsOf t → Fits d first common (t .headings) x)
     → (d ≡ true → (x : ℕ) → x < columnsOf t → FoundIn pointers (cell (t .headings) x))
-    → Walked d c t (columnsOf t) b
+    → FlagsTested (c .seen .bib) (c .seen .bib001) (present t) → Walked d c t (columnsOf t) b
 unfolding columnsOf
-good-walked d c t b first common pointers k p f fit found =
+good-walked d c t b first common pointers k p f fit found flags =
     let a = columnsOf t in
     let r = t .opening in
     let l = lastFor d b in
@@ -92,13 +93,14 @@ good-walked d c t b first common pointers k p f fit found =
     let m2 = b2 .moved in
     let x3 = m2 .records in
     let many = p .many in
-    let run3 = lines-good d a l 1 c3 (identificationIn c3) (c3 .track .subentry .records + 2) (t .lines) at2
-    (lim .least)
-    (b2 .blank) (omega arith) refl refl .1 (
+    let run3 = lines-good d (keptOf (c .seen .bib) (c .seen .bib001) (t .headings)) a l 1 c3 (identificationIn c3)
+    (c3 .track .subentry .records + 2) (t .lines) at2 (lim .least) (b2 .blank) (keeps-rows o b1 b2) (omega arith) refl
+    refl .1 (
       following-as i (identificationIn c3) (s + length (t .headings) + length (t .units))
           (c3 .track .subentry .records + 2) (concat (t .lines))
           (rw (m2 .accession, m2 .number, m1 .accession, m1 .number, om .accession, om .number)) (omega arith) f3,
       p .lines,
+      flags,
     ) in
     record {
       limits = lim;
@@ -136,6 +138,7 @@ pub record GoodHere (d : Bool) (c : Context) (part : Section Table) (first commo
   pub good : GoodPart d part
   pub fit : (x : ℕ) → x < columnsIn part → Fits d first common (headingRows part) x
   pub found : d ≡ true → (x : ℕ) → x < columnsIn part → FoundIn pointers (cell (headingRows part) x)
+  pub flags : FlagsTested (c .seen .bib) (c .seen .bib001) part
   pub follows : Following (identificationIn c) (c .track .subentry .records + 2) (tableRecords part)
 
 rows-follow : (d : Bool) (c : Context) (t : Table) (first common : List Record) (pointers : List ℕ)
@@ -156,7 +159,7 @@ here-walked d c t first common pointers k g =
     good-walked d c t (secondFor d t) first common pointers k (good-pieces d t (g .good))
     (following-left (identificationIn c) (c .track .subentry .records + 3) (rowsOf t) (t .ending ∷ [])
     (rows-follow d c t first common pointers g .1))
-    (g .fit) (g .found)
+    (g .fit) (g .found) (g .flags)
 
 pub table-behind : (d : Bool) (c : Context) (part : Section Table) (first common : List Record) (pointers : List ℕ)
     → PartsKnown first common pointers c → (d ≡ false → c .seen .common ≡ []) → GoodHere d c part first common pointers

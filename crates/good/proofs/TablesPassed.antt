@@ -28,13 +28,14 @@ use Rattle.good.proofs.Units.{units-good, behind-units}
 use Rattle.good.proofs.Headings.{behind-headings}
 use Rattle.good.proofs.Earlier.{Fits}
 use Rattle.good.proofs.HeadingsByColumn.{headings-good}
+use Rattle.good.proofs.FlagsByColumn.{keptOf}
 use Rattle.good.proofs.Lines.{in-row, afterLines, behind-lines, pass-lines, lines-good}
 use Rattle.good.proofs.TableKinds.{openFor, noFor, open-for, free-for, end-for, differ-for, end-marked}
 use Rattle.good.proofs.TableKinds.{section-count, lastFor, Limits, limits-of, GoodPart, pieces-good}
 use Rattle.good.proofs.TableContexts.{after-open, PartsKnown, known-open}
 use Rattle.good.proofs.TableWalked.{headingRows, columnsIn, afterHeadings, afterUnits, afterRows, afterTable}
 use Rattle.good.proofs.TableWalked.{Walked, walked-moved, walked-section, walked-following, BehindTable}
-use Rattle.good.proofs.TableWalked.{behind-none, walked-behind}
+use Rattle.good.proofs.TableWalked.{behind-none, walked-behind, FlagsTested, keeps-rows}
 
 pub record PassedTable (d : Bool) (c : Context) (rs : List Record) (z : Context) (first common : List Record)
     (pointers : List ℕ) : Type 0 where
@@ -44,6 +45,7 @@ pub record PassedTable (d : Bool) (c : Context) (rs : List Record) (z : Context)
   pub good : GoodPart d part
   pub fit : (x : ℕ) → x < columnsIn part → Fits d first common (headingRows part) x
   pub found : d ≡ true → (x : ℕ) → x < columnsIn part → FoundIn pointers (cell (headingRows part) x)
+  pub flags : FlagsTested (c .seen .bib) (c .seen .bib001) part
   pub follows : Following (identificationIn c) (c .track .subentry .records + 2) (tableRecords part)
   pub behind : BehindTable c (afterTable d c part) d part
   pub passes : Passes (afterTable d c part) rest z
@@ -64,6 +66,7 @@ pass-none d c r rs z first common pointers h s =
       good = none-good d r (s .named);
       fit = λ x l. absurd (omega arith);
       found = λ e x l. absurd (omega arith);
+      flags = tt;
       follows = (here-of c (noFor d) r (free-for d .inside) (s .takes), tt);
       behind = behind-none d c r h;
       passes = s .passes;
@@ -102,10 +105,10 @@ table-of d c t ts z first common pointers k named takes w s =
     let us = units-good d a l 1 (afterHeadings d c t) (t .units) (w .heads-at) (w .limits .least) (w .units-long) .0
     (w .units-run) in
     let few : 1 + length (t .lines) ≤ l + 1 = (let m = w .lines-many in omega arith) in
-    let ls = lines-good d a l 1 (afterUnits d c t) (identificationIn (afterUnits d c t))
-    (afterUnits d c t .track .subentry .records + 2) (t .lines) (w .units-at) (w .limits .least)
-    (w .units-behind .blank) few
-    refl refl .0 (w .lines-run) in
+    let ls = lines-good d (keptOf (c .seen .bib) (c .seen .bib001) (t .headings)) a l 1 (afterUnits d c t)
+    (identificationIn (afterUnits d c t)) (afterUnits d c t .track .subentry .records + 2) (t .lines) (w .units-at)
+    (w .limits .least) (w .units-behind .blank)
+    (keeps-rows (w .opened) (w .heads-behind) (w .units-behind)) few refl refl .0 (w .lines-run) in
     let end = takes-end (afterRows d c t) (endFor d) (t .ending) (end-for d) (s .takes) in
     record {
       part = present t;
@@ -132,6 +135,7 @@ table-of d c t ts z first common pointers k named takes w s =
           });
       fit = heads .2;
       found = heads .3;
+      flags = ls .2;
       follows = (
         here-of c (openFor d) r (open-for d .inside) takes,
         following-as (identificationIn c) (identificationIn c) (c .track .subentry .records + 3)

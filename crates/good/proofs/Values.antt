@@ -1,13 +1,13 @@
--- A line of values, of COMMON or of DATA, record by record: rule 15, and the context behind the line.
+-- A line of values, of COMMON or of DATA, record by record: the rules 15 and 17, and the context behind the line.
 -- Assumes nothing.
-use Prim.Native.Nat.{ℕ, _+_, _<_, _≤_}
+use Prim.Native.Nat.{ℕ, _+_, _-_, _*_, _<_, _≤_}
 use mathlib.Core.Path.{_≡_, refl, sym, _∙_, ap}
 use mathlib.Core.Bool.{Bool, true, false, not, _&&_}
 use mathlib.Core.Logic.{_↔_}
 use mathlib.Core.List.{List, [], _∷_, _++_}
 use native.Mathlib.Omega.{arith}
 use lib.Dec.{eqb, ltb, leb}
-use lib.ListN.{length}
+use lib.ListN.{length, length-append}
 use borrow.Author.Tests.{lt-ltb, le-ltb, le-leb, leb-true, lt-leb, eqb-true, eqb-false, ne-eqb}
 use Rattle.laws.proofs.Booleans.{differ}
 use Rattle.laws.proofs.Counting.{first-many, many-above, many-same}
@@ -26,6 +26,7 @@ use Rattle.rules_state.specs.State.{Context, used}
 use Rattle.rules_roles.specs.Roles.{NOT-DUE, isValue}
 use Rattle.rules_roles.specs.Fault.{when, columnsWhere, fieldColumn}
 use Rattle.rules_values.proofs.BlankFields.{blank-form}
+use Rattle.rules_flags.specs.Flags.{rule17}
 use Rattle.rules_values.specs.Values.{optional, blankFields, lineBlank, rule15, valuesFor}
 use Rattle.rules.proofs.NoColumns.{when-none, append-none, where-none, none-where}
 use Rattle.rules.proofs.ByKind.{clean-value}
@@ -39,13 +40,17 @@ use Rattle.good.proofs.RowPlaces.{RowAt, NoEnd}
 use Rattle.good.proofs.Rows.{values, roleFor, numbersOf, lastOf, row-step}
 use Rattle.good.proofs.Rowwise.{RowFine, run-row, BehindRow, behind-row, countRow}
 use Rattle.good.proofs.Cells.{field-at, few, few-used, few-least, few-below, few-past, below-few, Cells}
+use Rattle.good.proofs.FlagsByColumn.{Kept, Keeps, FlagsOn, rule-flags, flags-rule}
 
--- ---- rule 15
+-- ---- the rules 15 and 17
 
 -- Rule 15 has two clauses. Field by field: a used value is a number, in DATA also blank, and an unused one is blank.
 -- This says something of the cells of one record (`FieldsFine`, `Cells`). Line by line: a line of DATA has a number.
 -- The judge looks at this on the last record of the line only, with a flag from the records before: none of them has a
--- number. Here the line is one count m of the numbers so far, and the flag is m = 0 (`LineBlank`).
+-- number. Here the line is one count m of the numbers so far, and the judge's flag is m = 0 (`LineKnown.blank`).
+--
+-- Rule 17 holds each value against the heading of its column and against both BIBs. The bytes of these do not change
+-- along the lines (`Keeps`), and the column is known by the records of the line before (`LineKnown.place`).
 value-role : (d : Bool) → (isValue (roleFor values d) ≡ true) × (eqb (roleFor values d) NOT-DUE ≡ false)
 value-role false = (refl, refl)
 value-role true = (refl, refl)
@@ -55,11 +60,12 @@ value-rule : (d : Bool) (c : Context) (r : Record) → Takes c (roleFor values d
 value-rule d c r t = t .1 .fifteen (value-role d .0)
 
 rule-value : (d : Bool) (c : Context) (r : Record) → MarkedFor c (roleFor values d) r
-    → rule15 (c .track) (roleFor values d) (fieldsOf r) ≡ [] → Takes c (roleFor values d) r
-rule-value d c r m e =
+    → rule15 (c .track) (roleFor values d) (fieldsOf r) ≡ [] → rule17 (c .seen) (c .track) (fieldsOf r) ≡ []
+    → Takes c (roleFor values d) r
+rule-value d c r m e f =
     let role = roleFor values d in
     let (kind, due) = value-role d in
-    (m .whole, clean-value (c .track) (c .seen) role (fieldsOf r) r (marked-every c role r m due) kind e)
+    (m .whole, clean-value (c .track) (c .seen) role (fieldsOf r) r (marked-every c role r m due) kind e f)
 
 optional-is : (d : Bool) → optional (roleFor values d) ≡ d
 optional-is false = refl
@@ -159,15 +165,19 @@ blank-count d c rest r e g =
 
 -- ---- a record of a line
 
-pub record ValuesFine (d : Bool) (rest : ℕ) (m : ℕ) (r : Record) : Type 0 where
+-- `kept` are the bytes that its values are held against, `before` the records of the line before it, with m numbers
+pub record ValuesFine (d : Bool) (kept : Kept) (rest : ℕ) (before : List Record) (m : ℕ) (r : Record) : Type 0 where
   pub cells : Cells (GoodValue d) BlankValue rest r
   pub some : d ≡ true → rest ≤ 6 → 1 ≤ m + count rest r
+  pub flags : FlagsOn kept rest before r
 
-abbrev pub LineFine : Bool → ℕ → List Record → ℕ → Record → Type 0
-LineFine d rest before m r = ValuesFine d rest m r
+abbrev pub LineFine : Bool → Kept → ℕ → List Record → ℕ → Record → Type 0
+LineFine d kept rest before m r = ValuesFine d kept rest before m r
 
-abbrev pub LineBlank : Context → List Record → ℕ → Type 0
-LineBlank c before m = c .track .table .blank ≡ eqb m 0
+pub record LineKnown (kept : Kept) (c : Context) (before : List Record) (m : ℕ) : Type 0 where
+  pub blank : c .track .table .blank ≡ eqb m 0
+  pub place : length before * 6 + c .track .table .rest ≡ c .track .table .columns
+  pub keeps : Keeps c kept
 
 both-zero : (m n : ℕ) → (eqb m 0 && eqb n 0) ≡ eqb (m + n) 0
 both-zero m n = by-test (eqb m 0) refl
@@ -200,11 +210,11 @@ some-of c rest m r e b g h l =
     ∙ sym (line-blank c rest m r e b g) ∙ h in
     not-none (m + count rest r) (eqb-false (m + count rest r) 0 k)
 
-no-blank : (d : Bool) (c : Context) (rest m : ℕ) (r : Record) → c .track .table .rest ≡ rest
-    → c .track .table .blank ≡ eqb m 0 → ValuesFine d rest m r
+no-blank : (d : Bool) (kept : Kept) (c : Context) (rest : ℕ) (before : List Record) (m : ℕ) (r : Record)
+    → c .track .table .rest ≡ rest → c .track .table .blank ≡ eqb m 0 → ValuesFine d kept rest before m r
     → lineBlank (c .track) (roleFor values d) (fieldsOf r) ≡ false
-no-blank false c rest m r e b f = refl
-no-blank true c rest m r e b f =
+no-blank false kept c rest before m r e b f = refl
+no-blank true kept c rest before m r e b f =
     line-blank c rest m r e b (f .cells) ∙ by-test (leb rest 6) refl
   where
     by-test : (t : Bool) → leb rest 6 ≡ t → (t && (eqb m 0 && eqb (count rest r) 0)) ≡ false
@@ -213,50 +223,75 @@ no-blank true c rest m r e b f =
         both-zero m (count rest r) ∙ ne-eqb (m + count rest r) 0 (λ z. omega arith)
     by-test false q = refl
 
-takes-values : (d : Bool) (c : Context) (rest : ℕ) (before : List Record) (m : ℕ) (r : Record)
-    → c .track .table .rest ≡ rest → LineBlank c before m → Takes c (roleFor values d) r → LineFine d rest before m r
-takes-values d c rest before m r e b t =
-    let (h, f) = fields-fine d c r t in
-    let g = fine-cells d c rest r e f in
-    record { cells = g; some = by-kind d g h }
-  where
-    by-kind : (d : Bool) → Cells (GoodValue d) BlankValue rest r
-        → lineBlank (c .track) (roleFor values d) (fieldsOf r) ≡ false
-        → d ≡ true → rest ≤ 6 → 1 ≤ m + count rest r
-    by-kind true g h q l = some-of c rest m r e b g h l
-    by-kind false g h q l = differ (sym q)
+next-place : (b b′ rest left n m : ℕ) → b′ ≡ b + 1 → b * 6 + rest ≡ n → 6 < rest → left ≡ rest - 6 → m ≡ n
+    → b′ * 6 + left ≡ m
+next-place b b′ rest left n m p q l x y = omega arith
 
-values-takes : (d : Bool) (c : Context) (rest : ℕ) (before : List Record) (m : ℕ) (r : Record)
-    → c .track .table .rest ≡ rest → LineBlank c before m → MarkedFor c (roleFor values d) r
-    → LineFine d rest before m r
-    → Takes c (roleFor values d) r
-unfolding rule15
-values-takes d c rest before m r e b mk f =
-    rule-value d c r mk
-    (rw (no-blank d c rest m r e b f, optional-is d)
-    (none-where (inField (valueFault d (used (c .track))) (fieldsOf r)) fieldColumn 6
-    (cells-fine d c rest r e (f .cells) .none)))
+module _ (d : Bool) (kept : Kept) where
+  abbrev Known : Context → List Record → ℕ → Type 0
+  Known c before m = LineKnown kept c before m
 
-line-blank-next : (d : Bool) (c : Context) (rest : ℕ) (before : List Record) (m : ℕ) (r : Record)
-    → c .track .table .rest ≡ rest → LineBlank c before m → 6 < rest → Takes c (roleFor values d) r
-    → LineBlank (next c (roleFor values d) r) (before ++ (r ∷ [])) (m + count rest r)
-line-blank-next d c rest before m r e b l t =
-    let s = row-step values d c r in
-    let q : lastOf c ≡ false = rw e (lt-leb rest 6 l) in
-    let w = rw q at (s .table) in
-    let (h, f) = fields-fine d c r t in
-    ap (λ (x : Table). x .blank) w
-    ∙ and-same (c .track .table .blank) (eqb m 0) (eqb (numbersOf values d c r) 0) (eqb (count rest r) 0)
-    b (ap (λ (x : ℕ). eqb x 0) (values-count d c rest r e f))
-    ∙ both-zero m (count rest r)
+  takes-values : (c : Context) (rest : ℕ) (before : List Record) (m : ℕ) (r : Record) → c .track .table .rest ≡ rest
+      → Known c before m → Takes c (roleFor values d) r → LineFine d kept rest before m r
+  takes-values c rest before m r e k t =
+      let (h, f) = fields-fine d c r t in
+      let g = fine-cells d c rest r e f in
+      record {
+        cells = g;
+        some = by-kind d g h;
+        flags = rule-flags kept c rest before r e (k .place) (k .keeps) (t .1 .seventeen (value-role d .0));
+      }
+    where
+      by-kind : (d : Bool) → Cells (GoodValue d) BlankValue rest r
+          → lineBlank (c .track) (roleFor values d) (fieldsOf r) ≡ false
+          → d ≡ true → rest ≤ 6 → 1 ≤ m + count rest r
+      by-kind true g h q l = some-of c rest m r e (k .blank) g h l
+      by-kind false g h q l = differ (sym q)
 
-pub run-values : (d : Bool) (n last line rest : ℕ) (c : Context) (identification : List ℕ) (s : ℕ)
-    (before : List Record) (m : ℕ) (rs : List Record) → RowAt c d values n last line rest → 1 ≤ rest
-    → identificationIn c ≡ identification → c .track .subentry .records + 2 ≡ s → LineBlank c before m
-    → length rs ≡ recordsFor rest
-    → Run NoEnd (roleFor values d) c rs
-    ↔ (All NoEnd rs × Following identification s rs × RowFine (LineFine d) count rest before m rs)
-run-values d = run-row d values count (LineFine d) LineBlank (takes-values d) (values-takes d) (line-blank-next d)
+  values-takes : (c : Context) (rest : ℕ) (before : List Record) (m : ℕ) (r : Record) → c .track .table .rest ≡ rest
+      → Known c before m → MarkedFor c (roleFor values d) r → LineFine d kept rest before m r
+      → Takes c (roleFor values d) r
+  unfolding rule15
+  values-takes c rest before m r e k mk f =
+      rule-value d c r mk
+      (rw (no-blank d kept c rest before m r e (k .blank) f, optional-is d)
+      (none-where (inField (valueFault d (used (c .track))) (fieldsOf r)) fieldColumn 6
+      (cells-fine d c rest r e (f .cells) .none)))
+      (flags-rule kept c rest before r e (k .place) (k .keeps) (f .flags))
+
+  line-known-next : (c : Context) (rest : ℕ) (before : List Record) (m : ℕ) (r : Record) → c .track .table .rest ≡ rest
+      → Known c before m → 6 < rest → Takes c (roleFor values d) r
+      → Known (next c (roleFor values d) r) (before ++ (r ∷ [])) (m + count rest r)
+  line-known-next c rest before m r e k l t =
+      let s = row-step values d c r in
+      let q : lastOf c ≡ false = rw e (lt-leb rest 6 l) in
+      let w = rw q at (s .table) in
+      let (h, f) = fields-fine d c r t in
+      record {
+        blank =
+            ap (λ (x : Table). x .blank) w
+            ∙ and-same (c .track .table .blank) (eqb m 0) (eqb (numbersOf values d c r) 0) (eqb (count rest r) 0)
+            (k .blank) (ap (λ (x : ℕ). eqb x 0) (values-count d c rest r e f))
+            ∙ both-zero m (count rest r);
+        place =
+            next-place (length before) (length (before ++ (r ∷ []))) (c .track .table .rest)
+            (next c (roleFor values d) r .track .table .rest) (c .track .table .columns)
+            (next c (roleFor values d) r .track .table .columns) (length-append before (r ∷ [])) (k .place)
+            (rw e l) (ap (λ (x : Table). x .rest) w) (ap (λ (x : Table). x .columns) w);
+        keeps = record {
+          bib = s .bib ∙ k .keeps .bib;
+          bib001 = s .moved .bib001 ∙ k .keeps .bib001;
+          table = s .part ∙ k .keeps .table;
+        };
+      }
+
+  pub run-values : (n last line rest : ℕ) (c : Context) (identification : List ℕ) (s : ℕ)
+      (before : List Record) (m : ℕ) (rs : List Record) → RowAt c d values n last line rest → 1 ≤ rest
+      → identificationIn c ≡ identification → c .track .subentry .records + 2 ≡ s → LineKnown kept c before m
+      → length rs ≡ recordsFor rest
+      → Run NoEnd (roleFor values d) c rs
+      ↔ (All NoEnd rs × Following identification s rs × RowFine (LineFine d kept) count rest before m rs)
+  run-values = run-row d values count (LineFine d kept) Known takes-values values-takes line-known-next
 
 pub behind-values : (d : Bool) (n last line rest : ℕ) (c : Context) (rs : List Record)
     → RowAt c d values n last line rest

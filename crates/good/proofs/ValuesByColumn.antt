@@ -1,5 +1,5 @@
--- A line of values, column by column: the judge goes over its records exactly when each value is good, and a line of
--- DATA has a number.
+-- A line of values, column by column: the judge goes over its records exactly when each value is good and fits the
+-- heading of its column, and a line of DATA has a number.
 -- Assumes nothing.
 use Prim.Native.Nat.{ℕ, _+_, _-_, _*_, _<_, _≤_}
 use mathlib.Core.Path.{_≡_, refl, sym, _∙_, ap}
@@ -26,6 +26,7 @@ use Rattle.good.proofs.RowPlaces.{RowAt, NoEnd}
 use Rattle.good.proofs.Rows.{values, roleFor}
 use Rattle.good.proofs.Rowwise.{RowFine, countRow}
 use Rattle.good.proofs.Cells.{few, fine-used, fine-unused, cells-here, used-there, unused-there}
+use Rattle.good.proofs.FlagsByColumn.{Kept, Keeps, FitsAt, row-flags, flags-here, flags-there}
 use Rattle.good.proofs.Values.{numberAt, count, LineFine, run-values}
 
 -- the numbers counted record by record are those of the line, counted over its columns
@@ -68,40 +69,56 @@ count-numbers rest (r ∷ r′ ∷ rs) l =
             cell-there r (r′ ∷ rs) (6 + k) (omega arith) ∙ ap (cell (r′ ∷ rs)) y
 
 -- a line of DATA that is fine record by record has a number: its last record says so
-row-has-number : (rest : ℕ) (before : List Record) (m : ℕ) (rs : List Record) → 1 ≤ rest → length rs ≡ recordsFor rest
-    → RowFine (LineFine true) count rest before m rs → 1 ≤ m + countRow count rest rs
+row-has-number : (kept : Kept) (rest : ℕ) (before : List Record) (m : ℕ) (rs : List Record) → 1 ≤ rest
+    → length rs ≡ recordsFor rest
+    → RowFine (LineFine true kept) count rest before m rs → 1 ≤ m + countRow count rest rs
 unfolding RowFine countRow
-row-has-number rest before m [] p l h = absurd (omega arith)
-row-has-number rest before m (r ∷ []) p l h = let k = h .0 .some refl (omega arith) in omega arith
-row-has-number rest before m (r ∷ r′ ∷ rs) p l h =
+row-has-number kept rest before m [] p l h = absurd (omega arith)
+row-has-number kept rest before m (r ∷ []) p l h = let k = h .0 .some refl (omega arith) in omega arith
+row-has-number kept rest before m (r ∷ r′ ∷ rs) p l h =
     let k =
-    row-has-number (rest - 6) (before ++ (r ∷ [])) (m + count rest r) (r′ ∷ rs) (omega arith) (omega arith) (h .1) in
+    row-has-number kept (rest - 6) (before ++ (r ∷ [])) (m + count rest r) (r′ ∷ rs) (omega arith) (omega arith)
+    (h .1) in
     omega arith
 
-values-row-fine : (d : Bool) (rest : ℕ) (before : List Record) (m : ℕ) (rs : List Record) → length rs ≡ recordsFor rest
+values-row-fine : (d : Bool) (kept : Kept) (rest : ℕ) (before : List Record) (m : ℕ) (rs : List Record)
+    → length rs ≡ recordsFor rest
     → ((c : ℕ) → c < length rs * 6 → c < rest → GoodValue d (cell rs c))
     → ((c : ℕ) → rest ≤ c → c < length rs * 6 → BlankValue (cell rs c))
     → (d ≡ true → 1 ≤ m + countRow count rest rs)
-    → RowFine (LineFine d) count rest before m rs
+    → ((c : ℕ) → c < length rs * 6 → c < rest → FitsAt kept (length before * 6 + c) (cell rs c))
+    → RowFine (LineFine d kept) count rest before m rs
 unfolding RowFine countRow
-values-row-fine d rest before m [] l u v s = tt
-values-row-fine d rest before m (r ∷ []) l u v s =
-    (record { cells = cells-here (GoodValue d) BlankValue rest r [] u v; some = λ q a. let k = s q in omega arith }, tt)
-values-row-fine d rest before m (r ∷ r′ ∷ rs) l u v s = (
-  record { cells = cells-here (GoodValue d) BlankValue rest r (r′ ∷ rs) u v; some = λ q a. absurd (omega arith) },
-  values-row-fine d (rest - 6) (before ++ (r ∷ [])) (m + count rest r) (r′ ∷ rs) (omega arith)
+values-row-fine d kept rest before m [] l u v s w = tt
+values-row-fine d kept rest before m (r ∷ []) l u v s w = (
+  record {
+    cells = cells-here (GoodValue d) BlankValue rest r [] u v;
+    some = λ q a. let k = s q in omega arith;
+    flags = flags-here kept rest before r [] w;
+  },
+  tt,
+)
+values-row-fine d kept rest before m (r ∷ r′ ∷ rs) l u v s w = (
+  record {
+    cells = cells-here (GoodValue d) BlankValue rest r (r′ ∷ rs) u v;
+    some = λ q a. absurd (omega arith);
+    flags = flags-here kept rest before r (r′ ∷ rs) w;
+  },
+  values-row-fine d kept (rest - 6) (before ++ (r ∷ [])) (m + count rest r) (r′ ∷ rs) (omega arith)
       (used-there (GoodValue d) rest r (r′ ∷ rs) u) (unused-there BlankValue rest r (r′ ∷ rs) v)
-      (λ q. let k = s q in omega arith),
+      (λ q. let k = s q in omega arith) (flags-there kept rest before r (r′ ∷ rs) w),
 )
 
-pub values-good : (d : Bool) (n last line : ℕ) (c : Context) (rs : List Record) → RowAt c d values n last line n → 1 ≤ n
-    → c .track .table .blank ≡ true → length rs ≡ recordsFor n
+pub values-good : (d : Bool) (kept : Kept) (n last line : ℕ) (c : Context) (rs : List Record)
+    → RowAt c d values n last line n → 1 ≤ n → c .track .table .blank ≡ true → Keeps c kept → length rs ≡ recordsFor n
     → Run NoEnd (roleFor values d) c rs
     ↔ (Following (identificationIn c) (c .track .subentry .records + 2) rs × GoodValues d n rs
-    × (d ≡ true → 1 ≤ numbersInLine n rs))
-values-good d n last line c rs a p b l =
-    let w = run-values d n last line n c (identificationIn c)
-    (c .track .subentry .records + 2) [] 0 rs a p refl refl b l in
+    × (d ≡ true → 1 ≤ numbersInLine n rs) × ((x : ℕ) → x < n → FitsAt kept x (cell rs x)))
+values-good d kept n last line c rs a p b keeps l =
+    let left = a .left in
+    let columns = a .columns in
+    let w = run-values d kept n last line n c (identificationIn c) (c .track .subentry .records + 2) [] 0 rs a p refl
+    refl (record { blank = b; place = omega arith; keeps = keeps }) l in
     let q = count-numbers n rs l in (
       λ run.
           let h = w .0 run in (
@@ -109,26 +126,33 @@ values-good d n last line c rs a p b l =
             record {
               records = l;
               used = λ x y.
-                  fine-used (GoodValue d) BlankValue (LineFine d) count (λ rest before m r f. f .cells) n [] 0 rs (h .2) x
-                  (omega arith) y;
+                  fine-used (GoodValue d) BlankValue (LineFine d kept) count (λ rest before m r f. f .cells) n [] 0 rs
+                  (h .2) x (omega arith) y;
               unused = λ x y z.
-                  fine-unused (GoodValue d) BlankValue (LineFine d) count (λ rest before m r f. f .cells) n [] 0 rs
+                  fine-unused (GoodValue d) BlankValue (LineFine d kept) count (λ rest before m r f. f .cells) n [] 0 rs
                   (h .2) x y z;
               no-end = h .0;
             },
             by-kind d (h .2),
+            λ x y.
+                let z : 0 * 6 + x ≡ x = omega arith in
+                rw z at
+                (row-flags kept (LineFine d kept) count (λ rest before m r f. f .flags) n [] 0 rs (h .2) x
+                (omega arith) y),
           ),
       λ g.
           w .1 (
             g .1 .no-end,
             g .0,
-            values-row-fine d n [] 0 rs l (λ x y z. g .1 .used x z) (g .1 .unused) (λ e. let k = g .2 e in omega arith),
+            values-row-fine d kept n [] 0 rs l (λ x y z. g .1 .used x z) (g .1 .unused)
+                (λ e. let k = g .2 e in omega arith)
+                (λ x y z. let w : 0 * 6 + x ≡ x = omega arith in rw w (g .3 x z)),
           ),
     )
   where
-    by-kind : (d : Bool) → RowFine (LineFine d) count n [] 0 rs → d ≡ true → 1 ≤ numbersInLine n rs
+    by-kind : (d : Bool) → RowFine (LineFine d kept) count n [] 0 rs → d ≡ true → 1 ≤ numbersInLine n rs
     by-kind true h e =
-        let k = row-has-number n [] 0 rs p l h in
+        let k = row-has-number kept n [] 0 rs p l h in
         let q = count-numbers n rs l in
         omega arith
     by-kind false h e = differ (sym e)

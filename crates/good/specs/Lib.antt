@@ -2,6 +2,7 @@ pub mod Parts
 pub mod Marks
 pub mod Bib
 pub mod Tables
+pub mod Flags
 pub mod Subentries
 pub mod Good
 pub mod Totals

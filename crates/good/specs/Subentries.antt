@@ -1,8 +1,9 @@
--- Subentries (document 01, "Nesting and counts" and "BIB, headings, pointers").
+-- Subentries (document 01, "Nesting and counts" and "BIB, headings, pointers"; document 02, M-101 and M-105).
 use Prim.Native.Nat.{ℕ, _<_, _≤_}
 use mathlib.Core.Path.{_≡_}
 use mathlib.Core.Bool.{Bool, true, false}
 use mathlib.Core.List.{List, [], _∷_, _++_}
+use mathlib.Core.Logic.{_⊎_}
 use lib.ListN.{length, getD}
 use Rattle.laws.specs.Walk.{All}
 use Rattle.columns.specs.Fields.{fieldsOf, n1, n2}
@@ -20,6 +21,7 @@ use Rattle.good.specs.Parts.{Record, Subentry001, Later, Subentry, nosub
 use Rattle.good.specs.Marks.{Marked, Following, nameOf, CountIs}
 use Rattle.good.specs.Bib.{GoodBibPart, textsOfPart}
 use Rattle.good.specs.Tables.{GoodCommonPart, GoodDataPart, headingsOfPart}
+use Rattle.good.specs.Flags.{CodeIn, FlagsOfPart}
 
 -- ---- SUBENT, NOSUBENT and ENDSUBENT
 
@@ -75,6 +77,10 @@ pointersKnown first s =
 abbrev pub Occurs : List ℕ → List ℕ → Type 0
 Occurs pointers h = (pointerOf h ≡ 32 → ⊥) → Some (λ p. pointerOf h ≡ p) pointers
 
+-- "under FLAG in this subentry or 001"
+abbrev pub codesKnown : Subentry001 → Later → ℕ → Type 0
+codesKnown first s n = CodeIn (s .bib) n ⊎ CodeIn (first .bib) n
+
 -- ---- subentries
 
 -- "The first subentry is SUBENT 001."
@@ -84,6 +90,7 @@ pub record GoodFirst (accession : List ℕ) (s : Subentry001) : Type 0 where
   pub bib : GoodBibPart (s .bib)
   pub common : GoodCommonPart (s .common)
   pub headings : HeadingsFit false [] (headingsOfPart (s .common))
+  pub flags : FlagsOfPart (CodeIn (s .bib)) (s .common)
   pub encloses : Encloses accession (s .opening) (bodyOfFirst s) (s .ending)
 
 -- a later one with its records
@@ -95,6 +102,8 @@ pub record GoodLater (accession : List ℕ) (first : Subentry001) (s : Later) : 
   pub common-headings : HeadingsFit false (headingsOfPart (first .common)) (headingsOfPart (s .common))
   pub data-headings :
       HeadingsFit true (headingsOfPart (first .common) ++ headingsOfPart (s .common)) (headingsOfPart (s .values))
+  pub common-flags : FlagsOfPart (codesKnown first s) (s .common)
+  pub data-flags : FlagsOfPart (codesKnown first s) (s .values)
   pub pointers : All (Occurs (pointersKnown first s)) (headingsOfPart (s .values))
   pub encloses : Encloses accession (s .opening) (bodyOf s) (s .ending)
 

@@ -46,6 +46,10 @@ pub and-none : (a b : Bool) → b ≡ false → (a && b) ≡ false
 and-none true b e = e
 and-none false b e = refl
 
+pub and-with-true : (b : Bool) → (b && true) ≡ b
+and-with-true true = refl
+and-with-true false = refl
+
 -- a test that takes its own answer
 pub cond-itself : (b : Bool) → cond b true false ≡ b
 cond-itself true = refl

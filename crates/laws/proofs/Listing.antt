@@ -96,6 +96,18 @@ unfolding anyOf
 any-map t f [] = refl
 any-map t f (x ∷ xs) = rw (any-map t f xs)
 
+-- tests that say the same of each member
+pub any-same : {A : Type 0} (p q : A → Bool) (xs : List A) → ((x : A) → p x ≡ q x) → anyOf p xs ≡ anyOf q xs
+unfolding anyOf
+any-same p q [] h = refl
+any-same p q (x ∷ xs) h = rw (h x, any-same p q xs h)
+
+-- a test that fails on all
+pub any-never : {A : Type 0} (xs : List A) → anyOf (λ x. false) xs ≡ false
+unfolding anyOf
+any-never [] = refl
+any-never (x ∷ xs) = any-never xs
+
 pub any-list : {A B : Type 0} (t : B → Bool) (f : A → B) (g : ℕ → A) (i n : ℕ)
     → anyOf (λ x. t (f x)) (listOf g i n) ≡ anyOf t (listOf (λ k. f (g k)) i n)
 unfolding anyOf listOf

@@ -9,7 +9,7 @@ use std::num::wrapping_add_u32;
 
 // How many cases got each refusal number, and the checksum.
 struct Tally {
-    counts: [u32; 17],
+    counts: [u32; 18],
     sum: u32,
 }
 
@@ -20,7 +20,7 @@ fn mix(sum: u32, n: u32) -> u32 {
 impl Tally {
     fn new() -> Tally {
         Tally {
-            counts: [0; 17],
+            counts: [0; 18],
             sum: 0,
         }
     }
@@ -29,7 +29,7 @@ impl Tally {
         let at = v.record;
         let number = v.refusal as usize;
         let mut counts = self.counts;
-        if number < 17 {
+        if number < 18 {
             counts[number] = wrapping_add_u32(counts[number], 1);
         }
         let sum = mix(mix(mix(self.sum, v.refusal as u32), at.0), v.column as u32);
@@ -90,7 +90,7 @@ fn cut_each(entry: &[u8], tally: Tally) -> Tally {
 fn put_tally(tally: Tally) {
     let counts = tally.counts;
     let mut i: usize = 0;
-    while i < 17 {
+    while i < 18 {
         let count = counts[i] as u64;
         say_line(b"", &[i as u64, count]);
         i += 1;

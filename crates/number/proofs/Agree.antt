@@ -1,8 +1,7 @@
 -- The reading and the grammar agree: each list is blank, a field with its value, or neither.
 -- Assumes nothing.
 use mathlib.Core.Path.{_≡_, refl, sym, ap, _∙_}
-use mathlib.Core.Bool.{Bool}
-use mathlib.Core.List.{List, [], append-assoc, append-nil}
+use mathlib.Core.List.{List, [], append-nil}
 use Prim.Native.Nat.{ℕ}
 use native.Mathlib.Omega.{arith}
 use lib.IntN.{pos, _-ℤ_}
@@ -10,52 +9,25 @@ use lib.ListN.{length, length-replicate}
 use Rattle.number.specs.declared.value.Decimal.{Decimal}
 use Rattle.number.specs.declared.value.Reading.{Reading}
 use Rattle.number.specs.declared.value.Reading.the-variants.{Blank, Number, Refused}
-use Rattle.number.specs.Grammar.{blanks, plain, power, write}
-use Rattle.number.specs.Value.{signedBy, valueOf, Reads, Says, blank, number, malformed}
+use Rattle.number.specs.Grammar.{blanks, Tail, plain}
+use Rattle.number.specs.Value.{exponentOf, valueOf, Reads, Says, blank, number, malformed}
 use Rattle.number.specs.Reading.{Mantissa, Scan, Lead, Signed, Whole, Point, Fraction, Gap, Mark, MarkGap}
 use Rattle.number.specs.Reading.{PowerSign, Power, Bad, scanOf, finish, readField}
 use Rattle.number.proofs.Equation.{found, one}
-use Rattle.number.proofs.Reach.{Reach, Behind, Raised, reached}
+use Rattle.number.proofs.Reach.{Reach, reached}
+use Rattle.number.proofs.Ended.{Ended, ended-gap, ended-fraction, ended-power}
 use Rattle.number.proofs.Follow.{scan-lead, reads-field}
 
 -- ---- a list that reads to a number is a field of that value
 
-module _ (l : List ℕ) where
-  -- digits and k blanks
-  plain-field : (m : Mantissa) (k : ℕ) → Behind l m (blanks k)
-      → Reads l (valueOf (m .negative) (m .number) (pos 0 -ℤ pos (m .places)))
-  unfolding write
-  plain-field m k r =
-      let w = r .pointed in
-      record {
-        field = record { lead = w .lead; sign = w .sign; whole = w .whole; part = w .part; tail = plain k };
-        spells = record {
-          good = record { digits = w .digits; some = w .some; tail = tt };
-          same = rw (r .same, w .same) (simp append-assoc);
-        };
-        means = rw (← w .sense) (found _ _ _);
-      }
-
-  -- digits and an exponent
-  power-field : (m : Mantissa) (s : Bool) (e : ℕ) → Raised l m s e
-      → Reads l (valueOf (m .negative) (m .number) (signedBy s e -ℤ pos (m .places)))
-  unfolding write
-  power-field m s e r =
-      let w = r .behind .pointed in
-      record {
-        field = record {
-          lead = w .lead;
-          sign = w .sign;
-          whole = w .whole;
-          part = w .part;
-          tail = power (r .opening) (r .power);
-        };
-        spells = record {
-          good = record { digits = w .digits; some = w .some; tail = (r .digits, r .some) };
-          same = rw (r .behind .same, w .same) (simp append-assoc);
-        };
-        means = rw (← w .sense, ← r .sense, ← r .number) (found _ _ _);
-      }
+ended-reads : (l : List ℕ) (m : Mantissa) (t : Tail) → Ended l m t
+    → Reads l (valueOf (m .negative) (m .number) (exponentOf t -ℤ pos (m .places)))
+ended-reads l m t x =
+    record {
+      field = x .field;
+      spells = x .spells;
+      means = rw (← x .sign, ← x .number, ← x .places, ← x .tail) (found _ _ _);
+    }
 
 -- ---- a field reads to its value, and to no other
 
@@ -90,12 +62,12 @@ says-at Lead (n, e) q = blank (as-long n e)
 says-at (Signed g) r q = refused q
 says-at (Whole g c) r q = refused q
 says-at (Point g) r q = refused q
-says-at {l} (Fraction m) r q = number (plain-field l m 0 (record { front = l; same = rw append-nil refl; pointed = r }))
-says-at {l} (Gap m) (k, r) q = number (plain-field l m k r)
+says-at {l} (Fraction m) r q = number (ended-reads l m (plain 0) (ended-fraction l m r))
+says-at {l} (Gap m) (k, r) q = number (ended-reads l m (plain k) (ended-gap l m k r))
 says-at (Mark m) r q = refused q
 says-at (MarkGap m) r q = refused q
 says-at (PowerSign m s) r q = refused q
-says-at {l} (Power m s e) r q = number (power-field l m s e r)
+says-at {l} (Power m s e) r q = rw (← r .sense, ← r .number) (number (ended-reads l m _ (ended-power l m s e r)))
 says-at Bad r q = refused q
 
 pub says : (l : List ℕ) → Says l (readField l)

@@ -4,6 +4,7 @@ pub mod Equation
 pub mod Spelling
 pub mod Bytes
 pub mod Reach
+pub mod Ended
 pub mod Follow
 pub mod Agree
 pub mod Bounds

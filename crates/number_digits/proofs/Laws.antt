@@ -13,19 +13,19 @@ use lib.ListN.{length, length-append, replicate}
 use Rattle.number.specs.declared.value.Decimal.{Decimal}
 use Rattle.number.specs.declared.value.Reading.{Reading}
 use Rattle.number.specs.declared.value.Reading.the-variants.{Blank, Number, Refused}
-use Rattle.number.specs.Grammar.{Digits, digitsText, numFrom, num, Field, write, Spells}
+use Rattle.number.specs.Grammar.{Digits, digitsText, numFrom, num, Tail, plain, Field, write, Spells}
 use Rattle.number.specs.Value.{meaning, digitsOf}
 use Rattle.number.specs.Reading.{Mantissa, Scan, Lead, Signed, Whole, Point, Fraction, Gap, Mark, MarkGap, PowerSign}
 use Rattle.number.specs.Reading.{Power, Bad, scanOf, finish, readField}
 use Rattle.number.proofs.Tens.{ten-suc, ten-cancel}
 use Rattle.number.proofs.Bounds.{num-lt, text-length}
 use Rattle.number.proofs.Reach.{Reach, reached}
+use Rattle.number.proofs.Ended.{Ended, ended-gap, ended-fraction, ended-power}
 use Rattle.number.proofs.Laws.{spelt-once, reads-field, reads-exactly}
 use Rattle.number_digits.specs.Count.{count, countFrom, significant}
 use Rattle.number_digits.specs.Digits.{CountsFrom, DigitsWritten, digitCountAt, digitCount}
 use Rattle.number_digits.specs.Claims.{DigitsExactly, DigitsNone, DigitsZero, DigitsMost, DigitsShown}
 use Rattle.number_digits.proofs.Count.{significant-is, count-pos}
-use Rattle.number_digits.proofs.Ended.{Ended, ended-gap, ended-fraction, ended-power}
 
 -- ---- digits behind zeros
 
@@ -41,7 +41,7 @@ none-first d others e = let z : length {A = ℕ} [] ≡ suc (length others) = ap
 
 -- a number has as many digits as its list has behind the zeros
 pub counts-from : (l : List ℕ) → Digits l → CountsFrom l (significant (num l))
-counts-from [] h = record { zeros = 0; rest = []; split = refl; first = λ d others e. none-first d others e; long = refl }
+counts-from [] h = record { zeros = 0; rest = []; split = refl; first = none-first; long = refl }
 counts-from (zero ∷ l) h =
     let r = counts-from l (h .1) in
     record {
@@ -96,25 +96,26 @@ saysNumber (Number v) = true
 saysNumber (Refused n) = false
 
 module _ (l : List ℕ) where
-  ended-count : (f : Field) → Spells l f → (m : Mantissa) → Ended l m → DigitsWritten f (significant (m .number))
-  ended-count f s m x =
+  ended-count : (f : Field) → Spells l f → (m : Mantissa) (t : Tail) → Ended l m t
+      → DigitsWritten f (significant (m .number))
+  ended-count f s m t x =
       let e : x .field ≡ f = spelt-once l (x .field) f (x .spells) s in
       rw (← x .number, ← e) (counts-from (x .field .whole ++ x .field .part) (x .spells .good .digits))
 
   -- where it says a number it ends in the digits of a field
-  ended-at : (t : Scan) → Reach l t → saysNumber (finish t) ≡ true
-      → (P : ℕ → Type 0) → ((m : Mantissa) → Ended l m → P (significant (m .number))) → P (digitCountAt t)
+  ended-at : (s : Scan) → Reach l s → saysNumber (finish s) ≡ true
+      → (P : ℕ → Type 0) → ((m : Mantissa) (t : Tail) → Ended l m t → P (significant (m .number))) → P (digitCountAt s)
   unfolding finish
   ended-at Lead r q P h = no (sym q)
   ended-at (Signed g) r q P h = no (sym q)
   ended-at (Whole g c) r q P h = no (sym q)
   ended-at (Point g) r q P h = no (sym q)
-  ended-at (Fraction m) r q P h = h m (ended-fraction l m r)
-  ended-at (Gap m) (k, r) q P h = h m (ended-gap l m k r)
+  ended-at (Fraction m) r q P h = h m (plain 0) (ended-fraction l m r)
+  ended-at (Gap m) (k, r) q P h = h m (plain k) (ended-gap l m k r)
   ended-at (Mark m) r q P h = no (sym q)
   ended-at (MarkGap m) r q P h = no (sym q)
   ended-at (PowerSign m g) r q P h = no (sym q)
-  ended-at (Power m g e) r q P h = h m (ended-power l m g e r)
+  ended-at (Power m g e) r q P h = h m _ (ended-power l m g e r)
   ended-at Bad r q P h = no (sym q)
 
   -- where it says none the count is 0
@@ -153,7 +154,7 @@ unfolding digitCount
 digits-none l none = by (saysNumber (finish (scanOf Lead l))) refl
   where
     by : (b : Bool) → saysNumber (finish (scanOf Lead l)) ≡ b → digitCountAt (scanOf Lead l) ≡ 0
-    by true e = absurd (ended-at l (scanOf Lead l) (reached l) e (λ n. ⊥) (λ m x. none (x .field) (x .spells)))
+    by true e = absurd (ended-at l (scanOf Lead l) (reached l) e (λ n. ⊥) (λ m t x. none (x .field) (x .spells)))
     by false e = unsaid-at l (scanOf Lead l) e
 
 -- the same by what the columns say
@@ -179,14 +180,16 @@ unfolding digitCount readField
 digits-zero l v e =
     ended-at l (scanOf Lead l) (reached l) (ap saysNumber e) (λ n. (n ≡ 0) ↔ (v .coefficient ≡ 0)) by-end
   where
-    by-end : (m : Mantissa) → Ended l m → (significant (m .number) ≡ 0) ↔ (v .coefficient ≡ 0)
-    by-end m x =
+    by-end : (m : Mantissa) (t : Tail) → Ended l m t → (significant (m .number) ≡ 0) ↔ (v .coefficient ≡ 0)
+    by-end m t x =
         let r = reads-exactly l v .0 e in
         let f = spelt-once l (x .field) (r .field) (x .spells) (r .spells) in
         let same : digitsOf (r .field) ≡ m .number = ap digitsOf (sym f) ∙ x .number in
+        let a = digitsOf (r .field) in
+        let c = v .coefficient in
         let size = r .means .size in (
-          λ z. zero-too (digitsOf (r .field)) (v .coefficient) (size .m) (size .n) (size .numbers) (same ∙ none-zero (m .number) z),
-          λ z. ap significant (sym same ∙ zero-too (v .coefficient) (digitsOf (r .field)) (size .n) (size .m) (sym (size .numbers)) z),
+          λ z. zero-too a c (size .m) (size .n) (size .numbers) (same ∙ none-zero (m .number) z),
+          λ z. ap significant (sym same ∙ zero-too c a (size .n) (size .m) (sym (size .numbers)) z),
         )
 
 -- ---- eleven columns
@@ -209,10 +212,12 @@ pub digits-most : DigitsMost
 unfolding digitCount
 digits-most l w = by (saysNumber (finish (scanOf Lead l))) refl
   where
-    by-end : (m : Mantissa) → Ended l m → significant (m .number) ≤ 10
-    by-end m x =
-        let n = counts-most (x .field .whole ++ x .field .part) (significant (m .number)) (ended-count l (x .field) (x .spells) m x) in
-        omega (arith, n, longer l (x .field) (x .spells), w)
+    by-end : (m : Mantissa) (t : Tail) → Ended l m t → significant (m .number) ≤ 10
+    by-end m t x =
+        let f = x .field in
+        let written = ended-count l f (x .spells) m t x in
+        let n = counts-most (f .whole ++ f .part) (significant (m .number)) written in
+        omega (arith, n, longer l f (x .spells), w)
 
     by : (b : Bool) → saysNumber (finish (scanOf Lead l)) ≡ b → digitCountAt (scanOf Lead l) ≤ 10
     by true e = ended-at l (scanOf Lead l) (reached l) e (λ n. n ≤ 10) by-end

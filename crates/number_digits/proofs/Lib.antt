@@ -1,3 +1,2 @@
 pub mod Count
-pub mod Ended
 pub mod Laws

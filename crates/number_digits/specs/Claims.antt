@@ -1,5 +1,5 @@
--- What is claimed of the count of digits (document 02, M-104). Each type here is that of a law in proofs/Laws, under the
--- law's name.
+-- What is claimed of the count of digits (document 02, M-104). Each type here is that of a law in proofs/Laws, under
+-- the law's name.
 use mathlib.Core.Path.{_≡_}
 use mathlib.Core.Logic.{_↔_}
 use mathlib.Core.List.{List, [], _∷_}

@@ -26,13 +26,14 @@ fn unspelt(blank: bool) -> Spelt
         negative: false,
         number: 0,
         places: 0,
+        raised: false,
         below: false,
         size: 0,
     }
 }
 
 // What a field of at most eleven columns spells.
-fn spelt_in(s: &[u8]) -> Spelt
+pub fn spelt_in(s: &[u8]) -> Spelt
     requires { ⌜ length (now s) ≤ 11 ⌝ }
     ensures { λ r. ⌜ (r ≡ spelt (now (s .entry))) × Small r ⌝ }
 {
@@ -53,6 +54,7 @@ fn spelt_in(s: &[u8]) -> Spelt
             let places = d.places;
             let x = in_gap(s, end);
             let formed = x.formed;
+            let raised = x.raised;
             let below = x.below;
             let size = x.size;
             if formed {
@@ -62,6 +64,7 @@ fn spelt_in(s: &[u8]) -> Spelt
                     negative,
                     number,
                     places,
+                    raised,
                     below,
                     size,
                 };

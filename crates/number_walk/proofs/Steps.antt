@@ -18,7 +18,7 @@ use Rattle.number.specs.Reading.{Column, column, columnOf, Mantissa, mantissa, 
 use Rattle.number.specs.Reading.{Fraction, Gap, Mark, MarkGap, PowerSign, Power, Bad, scanStep, scanOf}
 use Rattle.number_walk.specs.declared.walk.Front.{Front}
 use Rattle.number_walk.specs.declared.walk.Exponent.{Exponent}
-use Rattle.number_walk.specs.Walk.{unspelt, speltBy, speltAt, spelt, readFrom, digital, pastSign, badFront, badExponent, pointed, raised}
+use Rattle.number_walk.specs.Walk.{unspelt, speltBy, speltAt, spelt, readFrom, digital, pastSign, badFront, badExponent, pointed, raisedBy}
 use Rattle.number_walk.specs.Walk.{Leads, Points, Passes, Raises}
 use Rattle.number.proofs.Bytes.{digit-column, Seen, seen, a-blank, a-digit, a-point, a-sign, a-mark, no-such}
 use Rattle.number.proofs.Bytes.{on-byte}
@@ -207,11 +207,11 @@ pub ends-fraction : (m : Mantissa) → speltAt (Fraction m) ≡ speltAt (Gap m)
 unfolding speltAt
 ends-fraction m = refl
 
-pub ends-gap : (m : Mantissa) → speltAt (Gap m) ≡ speltBy m false 0
+pub ends-gap : (m : Mantissa) → speltAt (Gap m) ≡ speltBy m false false 0
 unfolding speltAt
 ends-gap m = refl
 
-pub ends-power : (m : Mantissa) (g : Bool) (e : ℕ) → speltAt (Power m g e) ≡ speltBy m g e
+pub ends-power : (m : Mantissa) (g : Bool) (e : ℕ) → speltAt (Power m g e) ≡ speltBy m true g e
 unfolding speltAt
 ends-power m g e = refl
 
@@ -254,7 +254,7 @@ module _ (s : List ℕ) (i k : ℕ) (f : Front) (lead : Leads s i) (h : i < leng
   field-bad e = field-front ∙ rw e refl
 
   pub field-tail : (d : Front) (x : Exponent) → f .formed ≡ true → Passes s (f .at) (f .number) (f .places) d
-      → Raises s (d .at) Gap x → spelt s ≡ raised x (mantissa negative (d .number) (d .places))
+      → Raises s (d .at) Gap x → spelt s ≡ raisedBy x (mantissa negative (d .number) (d .places))
   field-tail d x e p r =
       field-front ∙ rw e (p .reads negative) ∙ r .reads (mantissa negative (d .number) (d .places))
 

@@ -12,20 +12,31 @@ use Rattle.number.specs.Reading.{Mantissa, mantissa, Scan, Lead, Signed, Whole,
 use Rattle.number.specs.Reading.{PowerSign, Power, Bad, scanOf}
 
 -- ---- what the columns spell, where the reading ends: a number by its sign, its digits, how many of them stand behind the
--- point, and its exponent; blanks; or nothing. What they say and how many digits were written both follow from it.
+-- point, and its exponent, with whether one is written; blanks; or nothing. What they say and how many digits were
+-- written both follow from it.
 
 abbrev pub unspelt : Bool → Spelt
 unspelt blank =
-    record { formed = false; blank = blank; negative = false; number = 0; places = 0; below = false; size = 0 }
+    record {
+      formed = false;
+      blank = blank;
+      negative = false;
+      number = 0;
+      places = 0;
+      raised = false;
+      below = false;
+      size = 0;
+    }
 
-abbrev pub speltBy : Mantissa → Bool → ℕ → Spelt
-speltBy m below e =
+abbrev pub speltBy : Mantissa → Bool → Bool → ℕ → Spelt
+speltBy m raised below e =
     record {
       formed = true;
       blank = false;
       negative = m .negative;
       number = m .number;
       places = m .places;
+      raised = raised;
       below = below;
       size = e;
     }
@@ -35,12 +46,12 @@ speltAt Lead = unspelt true
 speltAt (Signed n) = unspelt false
 speltAt (Whole n c) = unspelt false
 speltAt (Point n) = unspelt false
-speltAt (Fraction m) = speltBy m false 0
-speltAt (Gap m) = speltBy m false 0
+speltAt (Fraction m) = speltBy m false false 0
+speltAt (Gap m) = speltBy m false false 0
 speltAt (Mark m) = unspelt false
 speltAt (MarkGap m) = unspelt false
 speltAt (PowerSign m s) = unspelt false
-speltAt (Power m s e) = speltBy m s e
+speltAt (Power m s e) = speltBy m true s e
 speltAt Bad = unspelt false
 
 unfoldable pub spelt : List ℕ → Spelt
@@ -99,12 +110,12 @@ pub record Passes (s : List ℕ) (i n p : ℕ) (r : Front) : Type 0 where
 -- ---- what stands behind the digits
 
 abbrev pub badExponent : Exponent
-badExponent = record { formed = false; below = false; size = 0 }
+badExponent = record { formed = false; raised = false; below = false; size = 0 }
 
-abbrev pub raised : Exponent → Mantissa → Spelt
-raised r m = cond (r .formed) (speltBy m (r .below) (r .size)) (unspelt false)
+abbrev pub raisedBy : Exponent → Mantissa → Spelt
+raisedBy r m = cond (r .formed) (speltBy m (r .raised) (r .below) (r .size)) (unspelt false)
 
 -- from t at column i the reading comes to r, whatever the digits were
 pub record Raises (s : List ℕ) (i : ℕ) (t : Mantissa → Scan) (r : Exponent) : Type 0 where
-  pub reads : (m : Mantissa) → readFrom (t m) i s ≡ raised r m
+  pub reads : (m : Mantissa) → readFrom (t m) i s ≡ raisedBy r m
   pub small : r .size < 10 ^ 8

@@ -15,9 +15,10 @@ pub struct Front {
     pub places: u32,
 }
 
-// What stands behind the digits: an exponent, 0 where none is written.
+// What stands behind the digits: an exponent, 0 where none is written; `raised` where one is, be it 0.
 pub struct Exponent {
     pub formed: bool,
+    pub raised: bool,
     pub below: bool,
     pub size: u32,
 }
@@ -29,6 +30,7 @@ pub struct Spelt {
     pub negative: bool,
     pub number: u64,
     pub places: u32,
+    pub raised: bool,
     pub below: bool,
     pub size: u32,
 }
@@ -49,6 +51,7 @@ fn bad_exponent() -> Exponent
 {
     Exponent {
         formed: false,
+        raised: false,
         below: false,
         size: 0,
     }
@@ -72,6 +75,7 @@ fn in_power(s: &[u8], from: usize, below: bool, first: u32) -> Exponent
     }
     Exponent {
         formed: true,
+        raised: true,
         below: below,
         size: size,
     }
@@ -151,6 +155,7 @@ pub fn in_gap(s: &[u8], from: usize) -> Exponent
     }
     Exponent {
         formed: true,
+        raised: false,
         below: false,
         size: 0,
     }

@@ -26,7 +26,7 @@ use Rattle.entry_walk.proofs.FirstRefused.{refused-first}
 use Rattle.entry_walk.proofs.FirstAlone.{first-alone}
 use Rattle.refusal_table.specs.Table.{among, headings}
 use Rattle.refusal_table.specs.KindOf.{fieldsIn}
-use Rattle.refusal_table.specs.HeadingFaults.{WrongHeading, RepeatedHeading, LostHeading, ThirteenSaid}
+use Rattle.refusal_table.specs.HeadingFaults.{WrongField, RepeatedHeading, LostHeading, ThirteenSaid}
 use Rattle.refusal_table.specs.HeadingFaults.{FourteenSaid, DueThere}
 use Rattle.refusal_table.specs.HeadingFaults.{RefusedThere, RepeatedRefused, LostRefused}
 use Rattle.refusal_table.proofs.Standing.{one-kind, heading-kinds}
@@ -35,7 +35,7 @@ use Rattle.refusal_table.proofs.ByNumber.{least-found, on-some, first-a
 use Rattle.refusal_table.proofs.HeadingParts.{held-against}
 
 module _ (s : List ℕ) (i k : ℕ) where
-  thirteen : FirstAt s i 13 k → WrongHeading headings RepeatedHeading s i k
+  thirteen : FirstAt s i 13 k → WrongField headings RepeatedHeading s i k
   thirteen h =
       let c = contextAt s i in
       let there = h .there in
@@ -53,7 +53,7 @@ module _ (s : List ℕ) (i k : ℕ) where
         wrong = repeated-exactly (c .seen) (c .track) (roleAt s i) b (blockAt 81 s i) (held .seen) k .0 found;
       }
 
-  fourteen : FirstAt s i 14 k → WrongHeading (among (DATA-HEADING ∷ [])) LostHeading s i k
+  fourteen : FirstAt s i 14 k → WrongField (among (DATA-HEADING ∷ [])) LostHeading s i k
   fourteen h =
       let c = contextAt s i in
       let there = h .there in
@@ -73,11 +73,11 @@ module _ (s : List ℕ) (i k : ℕ) where
 
 pub thirteen-said : ThirteenSaid
 thirteen-said s i k e =
-    thirteen s i k (first-at s (judgeOf s) (refused-first s) 13 i k (omega arith) (omega arith) e)
+    thirteen s i k (first-at s (judgeOf s) (refused-first s) 13 i k (omega arith) (λ z. omega arith) e)
 
 pub fourteen-said : FourteenSaid
 fourteen-said s i k e =
-    fourteen s i k (first-at s (judgeOf s) (refused-first s) 14 i k (omega arith) (omega arith) e)
+    fourteen s i k (first-at s (judgeOf s) (refused-first s) 14 i k (omega arith) (λ z. omega arith) e)
 
 -- ---- and no such heading passes
 
@@ -89,7 +89,7 @@ module _ (s : List ℕ) (i : ℕ) (due : ℕ → Bool) (d : DueThere s i due) (n
   fault =
       faultOf (contextAt s i .track) (contextAt s i .seen) (roleAt s i) (fieldsIn s i) (blockAt 81 s i)
 
-  refused-there : RefusedThere s i n k
+  pub refused-there : RefusedThere s i n k
   refused-there = by-fault fault refl
     where
       nothing : getD (foundAt s i) at noFinding .columns ≡ [] → ⊥
@@ -125,7 +125,7 @@ module _ (s : List ℕ) (i : ℕ) (due : ℕ → Bool) (d : DueThere s i due) (n
           (fault-least (contextAt s i .track) (contextAt s i .seen) (roleAt s i) (fieldsIn s i) (blockAt 81 s i) m c e)
 
 -- the rule is made on such a record
-some-on : (P : ℕ → Type 0) (b : Bool) (ks : List ℕ) → b ≡ true → Some P ks → Some P (on b ks)
+pub some-on : (P : ℕ → Type 0) (b : Bool) (ks : List ℕ) → b ≡ true → Some P ks → Some P (on b ks)
 some-on P b ks e h = rw e h
 
 pub repeated-refused : RepeatedRefused

@@ -9,3 +9,5 @@ pub mod TextFaults
 pub mod TextsExactly
 pub mod HeadingParts
 pub mod HeadingFaults
+pub mod FlagFaults
+pub mod ValueLines

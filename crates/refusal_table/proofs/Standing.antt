@@ -36,6 +36,7 @@ use Rattle.rules_text.specs.Text.{keywordFault, rule10, pointerRepeated, rule11
 use Rattle.rules_section.specs.Headings.{rule11Heading, rule12Heading, rule12Unit, rule13}
 use Rattle.rules_pointers.specs.Pointers.{rule14}
 use Rattle.rules_values.specs.Values.{lineBlank, rule15}
+use Rattle.rules_flags.specs.Flags.{rule17}
 use Rattle.rules.specs.Order.{findings, Before, noFinding, Least}
 use Rattle.rules_section.proofs.SomeColumns.{used-few}
 use Rattle.rules.proofs.ByKind.{of-two, of-headings, of-units, of-values}
@@ -106,7 +107,7 @@ unit-kinds : (role : ℕ) → isUnit role ≡ true → headingsAndUnits role ≡
 unfolding anyOf
 unit-kinds = of-units (λ k. headingsAndUnits k ≡ true) refl refl
 
-value-kinds : (role : ℕ) → isValue role ≡ true → values role ≡ true
+pub value-kinds : (role : ℕ) → isValue role ≡ true → values role ≡ true
 unfolding anyOf
 value-kinds = of-values (λ k. values k ≡ true) refl refl
 
@@ -127,7 +128,7 @@ any-character j h =
 -- ---- rule by rule
 
 -- the row with this place in the table
-in-row : (at : ℕ) → at < 17 → (kind k : ℕ) → getD refusals at noRow .kinds kind ≡ true
+in-row : (at : ℕ) → at < 18 → (kind k : ℕ) → getD refusals at noRow .kinds kind ≡ true
     → getD refusals at noRow .columns k ≡ true → TableAllows (getD refusals at noRow .number) kind k
 in-row at h kind k a b = record { at = at; there = h; number = refl; on = a; column = b }
 
@@ -250,6 +251,12 @@ module _ (t : Track) (s : Seen) (role : ℕ) (fs : List (List ℕ)) (r : List �
       (each-where (Found 15) _ fieldColumn 6
       (λ j l d. in-row 16 (omega arith) role (fieldColumn j) (value-kinds role h) (field-first j l)))
 
+  found17 : isValue role ≡ true → Each (Found 17) (rule17 s t fs)
+  unfolding rule17
+  found17 h =
+      each-where (Found 17) _ fieldColumn (used t)
+      (λ j l d. in-row 17 (omega arith) role (fieldColumn j) (value-kinds role h) (field-first j (in-used j l)))
+
   -- ---- all that is found
 
   abbrev InTable : Finding → Type 0
@@ -284,7 +291,10 @@ module _ (t : Track) (s : Seen) (role : ℕ) (fs : List (List ℕ)) (r : List �
                           each-on (Found 13) (isHeading role) _ found13,
                           (
                             each-on (Found 14) (eqb role DATA-HEADING) _ found14,
-                            (each-on (Found 15) (isValue role) _ found15, tt),
+                            (
+                              each-on (Found 15) (isValue role) _ found15,
+                              (each-on (Found 17) (isValue role) _ found17, tt),
+                            ),
                           ),
                         ),
                       ),
@@ -307,7 +317,7 @@ module _ (t : Track) (s : Seen) (role : ℕ) (fs : List (List ℕ)) (r : List �
   due-above : (n k : ℕ) → Least (findings t s role fs r) n k → 4 < n → everyDue role ≡ true
   unfolding rule4
   due-above n k l h =
-      let a : 2 < 14 = omega arith in
+      let a : 2 < 15 = omega arith in
       by-test (eqb role NOT-DUE) (l .least 2 0 a)
     where
       by-test : (b : Bool) → (0 < length (when b 1) → Before n k 4 (getD (when b 1) 0 0)) → not b ≡ true

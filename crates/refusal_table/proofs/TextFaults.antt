@@ -159,8 +159,9 @@ module _ (s : List ℕ) (i : ℕ) where
           in-headings (roleAt s i) (heading-kinds (roleAt s i) h) (kind-at s i (f .earlier))
 
 pub ten-said : TenSaid
-ten-said s i k e = ten-said-at s i k (first-at s (judgeOf s) (refused-first s) 10 i k (omega arith) (omega arith) e)
+ten-said s i k e =
+    ten-said-at s i k (first-at s (judgeOf s) (refused-first s) 10 i k (omega arith) (λ z. omega arith) e)
 
 pub eleven-said : ElevenSaid
 eleven-said s i k e =
-    eleven-said-at s i k (first-at s (judgeOf s) (refused-first s) 11 i k (omega arith) (omega arith) e)
+    eleven-said-at s i k (first-at s (judgeOf s) (refused-first s) 11 i k (omega arith) (λ z. omega arith) e)

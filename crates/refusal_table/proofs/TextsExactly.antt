@@ -30,16 +30,16 @@ use Rattle.entry_walk.proofs.FirstRefused.{refused-first}
 use Rattle.entry_walk.proofs.FirstAlone.{first-alone}
 use Rattle.refusal_table.specs.KindOf.{fieldsIn, BehindBib}
 use Rattle.refusal_table.specs.TextFaults.{recordsBetween, WrongText, TextDue, TenExactly, ElevenExactly}
-use Rattle.refusal_table.proofs.ByNumber.{number-at, first-at}
+use Rattle.refusal_table.proofs.ByNumber.{numberOf, number-rises, number-at, first-at}
 use Rattle.refusal_table.proofs.TextFaults.{TextIn, text-at, some-11, wrong-pointer, found-11, ten-said}
 
 -- ---- a number before which nothing is found is the least
 
-row-first : (a b : ℕ) → a < b → (x : ℕ) → x ≡ b + 2 → a + 2 < x
-row-first a b l x e = omega arith
+row-first : (a b : ℕ) → a < b → (x : ℕ) → x ≡ numberOf b → numberOf a < x
+row-first a b l x e = rw e (number-rises a b l)
 
-row-same : (a b : ℕ) → a ≡ b → (x : ℕ) → x ≡ b + 2 → a + 2 ≡ x
-row-same a b l x e = omega arith
+row-same : (a b : ℕ) → a ≡ b → (x : ℕ) → x ≡ numberOf b → numberOf a ≡ x
+row-same a b l x e = ap numberOf l ∙ sym e
 
 in-one : (j n : ℕ) → j < n → n ≡ 1 → j ≡ 0
 in-one j n l e = omega arith
@@ -47,11 +47,11 @@ in-one j n l e = omega arith
 in-none : (j n : ℕ) → j < n → n ≡ 0 → ⊥
 in-none j n l e = omega arith
 
-module _ (F : List Finding) (numbers : (i : ℕ) → i < length F → getD F i noFinding .number ≡ i + 2) (at k : ℕ)
+module _ (F : List Finding) (numbers : (i : ℕ) → i < length F → getD F i noFinding .number ≡ numberOf i) (at k : ℕ)
     (there : at < length F) (some : 1 ≤ k) (none : (i : ℕ) → i < at → getD F i noFinding .columns ≡ [])
     (found : getD F at noFinding .columns ≡ k ∷ []) where
   not-before : (i j : ℕ) → i < length F → j < length (getD F i noFinding .columns)
-      → Before (at + 2) k (getD F i noFinding .number) (getD (getD F i noFinding .columns) j 0)
+      → Before (numberOf at) k (getD F i noFinding .number) (getD (getD F i noFinding .columns) j 0)
   not-before i j l m =
       either i at (λ a. absurd (in-none j (length (getD F i noFinding .columns)) m (ap length (none i a))))
       (λ a. either at i (λ b. inl (row-first at i b (getD F i noFinding .number) (numbers i l)))
@@ -64,7 +64,7 @@ module _ (F : List Finding) (numbers : (i : ℕ) → i < length F → getD F i n
       ap (λ (x : ℕ). getD (getD F i noFinding .columns) x 0) f ∙ ap (λ (x : List ℕ). getD x 0 0) z in
       inr (row-same at i e (getD F i noFinding .number) (numbers i l), subst (λ (x : ℕ). k ≤ x) (sym c) (omega arith))))
 
-  row-least : Least F (at + 2) k
+  row-least : Least F (numberOf at) k
   row-least =
       record {
         at = at;
@@ -183,6 +183,6 @@ ten-exactly s i due = (ten-said s i 1, ten-given s i due)
 
 pub eleven-exactly : ElevenExactly
 eleven-exactly s i due n = (
-  λ e. eleven-text s i due (first-at s (judgeOf s) (refused-first s) 11 i 11 (omega arith) (omega arith) e),
+  λ e. eleven-text s i due (first-at s (judgeOf s) (refused-first s) 11 i 11 (omega arith) (λ z. omega arith) e),
   eleven-given s i due n,
 )

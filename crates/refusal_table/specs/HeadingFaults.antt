@@ -1,5 +1,7 @@
 -- What is wrong at a heading that is refused with 13 or 14: said in the plain words of rules_plain, over records of the
--- entry that stand before it.
+-- entry that stand before it. The records that are held against, the field that is wrong and where the entry is refused
+-- (`HeldAgainst`, `WrongField`, `DueThere`, `RefusedThere`) are the same for a value that is refused with 17
+-- (FlagFaults).
 use Prim.Native.Nat.{ℕ, _+_, _/_, _<_}
 use mathlib.Core.Path.{_≡_}
 use mathlib.Core.Bool.{Bool, true}
@@ -29,8 +31,9 @@ pub record StandsBefore (s : List ℕ) (i : ℕ) (kinds : ℕ → Bool) (r : Rec
   pub one-of : kinds kind ≡ true
   pub is : KindOf s at kind
 
--- the records that the record with the index i is held against: text records and heading records of the entry, those
--- whose bytes are kept there
+-- the records that the record with the index i, of headings or of values, is held against: text records and heading
+-- records of the entry, those whose bytes are kept there. Whose BIB it is, this subentry's or that of 001, is not said
+-- here: `accepted-exactly` in good fixes it.
 pub record HeldAgainst (s : List ℕ) (i : ℕ) (b : RecordsBefore) : Type 0 where
   pub seen : SeenBefore (contextAt s i .seen) b
   pub bib001 : All (StandsBefore s i (among (TEXT ∷ []))) (b .bib001)
@@ -39,9 +42,9 @@ pub record HeldAgainst (s : List ℕ) (i : ℕ) (b : RecordsBefore) : Type 0 whe
   pub common : All (StandsBefore s i headings) (b .common)
   pub table : All (StandsBefore s i headings) (b .table)
 
--- the record with the index i is one of headings, of the kind that is due there, and this is wrong at the used field
--- whose first column is k
-pub record WrongHeading (kinds : ℕ → Bool) (Wrong : ℕ → RecordsBefore → Record → ℕ → Type 0) (s : List ℕ) (i k : ℕ)
+-- the record with the index i is of one of these kinds, headings or values, and the one that is due there; and this is
+-- wrong at the used field whose first column is k
+pub record WrongField (kinds : ℕ → Bool) (Wrong : ℕ → RecordsBefore → Record → ℕ → Type 0) (s : List ℕ) (i k : ℕ)
     : Type 0 where
   pub kind : ℕ
   pub one-of : kinds kind ≡ true
@@ -58,7 +61,7 @@ RepeatedHeading kind b r k = Repeated (eqb kind DATA-HEADING) b r k
 -- "13 | heading repeated | field's first"; records are numbered from 1
 abbrev pub ThirteenSaid : Type 0
 ThirteenSaid =
-    (s : List ℕ) (i k : ℕ) → judgeOf s ≡ refused 13 (record { 0 = i + 1 }) k → WrongHeading headings RepeatedHeading s i k
+    (s : List ℕ) (i k : ℕ) → judgeOf s ≡ refused 13 (record { 0 = i + 1 }) k → WrongField headings RepeatedHeading s i k
 
 -- "14 | DATA pointer not found | field's first"
 abbrev pub LostHeading : ℕ → RecordsBefore → Record → ℕ → Type 0
@@ -67,11 +70,11 @@ LostHeading kind b r k = Lost b (fieldAt r k)
 abbrev pub FourteenSaid : Type 0
 FourteenSaid =
     (s : List ℕ) (i k : ℕ) → judgeOf s ≡ refused 14 (record { 0 = i + 1 }) k
-    → WrongHeading (among (DATA-HEADING ∷ [])) LostHeading s i k
+    → WrongField (among (DATA-HEADING ∷ [])) LostHeading s i k
 
--- ---- and no such heading passes
+-- ---- and no such heading passes; nor such a value (FlagFaults)
 
--- judging comes to the record with the index i, and one with such a role is due there
+-- judging comes to the record with the index i, and one with such a role, of headings or of values, is due there
 pub record DueThere (s : List ℕ) (i : ℕ) (due : ℕ → Bool) : Type 0 where
   pub length-good : lengthGood (length s) ≡ true
   pub there : i < length s / 81
@@ -88,9 +91,9 @@ pub record RefusedThere (s : List ℕ) (i n k : ℕ) : Type 0 where
 
 abbrev pub RepeatedRefused : Type 0
 RepeatedRefused =
-    (s : List ℕ) (i k : ℕ) → DueThere s i isHeading → WrongHeading headings RepeatedHeading s i k → RefusedThere s i 13 k
+    (s : List ℕ) (i k : ℕ) → DueThere s i isHeading → WrongField headings RepeatedHeading s i k → RefusedThere s i 13 k
 
 abbrev pub LostRefused : Type 0
 LostRefused =
     (s : List ℕ) (i k : ℕ) → DueThere s i (λ role. eqb role DATA-HEADING)
-    → WrongHeading (among (DATA-HEADING ∷ [])) LostHeading s i k → RefusedThere s i 14 k
+    → WrongField (among (DATA-HEADING ∷ [])) LostHeading s i k → RefusedThere s i 14 k

@@ -3,3 +3,4 @@ pub mod KindOf
 pub mod Listed
 pub mod TextFaults
 pub mod HeadingFaults
+pub mod FlagFaults

@@ -20,7 +20,7 @@ pub data BadLength (n : ℕ) : Type 0 where
 pub data Listed (s : List ℕ) : ℕ → ℕ → ℕ → Type 0 where
   -- "1 | length 0, .. | 0 (record 0)"
   at-once : BadLength (length s) → Listed s 1 0 0
-  -- 2 to 15; "Records .. are numbered from 1."
+  -- 2 to 15, and 17; "Records .. are numbered from 1."
   on-record : (i kind n k : ℕ) → i < length s / 81 → KindOf s i kind → TableAllows n kind k → Listed s n (i + 1) k
   -- "16 | records end before ENDENTRY (record number one past the last) | 0": the last record is another
   behind-last : ((i : ℕ) → i + 1 ≡ length s / 81 → nameIn s i ≡ ENDENTRY → ⊥) → Listed s 16 (length s / 81 + 1) 0

@@ -110,6 +110,9 @@ refusals =
     -- "value malformed, COMMON value blank, unused filled; line with every used field blank (at its last record, column
     -- 1) | field's first"
     ∷ row 15 values fieldsFirst
+    -- "17 an exponent there, or a FLAG value without code, on the value record after 15, column as for 15" (document
+    -- 02, M-105)
+    ∷ row 17 values fieldsFirst
     ∷ []
 
 abbrev pub noRow : Row

@@ -19,6 +19,7 @@ use Rattle.rules_text.specs.Text.{rule10, rule11Text}
 use Rattle.rules_section.specs.Headings.{rule11Heading, rule12Heading, rule12Unit, rule13}
 use Rattle.rules_pointers.specs.Pointers.{rule14}
 use Rattle.rules_values.specs.Values.{rule15}
+use Rattle.rules_flags.specs.Flags.{rule17}
 use Rattle.rules_state.proofs.EitherWay.{no}
 use Rattle.rules.specs.Clean.{CleanEvery, Clean}
 
@@ -130,6 +131,7 @@ module _ (t : Track) (s : Seen) (role : ℕ) (fs : List (List ℕ)) (r : List �
         thirteen = no-heading role SYSTEM is refl;
         fourteen = no-data-heading role SYSTEM is refl;
         fifteen = no-value role SYSTEM is refl;
+        seventeen = no-value role SYSTEM is refl;
       }
 
   pub clean-text : eqb role TEXT ≡ true → rule10 (s .bib) t fs ≡ [] → rule11Text (s .under) fs ≡ []
@@ -149,6 +151,7 @@ module _ (t : Track) (s : Seen) (role : ℕ) (fs : List (List ℕ)) (r : List �
         thirteen = no-heading role TEXTS is refl;
         fourteen = no-data-heading role TEXTS is refl;
         fifteen = no-value role TEXTS is refl;
+        seventeen = no-value role TEXTS is refl;
       }
 
   pub clean-heading : isHeading role ≡ true → rule11Heading t fs ≡ [] → rule12Heading t fs ≡ []
@@ -168,6 +171,7 @@ module _ (t : Track) (s : Seen) (role : ℕ) (fs : List (List ℕ)) (r : List �
         thirteen = λ g. thirteen;
         fourteen = fourteen;
         fifteen = no-value role HEADING is refl;
+        seventeen = no-value role HEADING is refl;
       }
 
   pub clean-unit : isUnit role ≡ true → rule12Unit t fs ≡ [] → Clean t s role fs r
@@ -186,10 +190,11 @@ module _ (t : Track) (s : Seen) (role : ℕ) (fs : List (List ℕ)) (r : List �
         thirteen = no-heading role UNIT is refl;
         fourteen = no-data-heading role UNIT is refl;
         fifteen = no-value role UNIT is refl;
+        seventeen = no-value role UNIT is refl;
       }
 
-  pub clean-value : isValue role ≡ true → rule15 t role fs ≡ [] → Clean t s role fs r
-  clean-value h fifteen =
+  pub clean-value : isValue role ≡ true → rule15 t role fs ≡ [] → rule17 s t fs ≡ [] → Clean t s role fs r
+  clean-value h fifteen seventeen =
       let is = value-kind role h in
       record {
         every = every;
@@ -204,4 +209,5 @@ module _ (t : Track) (s : Seen) (role : ℕ) (fs : List (List ℕ)) (r : List �
         thirteen = no-heading role VALUE is refl;
         fourteen = no-data-heading role VALUE is refl;
         fifteen = λ g. fifteen;
+        seventeen = λ g. seventeen;
       }

@@ -35,7 +35,7 @@ module _ (t : Track) (s : Seen) (role : ℕ) (fs : List (List ℕ)) (r : List �
   right-none b js ks e h = rw h at e
 
   empty-clean : All Empty (findings t s role fs r) → Clean t s role fs r
-  empty-clean (e2, (e3, (e4, (e5, (e6, (e7, (e8, (e9, (e10, (e11, (e12, (e13, (e14, (e15, tt)))))))))))))) =
+  empty-clean (e2, (e3, (e4, (e5, (e6, (e7, (e8, (e9, (e10, (e11, (e12, (e13, (e14, (e15, (e17, tt))))))))))))))) =
       record {
         every = record { two = e2; three = e3; four = e4; five = e5; six = e6 };
         seven = on-none (isSystem role) _ e7;
@@ -49,6 +49,7 @@ module _ (t : Track) (s : Seen) (role : ℕ) (fs : List (List ℕ)) (r : List �
         thirteen = on-none (isHeading role) _ e13;
         fourteen = on-none (eqb role DATA-HEADING) _ e14;
         fifteen = on-none (isValue role) _ e15;
+        seventeen = on-none (isValue role) _ e17;
       }
 
   abbrev NoColumn : List ℕ → Type 0
@@ -83,7 +84,10 @@ module _ (t : Track) (s : Seen) (role : ℕ) (fs : List (List ℕ)) (r : List �
                           none-on (isHeading role) _ (c .thirteen),
                           (
                             none-on (eqb role DATA-HEADING) _ (c .fourteen),
-                            (none-on (isValue role) _ (c .fifteen), tt),
+                            (
+                              none-on (isValue role) _ (c .fifteen),
+                              (none-on (isValue role) _ (c .seventeen), tt),
+                            ),
                           ),
                         ),
                       ),

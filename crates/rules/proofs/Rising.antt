@@ -27,6 +27,7 @@ use Rattle.rules_text.specs.Text.{keywordFault, rule10, pointerRepeated, rule11
 use Rattle.rules_section.specs.Headings.{rule11Heading, rule12Heading, rule12Unit, rule13}
 use Rattle.rules_pointers.specs.Pointers.{rule14}
 use Rattle.rules_values.specs.Values.{lineBlank, rule15}
+use Rattle.rules_flags.specs.Flags.{rule17}
 use Rattle.rules_state.proofs.EitherWay.{either-way}
 use Rattle.rules_section.proofs.SomeColumns.{used-few}
 use Rattle.rules.specs.Order.{findings}
@@ -165,6 +166,10 @@ module _ (t : Track) (s : Seen) (role : ℕ) (fs : List (List ℕ)) (r : List �
   unfolding rule15
   rising15 = before-rising (lineBlank t role fs) 1 1 _ (omega arith) (omega arith) (fields-rising _ 6 (omega arith))
 
+  rising17 : Rising 1 (rule17 s t fs)
+  unfolding rule17
+  rising17 = fields-rising _ (used t) (used-few t)
+
   -- 11 and 12 are each made on two kinds of records
   rising11 : Rising 1 (cond (eqb role TEXT) (rule11Text (s .under) fs) (on (isHeading role) (rule11Heading t fs)))
   rising11 =
@@ -178,7 +183,10 @@ module _ (t : Track) (s : Seen) (role : ℕ) (fs : List (List ℕ)) (r : List �
   next : (n : ℕ) → n < n + 1
   next n = omega arith
 
-  last : 15 ≤ LAST-RULE
+  behind-15 : 15 < 17
+  behind-15 = omega arith
+
+  last : 17 ≤ LAST-RULE
   last = omega arith
 
   rows : Sorted 1 (findings t s role fs r)
@@ -196,7 +204,8 @@ module _ (t : Track) (s : Seen) (role : ℕ) (fs : List (List ℕ)) (r : List �
       (also (next 11) rising12
       (also (next 12) (on-rising (isHeading role) _ rising13)
       (also (next 13) (on-rising (eqb role DATA-HEADING) _ rising14)
-      (also (next 14) (on-rising (isValue role) _ rising15) (no-more last))))))))))))))
+      (also (next 14) (on-rising (isValue role) _ rising15)
+      (also behind-15 (on-rising (isValue role) _ rising17) (no-more last)))))))))))))))
 
 pub findings-rise : FindingsRise
 findings-rise = rows

@@ -22,9 +22,12 @@ use Rattle.rules_roles.specs.Roles.{COMMON-VALUE, DATA-VALUE, isValue}
 use Rattle.rules_roles.specs.Fault.{when, columnsFrom, columnsWhere, fieldColumn, firstFault}
 use Rattle.rules_every.specs.Every.{rule2, rule3, rule5, rule6, expectedIdentification}
 use Rattle.rules_values.specs.Values.{optional, lineBlank, rule15}
+use Rattle.record_flags.specs.Flags.{isFlagHeading}
+use Rattle.rules_flags.specs.Flags.{headingOver, flagColumn, flagFaultAt, rule17}
 use Rattle.rules.specs.Order.{findings, faultOf}
 use Rattle.rules.specs.Clean.{Clean}
 use Rattle.record_values.proofs.Readings.{fault-reads, fault-same, first-fault-same}
+use Rattle.rules_section.proofs.SomeColumns.{used-few}
 use Rattle.rules.proofs.NoColumns.{when-none, append-none, where-none}
 use Rattle.rules.proofs.ByKind.{of-values}
 use Rattle.rules.proofs.Clean.{fine-clean}
@@ -112,11 +115,45 @@ module _ (track : Track) (seen : Seen) (r t : List ℕ) (letters : rule3 t ≡ r
   unfolding rule15
   rule15-same role = rw (line-same role, columns-same role)
 
-  pub judged-alike : (role : ℕ) → isValue role ≡ true
-      → faultOf track seen role (fieldsOf t) t ≡ faultOf track seen role (fieldsOf r) r
-  unfolding faultOf
-  judged-alike role e =
-      of-values (λ role. firstFault (findings track seen role (fieldsOf t) t)
-      ≡ firstFault (findings track seen role (fieldsOf r) r))
-      (rw (rule2-same, letters, rule5-same COMMON-VALUE refl, rule6-same COMMON-VALUE, rule15-same COMMON-VALUE))
-      (rw (rule2-same, letters, rule5-same DATA-VALUE refl, rule6-same DATA-VALUE, rule15-same DATA-VALUE)) role e
+  -- where no field under a flag is another one, the rule for flags finds the same
+  flag-same : (k : ℕ) → (flagColumn (seen .table) track k ≡ true → getD (fieldsOf t) k [] ≡ getD (fieldsOf r) k [])
+      → flagFaultAt seen track (fieldsOf t) k ≡ flagFaultAt seen track (fieldsOf r) k
+  unfolding flagColumn
+  flag-same k same = by-test (isFlagHeading (headingOver (seen .table) track k)) refl
+    where
+      by-test : (b : Bool) → isFlagHeading (headingOver (seen .table) track k) ≡ b
+          → flagFaultAt seen track (fieldsOf t) k ≡ flagFaultAt seen track (fieldsOf r) k
+      by-test true e = rw (same e)
+      by-test false e = rw e
+
+  module _ (flags : (k : ℕ) → k < 6 → flagColumn (seen .table) track k ≡ true
+      → getD (fieldsOf t) k [] ≡ getD (fieldsOf r) k []) where
+    rule17-same : rule17 seen track (fieldsOf t) ≡ rule17 seen track (fieldsOf r)
+    unfolding rule17
+    rule17-same =
+        let few = used-few track in
+        where-same _ _ fieldColumn 0 (used track)
+        (λ k l h. flag-same k (flags k (omega arith)))
+
+    pub judged-alike : (role : ℕ) → isValue role ≡ true
+        → faultOf track seen role (fieldsOf t) t ≡ faultOf track seen role (fieldsOf r) r
+    unfolding faultOf
+    judged-alike role e =
+        of-values (λ role. firstFault (findings track seen role (fieldsOf t) t)
+        ≡ firstFault (findings track seen role (fieldsOf r) r))
+        (rw (
+          rule2-same,
+          letters,
+          rule5-same COMMON-VALUE refl,
+          rule6-same COMMON-VALUE,
+          rule15-same COMMON-VALUE,
+          rule17-same,
+        ))
+        (rw (
+          rule2-same,
+          letters,
+          rule5-same DATA-VALUE refl,
+          rule6-same DATA-VALUE,
+          rule15-same DATA-VALUE,
+          rule17-same,
+        )) role e

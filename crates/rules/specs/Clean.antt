@@ -19,6 +19,7 @@ use Rattle.rules_text.specs.Text.{rule10, rule11Text}
 use Rattle.rules_section.specs.Headings.{rule11Heading, rule12Heading, rule12Unit, rule13}
 use Rattle.rules_pointers.specs.Pointers.{rule14}
 use Rattle.rules_values.specs.Values.{rule15}
+use Rattle.rules_flags.specs.Flags.{rule17}
 use Rattle.rules.specs.Order.{faultOf}
 
 -- by the rules for every record
@@ -43,6 +44,7 @@ pub record Clean (t : Track) (s : Seen) (role : Role) (fs : Fields) (r : Record)
   pub thirteen : isHeading role ≡ true → rule13 s t role fs r ≡ []
   pub fourteen : eqb role DATA-HEADING ≡ true → rule14 s t fs ≡ []
   pub fifteen : isValue role ≡ true → rule15 t role fs ≡ []
+  pub seventeen : isValue role ≡ true → rule17 s t fs ≡ []
 
 -- "a record without fault" and "each rule finds nothing" are one
 abbrev pub CleanExactly : Type 0

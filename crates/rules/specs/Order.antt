@@ -28,6 +28,7 @@ use Rattle.rules_text.specs.Text.{rule10, rule11Text}
 use Rattle.rules_section.specs.Headings.{rule11Heading, rule12Heading, rule12Unit, rule13}
 use Rattle.rules_pointers.specs.Pointers.{rule14}
 use Rattle.rules_values.specs.Values.{rule15, valuesFor}
+use Rattle.rules_flags.specs.Flags.{rule17}
 
 -- what the rules find on a record, from what is counted and seen before it, its role and its six fields
 abbrev pub findings : Track → Seen → Role → Fields → Record → List Finding
@@ -46,6 +47,7 @@ findings t s role fs r =
     ∷ finding 13 (on (isHeading role) (rule13 s t role fs r))
     ∷ finding 14 (on (eqb role DATA-HEADING) (rule14 s t fs))
     ∷ finding 15 (on (isValue role) (rule15 t role fs))
+    ∷ finding 17 (on (isValue role) (rule17 s t fs))
     ∷ []
 
 unfoldable pub faultOf : Track → Seen → Role → Fields → Record → Fault

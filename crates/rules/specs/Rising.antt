@@ -1,4 +1,4 @@
--- What the rules find on any record: numbers that rise, from 2 to 15, and for each its columns from left to right,
+-- What the rules find on any record: numbers that rise, from 2 to 17, and for each its columns from left to right,
 -- from 1 to 81. So the first finding is the least, and the number and the column of every refusal are bounded.
 --
 -- The law `findings-rise`: the findings of every record are so; `fault-bounds`: so are its number and its column.
@@ -14,7 +14,7 @@ use Rattle.rules.specs.Order.{findings, faultOf}
 
 -- the last number of a rule, and the last column of a record
 abbrev pub LAST-RULE : ℕ
-LAST-RULE = 15
+LAST-RULE = 17
 
 abbrev pub LAST-COLUMN : ℕ
 LAST-COLUMN = 81

@@ -23,6 +23,7 @@ use rules_every::every::rule3;
 use rules_every::every::rule4;
 use rules_every::every::rule5;
 use rules_every::every::rule6;
+use rules_flags::flags::rule17;
 use rules_pointers::pointers::rule14;
 use rules_roles::fault::Fault;
 use rules_roles::ranging::Ranges;
@@ -48,6 +49,34 @@ fn rule11(track: Track, ranges: Ranges, before: &[u8], role: usize, fs: [[u8; 11
         return rule11_text(track, ranges, before, fs);
     }
     rule11_heading(track, role, fs)
+}
+
+// The rules for value records, 15 and 17.
+fn value_fault<'a>(
+    track: Track,
+    kinds: &[u8; 256],
+    nexts: &[u8; 88],
+    ranges: Ranges,
+    before: &'a [u8],
+    rec: &'a [u8],
+    role: usize,
+    fs: [[u8; 11]; 6],
+    values: Values,
+) -> Fault
+    requires { ⌜ Tables (now kinds) (now nexts) ⌝ }
+    requires { ⌜ Judged track ranges (now before) (now rec) role fs values ⌝ }
+    ensures { λ r. ⌜ r
+        ≡ firstFault (drop 13 (findings track (seenOf (now (before .entry)) ranges) role fs (now (rec .entry)))) ⌝ }
+{
+    let a = rule15(track, kinds, nexts, role, fs, values);
+    if a != 0 {
+        return Fault::At(15, a);
+    }
+    let b = rule17(track, ranges, before, role, fs);
+    if b != 0 {
+        return Fault::At(17, b);
+    }
+    Fault::Fine
 }
 
 // From rule 10 on.
@@ -87,11 +116,7 @@ fn section_fault<'a>(
     if e != 0 {
         return Fault::At(14, e);
     }
-    let f = rule15(track, kinds, nexts, role, fs, values);
-    if f != 0 {
-        return Fault::At(15, f);
-    }
-    Fault::Fine
+    value_fault(track, kinds, nexts, ranges, before, rec, role, fs, values)
 }
 
 // From rule 4 on.

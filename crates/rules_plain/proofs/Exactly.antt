@@ -1,11 +1,12 @@
--- A column that stands exactly where something is so.
+-- A column that stands, and a test that passes, exactly where something is so.
 -- Assumes nothing.
 use Prim.Native.Nat.{ℕ}
 use mathlib.Core.Path.{_≡_, refl, sym}
-use mathlib.Core.Bool.{Bool, true, false}
+use mathlib.Core.Bool.{Bool, true, false, cond}
 use mathlib.Core.List.{[], _∷_}
-use mathlib.Core.Logic.{_↔_}
+use mathlib.Core.Logic.{_↔_, _⊎_, inl, inr}
 use Rattle.laws.proofs.Booleans.{differ}
+use Rattle.rules_state.proofs.EitherWay.{either-way}
 use Rattle.rules_roles.specs.Fault.{when}
 use Rattle.rules_section.proofs.SomeColumns.{some-column}
 
@@ -21,3 +22,15 @@ when-fine false k h = (λ e p. differ (sym (h .1 p)), λ n. refl)
 pub false-where : {P : Type 0} (b : Bool) → (b ≡ true) ↔ P → (P → ⊥) → b ≡ false
 false-where true h n = absurd (n (h .0 refl))
 false-where false h n = refl
+
+-- one test, or else another
+pub either-met : (a b : Bool) (P Q : Type 0) → (a ≡ true) ↔ P → (b ≡ true) ↔ Q → (cond a true b ≡ true) ↔ (P ⊎ Q)
+either-met a b P Q p q = (by-test a p, by-side)
+  where
+    by-test : (x : Bool) → (x ≡ true) ↔ P → cond x true b ≡ true → P ⊎ Q
+    by-test true h e = inl (h .0 refl)
+    by-test false h e = inr (q .0 e)
+
+    by-side : P ⊎ Q → cond a true b ≡ true
+    by-side (inl x) = rw (p .1 x) refl
+    by-side (inr x) = rw (q .1 x) (either-way (λ y. y ≡ true) a true true refl refl)

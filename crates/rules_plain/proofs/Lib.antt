@@ -9,3 +9,6 @@ pub mod SearchEnd
 pub mod Found
 pub mod Repeated
 pub mod OneBefore
+pub mod FlagFields
+pub mod FlagCodes
+pub mod Flags

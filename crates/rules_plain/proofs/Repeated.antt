@@ -50,7 +50,7 @@ use Rattle.rules_plain.proofs.SearchEnd.{search-end}
 -- ---- a test on the used fields, and what it means
 
 module _ (t : Track) (test : ℕ → Bool) (P : ℕ → Type 0) (agree : (k : ℕ) → k < 6 → (test k ≡ true) ↔ P k) where
-  place-field : (c : ℕ) → PlaceOf test fieldColumn 0 (used t) c → FirstOf t P c
+  pub place-field : (c : ℕ) → PlaceOf test fieldColumn 0 (used t) c → FirstOf t P c
   place-field c p =
       let n = used-few t in
       let l = p .to in
@@ -61,7 +61,7 @@ module _ (t : Track) (test : ℕ → Bool) (P : ℕ → Type 0) (agree : (k : �
         first = p .same;
       }
 
-  field-place : (c : ℕ) → FirstOf t P c → PlaceOf test fieldColumn 0 (used t) c
+  pub field-place : (c : ℕ) → FirstOf t P c → PlaceOf test fieldColumn 0 (used t) c
   field-place c p =
       let n = used-few t in
       let l = p .is-used in

@@ -1,10 +1,10 @@
 -- Rows of records: the cells of the first record and of the others, and the headings of records one behind the other.
 -- Assumes nothing.
-use Prim.Native.Nat.{ℕ, suc, _+_, _-_, _*_, _/_, _%_, _<_, _≤_}
-use mathlib.Core.Path.{_≡_, sym, _∙_, ap}
+use Prim.Native.Nat.{ℕ, zero, suc, _+_, _-_, _*_, _/_, _%_, _<_, _≤_}
+use mathlib.Core.Path.{_≡_, refl, sym, _∙_, ap}
 use mathlib.Core.List.{List, [], _∷_, _++_}
 use native.Mathlib.Omega.{arith}
-use lib.ListN.{length, take, drop, length-drop}
+use lib.ListN.{length, getD, take, drop, length-drop, List·getD-eq-default}
 use lib.Seq.{take-append-le, drop-append-le, getD-take, getD-drop}
 use Rattle.laws.specs.Walk.{All}
 use Rattle.laws.specs.Blocks.{joined}
@@ -55,6 +55,24 @@ heading-cell (r ∷ rows) m a l =
     let e : m / 6 * 81 + m % 6 * 11 ≡ 81 + ((m - 6) / 6 * 81 + (m - 6) % 6 * 11) = omega arith in
     ap (take 11) (drop-record r (joined rows) (m / 6 * 81 + m % 6 * 11) ((m - 6) / 6 * 81 + (m - 6) % 6 * 11) (a .0) e)
     ∙ heading-cell rows (m - 6) (a .1) (omega arith) ∙ sym (cell-there r rows m h))
+
+-- and beyond the last record, where nothing stands
+nothing-behind : (xs : List ℕ) (n : ℕ) → length xs ≤ n → drop n xs ≡ []
+nothing-behind [] zero l = refl
+nothing-behind [] (suc n) l = refl
+nothing-behind (x ∷ xs) zero l = absurd (omega arith)
+nothing-behind (x ∷ xs) (suc n) l = nothing-behind xs n (omega arith)
+
+pub heading-over : (rows : List Record) (m : ℕ) → All Long rows → headingAt (joined rows) m ≡ cell rows m
+unfolding cell
+heading-over rows m a =
+    either m (length rows * 6) (λ l. heading-cell rows m a l)
+    (λ l.
+    let e : length (joined rows) ≡ length rows * 81 = length-joined 81 rows a in
+    let none : getD rows (m / 6) [] ≡ [] = List·getD-eq-default rows [] (omega arith) in
+    let bytes = nothing-behind (joined rows) (m / 6 * 81 + m % 6 * 11) (omega arith) in
+    let columns = nothing-behind [] (m % 6 * 11) (omega arith) in
+    rw (none, bytes, columns) refl)
 
 pub heading-here : (r : Record) (m : ℕ) → m < 6 → headingAt r m ≡ fieldAt r m
 heading-here r m l =

@@ -3,6 +3,7 @@ use Prim.Native.Nat.{ℕ, _/_, _%_}
 use mathlib.Core.Path.{_≡_}
 use mathlib.Core.List.{List, [], _∷_, _++_, map}
 use lib.ListN.{length, getD}
+use Rattle.columns.specs.Columns.{columnsAt}
 use Rattle.columns.specs.Fields.{fieldAt}
 use Rattle.record_words.specs.Word.{pointerOf}
 use Rattle.rules_roles.specs.Fault.{Record}
@@ -25,9 +26,13 @@ pub data Some {A : Type 0} (P : A → Type 0) : List A → Type 0 where
 abbrev pub Long : Record → Type 0
 Long r = length r ≡ 81
 
--- "BIB: columns 1-10 a keyword (word) or blank, 11 a pointer or blank, 12-66 text."
+-- "BIB: columns 1-10 a keyword (word) or blank, 11 a pointer or blank, 12-66 text.": columns 1 to 11,
 abbrev pub bibPlace : Record → List ℕ
 bibPlace r = fieldAt r 0
+
+-- and the text, 55 columns behind the first eleven
+abbrev pub bibText : Record → List ℕ
+bibText r = columnsAt 11 55 r
 
 abbrev pub pointersIn : List Record → List ℕ
 pointersIn rs = map (λ r. pointerOf (bibPlace r)) rs

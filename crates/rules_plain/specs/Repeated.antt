@@ -1,5 +1,6 @@
--- What is wrong at a heading for refusals 13 and 14 (document 01, "BIB, headings, pointers"; document 02, M-101): said
--- over the records that stand before it, with no offset and no search.
+-- The records that a heading or a value is held against (`RecordsBefore`), and what is wrong at a heading for refusals
+-- 13 and 14 (document 01, "BIB, headings, pointers"; document 02, M-101): said over these records, with no offset and
+-- no search. What is wrong at a value for refusal 17 is said over them in Flags.
 --
 -- The code follows `rule13` (rules_section, Headings) and `rule14` (rules_pointers, Pointers), which compute over the
 -- bytes of these records. That they find exactly the headings that are said here is stated below (`RepeatedExactly`,
@@ -25,9 +26,10 @@ use Rattle.rules_section.specs.Headings.{rule13}
 use Rattle.rules_pointers.specs.Pointers.{rule14}
 use Rattle.rules_plain.specs.Places.{concat, Some, Long, pointersIn, pointersOn}
 
--- ---- what stands before a heading record
+-- ---- what stands before a heading record or a value record
 
--- the records that a heading is held against: text records of BIB, heading records of COMMON and of the table in hand
+-- the records that a heading or a value is held against: text records of BIB, heading records of COMMON and of the
+-- table in hand
 pub record RecordsBefore : Type 0 where
   -- the text records of the BIB of 001, and of this subentry's BIB
   pub bib001 : List Record

@@ -89,10 +89,10 @@ fn run(text: &[u8], whole: &mut [u8], case: &mut [u8]) {
 }
 
 // Room for the lines.
-fn text_room() -> [u8; 160000]
-    ensures { λ r. ⌜ 160000 ≡ length r ⌝ }
+fn text_room() -> [u8; 200000]
+    ensures { λ r. ⌜ 200000 ≡ length r ⌝ }
 {
-    [0; 160000]
+    [0; 200000]
 }
 
 // Room for one record more than an entry may have.

@@ -1,5 +1,5 @@
-//! Holds the library against the reference: on the sample with every byte changed to every other, and on generated
-//! entries, number fields and decimals.
+//! Holds the library against the reference: on the sample and the sample with flags with every byte changed to every
+//! other, and on generated entries, number fields and decimals.
 //!
 //!     cargo run --release --bin differ -- [--seed N] [--entries N] [--numbers N]
 
@@ -28,6 +28,7 @@ fn run() -> Result<ExitCode, String> {
     let every: Vec<u8> = (0..=255).collect();
     let outcome = pair
         .bytes(include_bytes!("../../data/sample.x4"), &every)
+        .and_then(|()| pair.bytes(include_bytes!("../../data/flags.x4"), &every))
         .and_then(|()| pair.entries(seed, entries))
         .and_then(|()| pair.fields(seed, numbers))
         .and_then(|()| pair.decimals(seed, numbers));

@@ -15,7 +15,7 @@ x4 reads EXFOR entries: one entry in each file, from ENTRY to ENDENTRY.
   x4 judge [--json] [FILE..]       is the entry good, and if not, where is its first fault
   x4 tables [--json] [--digits] [FILE]
                                    every COMMON and DATA table, as comma-separated values
-  x4 canon [FILE]                  the canonical copy: every number in its shortest spelling
+  x4 canon [FILE]                  the canonical copy: every number but flags in its shortest spelling
   x4 compare [--exact] [--digits] A B
                                    the first difference between two entries' tables
   x4 help COMMAND                  more about a command
@@ -35,6 +35,9 @@ file's name. With --json each file is one line, an object.
 A heading with its pointer stands once in the COMMON of 001, a subentry's COMMON and its DATA together. E-LVL, EN-RES,
 words ending in -ERR or -RSL and words starting with ANG may repeat, and in DATA also FLAG and words starting with HL:
 all equal ones side by side, in one of these sections.
+
+A number under the heading FLAG or DECAY-FLAG has no exponent. A number under FLAG equals a code: 2. equals (2.) on a
+record of BIB under the keyword FLAG, from column 12 on, in the same subentry or in 001.
 
 Exit status: 0 if every entry is good, 1 if one is refused, 2 if a file cannot be read.
 ";
@@ -57,7 +60,8 @@ const HELP_CANON: &str = "\
 x4 canon [FILE]
 
 Writes the canonical copy of a good entry: each number of COMMON and DATA in its shortest spelling, right-adjusted, and
-every other byte as it was. The copy is again a good entry, with the same values, and its own canonical copy.
+every other byte as it was. Columns under FLAG and DECAY-FLAG stay as they were, too. The copy is again a good entry,
+with the same values, and its own canonical copy.
 ";
 
 const HELP_COMPARE: &str = "\

@@ -2,7 +2,7 @@
 //! from the paper by hand, and noise, where it does not.
 
 use super::sheet::{identifier, repeats, single, word, FILLED, IDENTIFIERS, POINTERS};
-use super::{number_field, Kind, Random, Sheet};
+use super::{entry, flags, number_field, Kind, Random, Sheet};
 use crate::{Refusal, RECORD};
 
 /// What was done, and the refusal that the paper gives for it.
@@ -15,7 +15,7 @@ pub struct Damage {
 }
 
 /// Number, record from 0, column.
-type Fault = (u32, usize, usize);
+pub(super) type Fault = (u32, usize, usize);
 
 /// Damages the entry and says what is due; none if the entry has no place for it.
 type Act = fn(&mut Random, &mut Sheet) -> Option<Fault>;
@@ -78,7 +78,21 @@ pub const CAUSES: &[(&str, Act)] = &[
     ("15 COMMON value blank", common_blank),
     ("15 unused field filled", unused_value),
     ("15 line blank", blank_line),
+    ("15 value malformed beside a flag without code", flags::malformed_beside),
     ("16 records end early", ends_early),
+    ("17 flag with an exponent", flags::flag_raised),
+    ("17 DECAY-FLAG with an exponent", flags::decay_flag_raised),
+    ("17 flag without code", flags::code_missing),
+    ("17 flag without code past the sixth column", flags::missing_past_the_sixth),
+    ("17 flag without code past the twelfth column", flags::missing_past_the_twelfth),
+    ("17 code in another subentry", flags::code_elsewhere),
+    ("17 code not in its form", flags::code_malformed),
+    ("17 code not in its place", flags::code_misplaced),
+    ("17 code without digits", flags::code_without_digits),
+    ("17 code too large by a power of two or ten", flags::code_too_large),
+    ("17 code under another keyword", flags::code_under_another_keyword),
+    ("17 flag below zero", flags::flag_below_zero),
+    ("17 flag with a fraction", flags::flag_with_fraction),
 ];
 
 /// Damages an entry by one cause, if it has a place for it.
@@ -87,6 +101,20 @@ pub fn damage(random: &mut Random, sheet: &mut Sheet, cause: usize) -> Option<Da
     let (number, record, column) = act(random, sheet)?;
     let record = if number == 1 { 0 } else { record as u32 + 1 };
     Some(Damage { cause, due: Refusal { number, record, column: column as u32 } })
+}
+
+/// An entry damaged by one cause: the first of at most twenty that has a place for it. If none has, the last as it is.
+pub fn damaged(random: &mut Random, cause: usize) -> (Sheet, Option<Damage>) {
+    let mut sheet = entry(random);
+    let mut done = damage(random, &mut sheet, cause);
+    for _ in 1..20 {
+        if done.is_some() {
+            break;
+        }
+        sheet = entry(random);
+        done = damage(random, &mut sheet, cause);
+    }
+    (sheet, done)
 }
 
 /// Changes an entry at random, in one place or several. What is due is not known.
@@ -98,7 +126,7 @@ pub fn noise(random: &mut Random, sheet: &mut Sheet) {
         }
         let at = random.below(records);
         let column = random.within(1, 81);
-        match random.below(11) {
+        match random.below(13) {
             0 => sheet.remove(at),
             1 => {
                 let (record, kind) = (sheet.record(at).to_vec(), sheet.kinds[at]);
@@ -119,6 +147,7 @@ pub fn noise(random: &mut Random, sheet: &mut Sheet) {
             6 => sheet.put(at, column.min(80), b" "),
             7 => sheet.put(at, column, &[random.bits() as u8]),
             8 => copy_heading(random, sheet),
+            9 | 10 => flags::noise(random, sheet),
             _ => sheet.put(at, column.min(80), &[random.one(FILLED)]),
         }
     }
@@ -150,7 +179,7 @@ pub fn random_bytes(random: &mut Random) -> Vec<u8> {
 }
 
 /// One of some places, if there is any.
-fn pick(random: &mut Random, places: &[usize]) -> Option<usize> {
+pub(super) fn pick(random: &mut Random, places: &[usize]) -> Option<usize> {
     if places.is_empty() {
         None
     } else {
@@ -642,15 +671,15 @@ fn repeat(sheet: &mut Sheet, from: (usize, usize), to: (usize, usize)) -> Option
 }
 
 /// A table: its section, its first heading record and its headings.
-struct Headings {
+pub(super) struct Headings {
     section: &'static str,
     at: usize,
-    headings: Vec<Vec<u8>>,
+    pub(super) headings: Vec<Vec<u8>>,
 }
 
 impl Headings {
     /// Those of the table that a COMMON or DATA record opens.
-    fn of(sheet: &Sheet, opening: usize) -> Headings {
+    pub(super) fn of(sheet: &Sheet, opening: usize) -> Headings {
         let section = if sheet.kinds[opening] == Kind::System("DATA") { "DATA" } else { "COMMON" };
         let columns = number(sheet, opening, 1) as usize;
         let own = Headings { section, at: opening + 1, headings: Vec::new() };
@@ -765,7 +794,7 @@ fn value(random: &mut Random, sheet: &Sheet, only: Option<&str>) -> Option<(usiz
 }
 
 /// Fields that are no numbers, each for its own reason.
-const NO_NUMBERS: [&str; 24] = [
+pub(super) const NO_NUMBERS: [&str; 24] = [
     "14", ".", "+.", "+ 1.", "- 1.", "1.4-1 ", "1.5E", "1. 5", "1.2.3", "E5", "1.E+", "1.+", "1.4e1", "1.4D1",
     "1.4E -1", "1.- 3", "1.E+ 3", "--1.", "1.5E1 ", "1.4-1 5", "NaN", "1,5", "DATA", "1.5EE1",
 ];

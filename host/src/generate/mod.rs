@@ -2,12 +2,13 @@
 //! decimals. Everything follows from a seed, so that a printed seed brings an input back.
 
 mod damage;
+mod flags;
 mod large;
 mod numbers;
 mod sheet;
 mod workloads;
 
-pub use damage::{damage, noise, random_bytes, Damage, CAUSES};
+pub use damage::{damage, damaged, noise, random_bytes, Damage, CAUSES};
 pub use large::{large, Shape, SHAPES};
 pub use numbers::{decimal, number_field, spelling, usual_spelling};
 pub use sheet::{entry, Kind, Sheet};

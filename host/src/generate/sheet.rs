@@ -1,6 +1,6 @@
 //! Valid entries, laid out record by record.
 
-use super::{spelling, Random};
+use super::{flags, spelling, Random};
 use crate::RECORD;
 use std::collections::BTreeSet;
 
@@ -231,10 +231,12 @@ struct Writer<'r> {
 struct Known {
     pointers: BTreeSet<u8>,
     headings: BTreeSet<Vec<u8>>,
+    /// The numbers of codes under the keyword FLAG, those that fit a number field.
+    codes: Vec<String>,
 }
 
 /// A valid entry. Its shape is left to chance: one to seven subentries, with and without each section, tables of one to
-/// eighteen columns, headings that repeat where they may, pointers, and numbers in every spelling.
+/// eighteen columns, headings that repeat where they may, pointers, numbers in every spelling, and flags with codes.
 pub fn entry(random: &mut Random) -> Sheet {
     let first = random.one(b"ABCXYZ0123456789") as char;
     let accession = format!("{first}{:04}", random.below(10_000));
@@ -331,37 +333,56 @@ impl Writer<'_> {
     }
 
     fn bib(&mut self) {
-        let mut lines: Vec<(String, char)> = Vec::new();
+        let mut lines: Vec<(String, char, String)> = Vec::new();
         let keywords = self.random.within(1, 5);
+        let flags = if self.random.once_in(3) { keywords } else { self.random.below(keywords) };
         let mut met = BTreeSet::new();
         while met.len() < keywords {
-            let keyword = word(self.random);
+            let flags = met.len() == flags;
+            let keyword = if flags { "FLAG".to_string() } else { word(self.random) };
             let mut pointers = POINTERS.to_vec();
             let mut pointer = |random: &mut Random, of: usize| match random.once_in(of) {
                 true => char::from(pointers.swap_remove(random.below(pointers.len()))),
                 false => ' ',
             };
             let own = pointer(self.random, 3);
-            if identifier(format!("{keyword:10}{own}").as_bytes()) || !met.insert(keyword.clone()) {
+            let other_flag = keyword == "FLAG" && !flags;
+            if other_flag || identifier(format!("{keyword:10}{own}").as_bytes()) || !met.insert(keyword.clone()) {
                 continue;
             }
-            lines.push((keyword, own));
-            for _ in 0..self.random.below(4) {
-                lines.push((String::new(), pointer(self.random, 2)));
+            let text = self.text(flags);
+            lines.push((keyword, own, text));
+            for _ in 0..self.random.below(if flags { 6 } else { 4 }) {
+                let (pointer, text) = (pointer(self.random, 2), self.text(flags));
+                lines.push((String::new(), pointer, text));
             }
         }
         let (n1, n2) = (self.count(keywords), self.count(lines.len()));
         self.system("BIB", n1, n2);
         let records = lines.len();
-        for (index, (keyword, pointer)) in lines.into_iter().enumerate() {
+        for (index, (keyword, pointer, text)) in lines.into_iter().enumerate() {
             if pointer != ' ' {
                 self.own.pointers.insert(pointer as u8);
             }
-            let text = if self.random.once_in(4) { String::new() } else { format!("({} text)", word(self.random)) };
             self.record(&format!("{keyword:10}{pointer}{text}"), Kind::Text { first: index == 0 });
         }
         let count = self.count(records);
         self.system("ENDBIB", count, None);
+    }
+
+    /// The text of a record: under FLAG most are codes, and elsewhere now and then one that is not.
+    fn text(&mut self, flags: bool) -> String {
+        if flags && !self.random.once_in(3) {
+            let (text, number) = flags::code(self.random);
+            if number.len() <= 10 {
+                self.own.codes.push(number);
+            }
+            return text;
+        }
+        if self.random.once_in(12) {
+            return flags::code(self.random).0;
+        }
+        flags::no_code(self.random)
     }
 
     /// A word with a pointer that the section may use, or none.
@@ -380,13 +401,29 @@ impl Writer<'_> {
         !self.shared.headings.contains(heading) && self.own.headings.insert(heading.to_vec())
     }
 
+    /// Codes that numbers under FLAG may have.
+    fn codes(&self) -> Vec<&str> {
+        self.shared.codes.iter().chain(&self.own.codes).map(String::as_str).collect()
+    }
+
+    /// Whether a heading may stand on a column, from 0: without codes FLAG only where its values may be blank and the
+    /// line still has a number.
+    fn may_stand(&self, heading: &[u8], section: &str, column: usize) -> bool {
+        let ends = column % 6 == 0 && identifier(heading) && heading.starts_with(b"END");
+        let blank = section == "DATA" && column > 0;
+        !ends && (!is_flag(heading) || blank || !self.codes().is_empty())
+    }
+
     /// A heading that has not been met yet, with its pointer.
-    fn heading(&mut self, section: &str, first: bool) -> Vec<u8> {
+    fn heading(&mut self, section: &str, column: usize) -> Vec<u8> {
         loop {
-            let word = if self.random.once_in(8) { self.random.one(&SINGLE).into() } else { word(self.random) };
+            let word = match self.random.below(8) {
+                0 => self.random.one(&SINGLE).into(),
+                1 => self.random.one(&["FLAG", "FLAG", "DECAY-FLAG"]).into(),
+                _ => word(self.random),
+            };
             let heading = self.pointed(&word, section);
-            let ends = first && identifier(&heading) && heading.starts_with(b"END");
-            if !ends && self.new_heading(&heading) {
+            if self.may_stand(&heading, section, column) && self.new_heading(&heading) {
                 return heading;
             }
         }
@@ -399,13 +436,13 @@ impl Writer<'_> {
             let listed = self.random.one(&REPEATING).0;
             if self.random.once_in(4) && repeats(listed, section) == Some(true) {
                 let heading = self.pointed(listed, section);
-                if self.new_heading(&heading) {
+                if self.may_stand(&heading, section, headings.len()) && self.new_heading(&heading) {
                     let times = self.random.one(&[2, 2, 3, 4, 8]);
                     headings.extend(std::iter::repeat_n(heading, times));
                     continue;
                 }
             }
-            headings.push(self.heading(section, headings.len() % 6 == 0));
+            headings.push(self.heading(section, headings.len()));
         }
         headings.truncate(columns);
         headings
@@ -435,7 +472,7 @@ impl Writer<'_> {
         let units: Vec<Vec<u8>> = (0..columns).map(|column| self.unit(column % 6 == 0)).collect();
         self.row(&units, |used, _, _| Kind::Unit { used });
         for _ in 0..lines {
-            let values = self.line(section, columns);
+            let values = self.line(section, &headings);
             self.row(&values, |used, part, parts| Kind::Values { section, used, part, parts });
         }
         let name = if section == "COMMON" { "ENDCOMMON" } else { "ENDDATA" };
@@ -453,18 +490,40 @@ impl Writer<'_> {
     }
 
     /// The values of a line; one at least is a number, and in COMMON all are.
-    fn line(&mut self, section: &str, columns: usize) -> Vec<Vec<u8>> {
-        let sure = self.random.below(columns);
+    fn line(&mut self, section: &str, headings: &[Vec<u8>]) -> Vec<Vec<u8>> {
+        let no_codes = self.codes().is_empty();
+        let numbers: Vec<usize> =
+            (0..headings.len()).filter(|&column| !(no_codes && is_flag(&headings[column]))).collect();
+        let sure = self.random.one(&numbers);
         let sparse = self.random.one(&[2, 4, 1000]);
-        (0..columns)
-            .map(|column| {
+        let columns = headings.iter().enumerate();
+        columns
+            .map(|(column, heading)| {
                 let blank = section == "DATA" && column != sure && self.random.once_in(sparse);
-                if blank {
+                if blank || !numbers.contains(&column) {
                     b"           ".to_vec()
                 } else {
-                    spelling(self.random).to_vec()
+                    self.value(heading).to_vec()
                 }
             })
             .collect()
     }
+
+    /// A number that may stand under a heading.
+    fn value(&mut self, heading: &[u8]) -> [u8; 11] {
+        if is_flag(heading) {
+            let codes: Vec<String> = self.codes().into_iter().map(String::from).collect();
+            let code = self.random.below(codes.len());
+            return flags::flag_spelling(self.random, &codes[code]);
+        }
+        if heading.starts_with(b"DECAY-FLAG") {
+            return flags::plain_spelling(self.random);
+        }
+        spelling(self.random)
+    }
+}
+
+/// Whether a heading is FLAG, with any pointer or none.
+fn is_flag(heading: &[u8]) -> bool {
+    heading.starts_with(b"FLAG      ")
 }

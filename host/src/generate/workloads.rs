@@ -24,10 +24,13 @@ pub enum Workload {
     Headings,
     /// Every DATA heading has a pointer, which stands in the last record of a long BIB of 001.
     FarPointer,
+    /// One table of eighteen columns FLAG, the code of all its flags in the last record of a long BIB of 001 full of
+    /// codes.
+    FarCode,
 }
 
 /// All workloads.
-pub const WORKLOADS: [Workload; 9] = [
+pub const WORKLOADS: [Workload; 10] = [
     Workload::Text,
     Workload::Spellings,
     Workload::Subentries,
@@ -37,6 +40,7 @@ pub const WORKLOADS: [Workload; 9] = [
     Workload::OneKeyword,
     Workload::Headings,
     Workload::FarPointer,
+    Workload::FarCode,
 ];
 
 const POINTERS: &[u8; 35] = b"123456789ABCDEFGHIJKLMNOPQRSTUVWXYZ";
@@ -54,6 +58,7 @@ impl Workload {
             Workload::OneKeyword => "one keyword",
             Workload::Headings => "54 headings in three sections",
             Workload::FarPointer => "a DATA pointer found late in 001",
+            Workload::FarCode => "flags, their code found late in 001",
         }
     }
 
@@ -73,6 +78,7 @@ impl Workload {
             }
             Workload::Headings => headings(records),
             Workload::FarPointer => far_pointer(records),
+            Workload::FarCode => far_code(records),
         }
     }
 }
@@ -119,6 +125,15 @@ fn far_pointer(records: usize) -> Vec<u8> {
     with_others(first, (records - last - 7) / 9, || {
         [empty(), table("DATA", 6, 1, heading, |_| format!("{:>11}", "1.5"))].concat()
     })
+}
+
+fn far_code(records: usize) -> Vec<u8> {
+    let last = records / 2;
+    let line = |code| format!("{:11}({code}.)", if code == 1 { "FLAG" } else { "" });
+    let first = [bib((1..=last).map(line)), vec!["NOCOMMON".into()]].concat();
+    let flag = |_| format!("{:>11}", format!("{last}."));
+    let table = table("DATA", 18, (records - last - 19) / 3, |_| "FLAG".into(), flag);
+    whole(vec![first, [empty(), table].concat()])
 }
 
 fn number(random: &mut Random) -> String {

@@ -4,9 +4,10 @@
 //! other. The whole entry is first laid out as a tree by nesting and counts. Then each row of the table of refusals
 //! walks the tree by itself and notes all its faults, with sets and maps for what may not occur twice and runs of equal
 //! neighbours for headings that may (M-101); the verdict is the least of the noted faults. A number field is taken
-//! apart as text, its digits are counted by its characters, and the canonical field is found by trying the shapes of
-//! fields in the paper's order of preference.
+//! apart as text, its digits are counted by its characters, a flag is its code (M-105) by its digits, and the canonical
+//! field is found by trying the shapes of fields in the paper's order of preference.
 
+pub mod flags;
 pub mod number;
 pub mod questions;
 pub mod record;

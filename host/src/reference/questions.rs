@@ -1,5 +1,6 @@
 //! Questions and the canonical copy, answered from the tree.
 
+use super::flags::flag_headings;
 use super::judge;
 use super::number::{read_number, write_number};
 use super::record::blank;
@@ -96,14 +97,16 @@ pub fn passage(entry: &[u8], number: u32, keyword: &[u8], pointer: u8) -> Result
 }
 
 /// "The canonical copy replaces each non-blank value field of COMMON and DATA by its canonical field and keeps every
-/// other byte." 31, then "37 buffer shorter than the entry; bytes past the entry's length stay".
+/// other byte." "The copy leaves both kinds of column unaltered", those under FLAG and under DECAY-FLAG (M-105). 31, then
+/// "37 buffer shorter than the entry; bytes past the entry's length stay".
 pub fn canonical_copy(entry: &[u8], buffer: &mut [u8]) -> Result<(), NoAnswer> {
     let tree = accepted(entry)?;
     let copy = buffer.get_mut(..entry.len()).ok_or(NoAnswer::numbered(37))?;
     copy.copy_from_slice(entry);
     for table in tree.subentries.iter().flat_map(Subentry::tables) {
+        let headings = flag_headings(&tree, table);
         let cells = (2..2 + table.lines).flat_map(|row| table.cells(&tree, row));
-        for cell in cells.filter(|cell| cell.used) {
+        for cell in cells.filter(|cell| cell.used && headings[cell.column - 1].is_none()) {
             if let Value::Number(decimal) = read_number(cell.bytes)?.value {
                 let place = cell.record * RECORD + 11 * cell.field;
                 write_number(decimal, &mut copy[place..place + 11])?;

@@ -1,5 +1,6 @@
 //! The table of refusals, row by row. Each row walks the whole tree and notes every fault that it finds.
 
+use super::flags::{flag_headings, Codes};
 use super::number::{read, Reading};
 use super::record::{blank, count, digits, is_accession, is_date, is_pointer, is_word, permitted, Name, Record};
 use super::tree::{Bib, Cell, Role, Stop, Subentry, Table, Tree};
@@ -53,6 +54,7 @@ pub fn faults(tree: &Tree) -> Vec<Fault> {
     for subentry in &tree.subentries {
         repeated_headings(tree, subentry, &mut notes);
         lost_pointers(tree, subentry, &mut notes);
+        flags(tree, subentry, &mut notes);
     }
     notes.faults
 }
@@ -339,5 +341,20 @@ fn values(tree: &Tree, table: &Table, notes: &mut Notes) {
         }
         let last = table.row(row).end - 1;
         notes.check(!empty || last >= tree.records.len(), 15, last, 1);
+    }
+}
+
+/// Row 17 (M-105), "an exponent there, or a FLAG value without code, on the value record after 15, column as for 15". A
+/// blank asks nothing; what is no number is refused by 15 on the same record.
+fn flags(tree: &Tree, subentry: &Subentry, notes: &mut Notes) {
+    let codes = Codes::of(tree, subentry);
+    for table in subentry.tables() {
+        let headings = flag_headings(tree, table);
+        for cell in (2..2 + table.lines).flat_map(|row| table.cells(tree, row)) {
+            let heading = headings.get(cell.column - 1).copied().flatten();
+            if let (Some(heading), Reading::Number(_)) = (heading, read(cell.bytes)) {
+                notes.check(codes.fault(heading, cell.bytes).is_none(), 17, cell.record, cell.first_column());
+            }
+        }
     }
 }

@@ -68,7 +68,8 @@ static size_t mutate(size_t n) {
     static const char *names[] = {"ENTRY      ", "ENDENTRY   ", "SUBENT     ", "NOSUBENT   ", "ENDSUBENT  ",
                                   "BIB        ", "NOBIB      ", "ENDBIB     ", "COMMON     ", "NOCOMMON   ",
                                   "ENDCOMMON  ", "DATA       ", "NODATA     ", "ENDDATA    ", "           ",
-                                  "     1.45-1", "   1.+99999", "          2"};
+                                  "     1.45-1", "   1.+99999", "          2", "FLAG       ", "DECAY-FLAG1",
+                                  "(2.) TEXT  ", "2.         ", "     2.E 00"};
     static const char likely[] = " 0123456789+-.EA\n";
     for (size_t times = below(4); times > 0 && n > RECORD; times--) {
         size_t records = n / RECORD, at = below(n), a = below(records) * RECORD, b = below(records) * RECORD;
@@ -216,7 +217,7 @@ static uint64_t judged(const uint8_t *entry, size_t n, uint64_t totals[4]) {
     uint64_t word = x4_judge(entry, n, lend(4)), records = n / RECORD;
     memcpy(totals, lent.bytes, 4 * sizeof *totals);
     untouched(word);
-    check(x4_refusal(word) <= 16 && x4_refusal(word) == x4_entry_refusal(word), "1 to 16, twice");
+    check(x4_refusal(word) <= 17 && x4_refusal(word) == x4_entry_refusal(word), "1 to 17, twice");
     check(x4_entry_record(word) <= records + 1 && x4_entry_column(word) <= 81 && !(word >> 48), "where it is refused");
     check(word || (totals[0] <= records && totals[1] <= records && totals[2] <= records && totals[3] <= 6 * records),
           "totals");

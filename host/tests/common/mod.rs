@@ -38,6 +38,49 @@ ENDSUBENT           11
 ENDENTRY             2
 ";
 
+/// The sample with flags (M-105): codes in 001, in 002 and behind a pointer, and two columns FLAG.
+pub const FLAGS: &str = "\
+ENTRY            90001   20240105
+SUBENT        90001001   20240105
+BIB                  3          3
+TITLE      MADE SAMPLE
+AUTHOR     (A.B.NAME)
+FLAG       (1.) FROM 001
+ENDBIB               3
+COMMON               1          3
+EN
+MEV
+14.
+ENDCOMMON            3
+ENDSUBENT           10
+SUBENT        90001002   20240105
+BIB                  2          4
+REACTION   (26-FE-0(N,EL),,DA)
+FLAG       (2.) OWN
+           (03.) MORE
+          1(10.) WITH A POINTER
+ENDBIB               4
+NOCOMMON
+DATA                 4          3
+ANG        DATA       FLAG       FLAG
+ADEG       MB/SR      NO-DIM     NO-DIM
+10.        1.45       1.         2.
+20.        0.140      3.
+30.            2.5E 0110.0       +01.
+ENDDATA              5
+ENDSUBENT           14
+ENDENTRY             2
+";
+
+/// The sample with flags as bytes, with these changes: record, column, text.
+pub fn flags(changes: &[(usize, usize, &str)]) -> Vec<u8> {
+    let mut bytes = entry(FLAGS);
+    for (record, column, text) in changes {
+        put(&mut bytes, *record, *column, text);
+    }
+    bytes
+}
+
 /// Lays out lines as records, with the identification that follows from them.
 pub fn entry(text: &str) -> Vec<u8> {
     let mut bytes = Vec::new();

@@ -1,14 +1,14 @@
--- Safe, and ends after 17 lines.
+-- Safe, and ends after 18 lines.
 use Prim.Native.Nat.{_≤_, _-_}
 use borrow.Author.Needs.{needs}
 use Rattle.mutations.proofs.put_tally.Statement.{statement}
 use Rattle.mutations.proofs.put_tally.Tie as tie
 
 abbrev Inv-loop : tie.InvT-loop
-Inv-loop tally counts i₀ t6 t7 i = i ≤ 17
+Inv-loop tally counts i₀ t6 t7 i = i ≤ 18
 
 abbrev μ-loop : tie.MeasureT-loop
-μ-loop tally counts i₀ t6 t7 i = 17 - i
+μ-loop tally counts i₀ t6 t7 i = 18 - i
 
 loop-holds : tie.Need-loop-holds Inv-loop μ-loop
 loop-holds c = search needs

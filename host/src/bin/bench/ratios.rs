@@ -57,8 +57,9 @@ fn judging(samples: usize, sizes: &[usize]) {
             let place = [theirs.refusal, theirs.record, theirs.column];
             let totals = [theirs.subentries, theirs.keywords, theirs.lines, theirs.numbers];
             assert_eq!(library::judge(&entry).numbers().as_slice(), [&place[..], &totals].concat(), "{workload:?}");
-            // Where every record has a keyword, one call takes so long that a few tell enough.
-            let slow = [Workload::Keywords, Workload::LikeKeywords].contains(&workload) && records > 10_000;
+            // Where every record has a keyword, or every value a far code, one call takes so long that a few tell enough.
+            let slow = [Workload::Keywords, Workload::LikeKeywords, Workload::FarCode].contains(&workload);
+            let slow = slow && records > 10_000;
             let runs = if slow { samples.min(11) } else { samples };
             let times = by_turns(runs, || library::judge(black_box(&entry)), || peer::judge(black_box(&entry)));
             row(&format!("judge, {}", workload.name()), entry.len() / RECORD, times);

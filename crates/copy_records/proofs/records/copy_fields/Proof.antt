@@ -1,10 +1,13 @@
-use mathlib.Core.List.{List}
 use Rattle.copy_records.proofs.WholeRecords.{field-pasted}
-use Prim.Native.Nat.{ℕ, _+_, _*_, _-_, _≤_}
-use Rattle.copy_records.specs.CopyField.{copyField, valueField}
+use Prim.Native.Nat.{ℕ}
+use lib.Seq.{paste-zero}
+use Prim.Native.Nat.{_*_, _+_, _-_, _≤_}
+use Rattle.copy_records.specs.CopyField.{copyField, numberIn}
 use Rattle.copy_records.specs.Replaced.{mask, replaced}
+use Rattle.rules_flags.specs.Lent.{WholeRecords}
 use lib.ListN.{length}
-use lib.Seq.{paste, paste-zero}
+use lib.Seq.{paste}
+use mathlib.Core.List.{List}
 use mathlib.Core.Path.{_∙_, _≡_, refl}
 use native.Mathlib.Omega.{arith}
 use borrow.Author.Needs.{needs}
@@ -12,26 +15,28 @@ use Rattle.copy_records.proofs.records.copy_fields.Statement.{statement
 use Rattle.copy_records.proofs.records.copy_fields.Tie as tie
 use Rattle.copy_records.proofs.records.copy_fields.Reads as reads
 use Rattle.copy_records.proofs.records.copy_fields.Lts as lts
-use Rattle.copy_records.proofs.fields.put_field.Reads as put-field-reads
-use Rattle.copy_records.proofs.records.is_value_field.Reads as is-value-field-reads
 use Rattle.columns.proofs.fields.field.Reads as field-reads
+use Rattle.copy_records.proofs.fields.put_field.Reads as put-field-reads
+use Rattle.copy_records.proofs.records.is_number_field.Reads as is-number-field-reads
 
 abbrev Inv-loop : tie.InvT-loop
-Inv-loop out₀ at t role rec k₀ out k =
-    (k ≤ 6) × (length rec ≡ 81) × (length out ≡ length out₀)
-    × (out ≡ paste out₀ at (replaced copyField (mask (valueField t role) 0 6) rec) (k * 11))
+Inv-loop out₀ at t table role rec k₀ out k =
+    WholeRecords table × (k ≤ 6) × (length rec ≡ 81) × (length out ≡ length out₀)
+    × (out ≡ paste out₀ at (replaced copyField (mask (numberIn table t role) 0 6) rec) (k * 11))
 
 abbrev μ-loop : tie.MeasureT-loop
-μ-loop out₀ at t role rec k₀ out k = 6 - k
+μ-loop out₀ at t table role rec k₀ out k = 6 - k
 
 loop-holds : tie.Need-loop-holds Inv-loop μ-loop
 loop-holds c =
-    let a = c .before .before .args in (
+    let c3 = c .before .before .before in
+    let a = c3 .args in (
+      c3 .pre .0,
       search needs,
-      c .before .before .pre .1 .long,
+      c3 .pre .1 .1 .long,
       refl,
       paste-zero (a .out .now) (a .at)
-          (replaced copyField (mask (valueField (a .t) (a .role)) 0 6) (a .rec .now)),
+          (replaced copyField (mask (numberIn (a .table .now) (a .t) (a .role)) 0 6) (a .rec .now)),
     )
 
 mul-column : tie.Need-mul-column Inv-loop μ-loop
@@ -43,14 +48,14 @@ field-requires c κs = search needs
 add-place : tie.Need-add-place Inv-loop μ-loop
 add-place c = search needs
 
-is-value-field-requires : tie.Need-is-value-field-requires Inv-loop μ-loop
-is-value-field-requires c κs = search needs
+is-number-field-requires : tie.Need-is-number-field-requires Inv-loop μ-loop
+is-number-field-requires c κs = (c .before .before .loop .inv .0, omega arith)
 
 put-field-requires : tie.Need-put-field-requires Inv-loop μ-loop
 put-field-requires c κs =
-    let l = c .before .before .before .before .loop .inv .2 in
-    let w = c .before .before .before .before .before .before .before .pre .0 in
-    omega arith
+    let c4 = c .before .before .before .before in
+    let c8 = c4 .before .before .before .before in
+    let l = c4 .loop .inv .3 in let w = c8 .pre .1 .0 in omega arith
 
 add-k : tie.Need-add-k Inv-loop μ-loop
 add-k c = search needs
@@ -60,32 +65,31 @@ loop-less c = search needs
 
 loop-again : tie.Need-loop-again Inv-loop μ-loop
 loop-again c =
-    let a = c .before .before .before .before .before .before .before .before .before .before .args in
-    let number = c .before .before .before .before .is-value-field .result in
-    let f = c .before .before .before .before .before .field .result in
-    let at = a .at + c .before .before .before .before .before .before .before .loop .k * 11 in
+    let c4 = c .before .before .before .before in
+    let c5 = c4 .before in
+    let c7 = c5 .before .before in
+    let c11 = c7 .before .before .before .before in
+    let a = c11 .args in
+    let number = c4 .is-number-field .result in
+    let f = c5 .field .result in
+    let at = a .at + c7 .loop .k * 11 in
     let put : _≡_ {A = List ℕ} _ (paste _ at (copyField number f) 11) = c .before .before .put-field .ensures in
     let l = c .before .before .put-field .kept .0 in (
+      c7 .loop .inv .0,
       omega arith,
-      c .before .before .before .before .before .before .before .loop .inv .1,
-      omega arith,
+      c7 .loop .inv .2,
+      omega (arith, c7 .loop .inv .3),
       put
-          ∙ (rw (
-            c .before .before .before .before .before .before .before .loop .inv .3,
-            c .before .before .before .before .is-value-field .ensures,
-            c .before .before .before .before .before .field .ensures,
-          )
-          (field-pasted (valueField (a .t) (a .role)) (a .rec .now)
-          (c .before .before .before .before .before .before .before .loop .inv .1) (a .out .now) (a .at)
-          (c .before .before .before .before .before .before .before .loop .k)
-          (c .before .before .before .before .before .before .before .before .before .before .pre .0) (omega arith))),
+          ∙ (rw (c7 .loop .inv .4, c4 .is-number-field .ensures, c5 .field .ensures)
+          (field-pasted (numberIn (a .table .now) (a .t) (a .role)) (a .rec .now) (c7 .loop .inv .2) (a .out .now) (a .at)
+          (c7 .loop .k) (c11 .pre .1 .0) (omega arith))),
     )
 
 same-length : tie.Need-same-length Inv-loop μ-loop
-same-length c = c .before .loop .inv .2
+same-length c = c .before .loop .inv .3
 
 returns : tie.Need-returns Inv-loop μ-loop
-returns c = let e : _≡_ (c .before .loop .k) 6 = omega arith in rw e at (c .before .loop .inv .3)
+returns c = let e : _≡_ (c .before .loop .k) 6 = omega arith in rw e at (c .before .loop .inv .4)
 
 pub copy-fields-spec : {M : Type 1} → statement M
 copy-fields-spec =
@@ -97,7 +101,7 @@ copy-fields-spec =
     mul-column
     field-requires
     add-place
-    is-value-field-requires
+    is-number-field-requires
     put-field-requires
     add-k
     loop-less

@@ -1,56 +1,53 @@
-use mathlib.Core.Path.{refl}
 use Rattle.rules_roles.specs.Fault.{firstFault}
 use borrow.Author.Tests.{eq-eqb, ne-eqb}
+use mathlib.Core.Path.{refl}
 use borrow.Author.Needs.{needs}
 use Rattle.rules.proofs.order.section_fault.Statement.{statement}
 use Rattle.rules.proofs.order.section_fault.Tie as tie
 use Rattle.rules.proofs.order.section_fault.Reads as reads
 use Rattle.rules.proofs.order.section_fault.Lts as lts
-use Rattle.rules_text.proofs.text.rule10.Reads as rule10-reads
 use Rattle.rules.proofs.order.rule11.Reads as rule11-reads
+use Rattle.rules.proofs.order.value_fault.Reads as value-fault-reads
+use Rattle.rules_pointers.proofs.pointers.rule14.Reads as rule14-reads
 use Rattle.rules_section.proofs.headings.rule12.Reads as rule12-reads
 use Rattle.rules_section.proofs.headings.rule13.Reads as rule13-reads
-use Rattle.rules_pointers.proofs.pointers.rule14.Reads as rule14-reads
-use Rattle.rules_values.proofs.values.rule15.Reads as rule15-reads
+use Rattle.rules_text.proofs.text.rule10.Reads as rule10-reads
 
 rule10-requires : tie.Need-rule10-requires
 rule10-requires c κs = c .before .before .pre .1 .stands
 
 returns : tie.Need-returns
 unfolding firstFault
-returns c = rw (← c .before .rule10 .ensures, ne-eqb _ _ (c .if1 .taken))
+returns c = rw (
+  ← c .before .rule10 .ensures,
+  ne-eqb _ _ (c .if1 .taken),
+) refl
 
 rule11-requires : tie.Need-rule11-requires
 rule11-requires c κs = c .before .before .before .before .pre .1 .stands
 
 returns-2 : tie.Need-returns-2
 unfolding firstFault
-returns-2 c =
-    rw (
-      ← c .before .before .before .rule10 .ensures,
-      eq-eqb _ _
-          (c .before .before .if1 .left),
-      ← c .before .rule11 .ensures,
-      ne-eqb _ _ (c .if2 .taken),
-    )
-    refl
+returns-2 c = rw (
+  ← c .before .before .before .rule10 .ensures,
+  eq-eqb _ _ (c .before .before .if1 .left),
+  ← c .before .rule11 .ensures,
+  ne-eqb _ _ (c .if2 .taken),
+) refl
 
 rule12-requires : tie.Need-rule12-requires
 rule12-requires c κs = search needs
 
 returns-3 : tie.Need-returns-3
 unfolding firstFault
-returns-3 c =
-    rw (
-      ← c .before .before .before .before .before .rule10 .ensures,
-      eq-eqb _ _
-          (c .before .before .before .before .if1 .left),
-      ← c .before .before .before .rule11 .ensures,
-      eq-eqb _ _
-          (c .before .before .if2 .left),
-      ← c .before .rule12 .ensures,
-      ne-eqb _ _ (c .if3 .taken),
-    )
+returns-3 c = rw (
+  ← c .before .before .before .before .before .rule10 .ensures,
+  eq-eqb _ _ (c .before .before .before .before .if1 .left),
+  ← c .before .before .before .rule11 .ensures,
+  eq-eqb _ _ (c .before .before .if2 .left),
+  ← c .before .rule12 .ensures,
+  ne-eqb _ _ (c .if3 .taken),
+) refl
 
 rule13-requires : tie.Need-rule13-requires
 rule13-requires c κs = (
@@ -60,93 +57,53 @@ rule13-requires c κs = (
 
 returns-4 : tie.Need-returns-4
 unfolding firstFault
-returns-4 c =
-    rw (
-      ← c .before .before .before .before .before .before .before .rule10 .ensures,
-      eq-eqb _ _
-          (c .before .before .before .before .before .before .if1 .left),
-      ← c .before .before .before .before .before .rule11 .ensures,
-      eq-eqb _ _
-          (c .before .before .before .before .if2 .left),
-      ← c .before .before .before .rule12 .ensures,
-      eq-eqb _ _
-          (c .before .before .if3 .left),
-      ← c .before .rule13 .ensures,
-      ne-eqb _ _ (c .if4 .taken),
-    )
+returns-4 c = rw (
+  ← c .before .before .before .before .before .before .before .rule10 .ensures,
+  eq-eqb _ _ (c .before .before .before .before .before .before .if1 .left),
+  ← c .before .before .before .before .before .rule11 .ensures,
+  eq-eqb _ _ (c .before .before .before .before .if2 .left),
+  ← c .before .before .before .rule12 .ensures,
+  eq-eqb _ _ (c .before .before .if3 .left),
+  ← c .before .rule13 .ensures,
+  ne-eqb _ _ (c .if4 .taken),
+) refl
 
 rule14-requires : tie.Need-rule14-requires
 rule14-requires c κs = c .before .before .before .before .before .before .before .before .before .before .pre .1 .stands
 
 returns-5 : tie.Need-returns-5
 unfolding firstFault
-returns-5 c =
-    rw (
-      ← c .before .before .before .before .before .before .before .before .before .rule10 .ensures,
-      eq-eqb _ _
-          (c .before .before .before .before .before .before .before .before .if1 .left),
-      ← c .before .before .before .before .before .before .before .rule11 .ensures,
-      eq-eqb _ _
-          (c .before .before .before .before .before .before .if2 .left),
-      ← c .before .before .before .before .before .rule12 .ensures,
-      eq-eqb _ _
-          (c .before .before .before .before .if3 .left),
-      ← c .before .before .before .rule13 .ensures,
-      eq-eqb _ _
-          (c .before .before .if4 .left),
-      ← c .before .rule14 .ensures,
-      ne-eqb _ _ (c .if5 .taken),
-    )
+returns-5 c = rw (
+  ← c .before .before .before .before .before .before .before .before .before .rule10 .ensures,
+  eq-eqb _ _ (c .before .before .before .before .before .before .before .before .if1 .left),
+  ← c .before .before .before .before .before .before .before .rule11 .ensures,
+  eq-eqb _ _ (c .before .before .before .before .before .before .if2 .left),
+  ← c .before .before .before .before .before .rule12 .ensures,
+  eq-eqb _ _ (c .before .before .before .before .if3 .left),
+  ← c .before .before .before .rule13 .ensures,
+  eq-eqb _ _ (c .before .before .if4 .left),
+  ← c .before .rule14 .ensures,
+  ne-eqb _ _ (c .if5 .taken),
+) refl
 
-rule15-requires : tie.Need-rule15-requires
-rule15-requires c κs = (
-  c .before .before .before .before .before .before .before .before .before .before .before .before .pre .0,
-  c .before .before .before .before .before .before .before .before .before .before .before .before .pre .1 .read,
-)
+value-fault-requires : tie.Need-value-fault-requires
+value-fault-requires c κs =
+    c .before .before .before .before .before .before .before .before .before .before .before .before .pre
 
 returns-6 : tie.Need-returns-6
 unfolding firstFault
-returns-6 c =
-    rw (
-      ← c .before .before .before .before .before .before .before .before .before .before .before .rule10 .ensures,
-      eq-eqb _ _ (c .before .before .before .before .before .before .before .before .before .before .if1 .left),
-      ← c .before .before .before .before .before .before .before .before .before .rule11 .ensures,
-      eq-eqb _ _
-          (c .before .before .before .before .before .before .before .before .if2 .left),
-      ← c .before .before .before .before .before .before .before .rule12 .ensures,
-      eq-eqb _ _
-          (c .before .before .before .before .before .before .if3 .left),
-      ← c .before .before .before .before .before .rule13 .ensures,
-      eq-eqb _ _
-          (c .before .before .before .before .if4 .left),
-      ← c .before .before .before .rule14 .ensures,
-      eq-eqb _ _
-          (c .before .before .if5 .left),
-      ← c .before .rule15 .ensures,
-      ne-eqb _ _ (c .if6 .taken),
-    )
-
-returns-7 : tie.Need-returns-7
-unfolding firstFault
-returns-7 c =
-    rw (
-      ← c .before .before .before .before .before .before .before .before .before .before .before .rule10 .ensures,
-      eq-eqb _ _ (c .before .before .before .before .before .before .before .before .before .before .if1 .left),
-      ← c .before .before .before .before .before .before .before .before .before .rule11 .ensures,
-      eq-eqb _ _
-          (c .before .before .before .before .before .before .before .before .if2 .left),
-      ← c .before .before .before .before .before .before .before .rule12 .ensures,
-      eq-eqb _ _
-          (c .before .before .before .before .before .before .if3 .left),
-      ← c .before .before .before .before .before .rule13 .ensures,
-      eq-eqb _ _
-          (c .before .before .before .before .if4 .left),
-      ← c .before .before .before .rule14 .ensures,
-      eq-eqb _ _
-          (c .before .before .if5 .left),
-      ← c .before .rule15 .ensures,
-      eq-eqb _ _ (c .if6 .left),
-    )
+returns-6 c = rw (
+  ← c .before .before .before .before .before .before .before .before .before .before .rule10 .ensures,
+  eq-eqb _ _ (c .before .before .before .before .before .before .before .before .before .if1 .left),
+  ← c .before .before .before .before .before .before .before .before .rule11 .ensures,
+  eq-eqb _ _ (c .before .before .before .before .before .before .before .if2 .left),
+  ← c .before .before .before .before .before .before .rule12 .ensures,
+  eq-eqb _ _ (c .before .before .before .before .before .if3 .left),
+  ← c .before .before .before .before .rule13 .ensures,
+  eq-eqb _ _ (c .before .before .before .if4 .left),
+  ← c .before .before .rule14 .ensures,
+  eq-eqb _ _ (c .before .if5 .left),
+) (c .value-fault .ensures)
 
 pub section-fault-spec : {M : Type 1} → statement M
 section-fault-spec =
@@ -162,6 +119,5 @@ section-fault-spec =
     returns-4
     rule14-requires
     returns-5
-    rule15-requires
-    returns-6
-    returns-7)
+    value-fault-requires
+    returns-6)

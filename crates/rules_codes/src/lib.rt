@@ -1,0 +1,2 @@
+// The codes under the keyword FLAG of a BIB.
+pub mod codes;
