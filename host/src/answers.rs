@@ -33,6 +33,12 @@ pub struct Refusal {
 }
 
 impl Refusal {
+    /// Whether it depends on nothing below its record: 2 to 15 and 17 (M-111). 1 goes by the length, and 16 by where the
+    /// records end.
+    pub fn at_record(&self) -> bool {
+        matches!(self.number, 2..=15 | 17)
+    }
+
     /// What the number stands for, in the words of the paper's table.
     pub fn meaning(&self) -> &'static str {
         match self.number {

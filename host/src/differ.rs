@@ -2,8 +2,9 @@
 //!
 //! Each case has a seed of its own, which a difference names, so that the case can be made again.
 
-use crate::generate::{self, Kind, Random, Sheet, CAUSES};
-use crate::{library, reference, Decimal, FieldRead, NoAnswer, Part, Verdict};
+use crate::generate::{self, Kind, Random, Sheet, BELOW, CAUSES};
+use crate::reference::record::permitted;
+use crate::{library, reference, Decimal, FieldRead, NoAnswer, Part, Refusal, Verdict, RECORD};
 use std::collections::BTreeMap;
 use std::fmt;
 
@@ -125,6 +126,8 @@ impl Tally {
 pub struct Counts {
     /// Verdicts.
     pub verdicts: Tally,
+    /// Verdicts on the same entries with other records below the refused one, or with one behind an accepted entry.
+    pub below: Tally,
     /// Answers to questions and copies.
     pub answers: Tally,
     /// Readings.
@@ -137,6 +140,7 @@ impl fmt::Display for Counts {
     fn fmt(&self, f: &mut fmt::Formatter<'_>) -> fmt::Result {
         let groups = [
             ("verdicts", &self.verdicts),
+            ("verdicts with other records below", &self.below),
             ("questions and copies", &self.answers),
             ("number fields read", &self.readings),
             ("decimals written", &self.writings),
@@ -165,12 +169,16 @@ impl<'i> Pair<'i> {
         Pair { one, other, counts: Counts::default() }
     }
 
-    /// Asks both about so many entries, good and damaged.
+    /// Asks both about so many entries, good and damaged, and once more with other records below.
     pub fn entries(&mut self, seed: u64, count: u64) -> Result<(), Difference> {
         for seed in seed..seed + count {
             let mut random = Random::seeded(seed);
             let sheet = input(&mut random);
-            self.entry(&mut random, &sheet).map_err(|words| Difference { seed, words, input: sheet.bytes.clone() })?;
+            let asked = self.entry(&mut random, &sheet);
+            let verdict = asked.map_err(|words| Difference { seed, words, input: sheet.bytes.clone() })?;
+            if let Some((input, due)) = other_below(&mut random, &sheet.bytes, verdict) {
+                self.below(&input, &due).map_err(|words| Difference { seed, words, input })?;
+            }
         }
         Ok(())
     }
@@ -221,12 +229,12 @@ impl<'i> Pair<'i> {
         Ok(())
     }
 
-    /// The verdict, some questions and a copy of one input.
-    fn entry(&mut self, random: &mut Random, sheet: &Sheet) -> Result<(), String> {
+    /// The verdict, some questions and a copy of one input. Hands back the verdict.
+    fn entry(&mut self, random: &mut Random, sheet: &Sheet) -> Result<Verdict, String> {
         let entry = &sheet.bytes;
-        let (one, other) = (self.one.judge(entry), self.other.judge(entry));
-        same("judge", &one, &other)?;
-        self.counts.verdicts.count(one.numbers()[0]);
+        let (verdict, other) = (self.one.judge(entry), self.other.judge(entry));
+        same("judge", &verdict, &other)?;
+        self.counts.verdicts.count(verdict.numbers()[0]);
         for _ in 0..12 {
             self.question(random, sheet)?;
         }
@@ -236,7 +244,17 @@ impl<'i> Pair<'i> {
         let copied = self.one.canonical_copy(entry, &mut first);
         let other = self.other.canonical_copy(entry, &mut second);
         self.counts.answers.add(&copied);
-        same("canonical_copy", &(copied, first), &(other, second))
+        same("canonical_copy", &(copied, first), &(other, second))?;
+        Ok(verdict)
+    }
+
+    /// The verdict on an input with other records below, beside what is due.
+    fn below(&mut self, input: &[u8], due: &Verdict) -> Result<(), String> {
+        let (one, other) = (self.one.judge(input), self.other.judge(input));
+        same("judge with other records below", &one, &other)?;
+        same("judge with other records below: both, and what is due", &one, due)?;
+        self.counts.below.count(one.numbers()[0]);
+        Ok(())
     }
 
     /// One question, often inside the entry's shape and sometimes beside it.
@@ -303,6 +321,33 @@ fn input(random: &mut Random) -> Sheet {
     sheet
 }
 
+/// The same input with other records below the refused one, and the same verdict, as the refusal depends on none of them;
+/// or with one record behind an accepted entry, which is refused there (M-111).
+fn other_below(random: &mut Random, input: &[u8], verdict: Verdict) -> Option<(Vec<u8>, Verdict)> {
+    match verdict {
+        Verdict::Accepted(_) => {
+            let added = generate::added(random, input);
+            Some(([input, &added].concat(), Verdict::Refused(behind(input, &added))))
+        }
+        Verdict::Refused(refusal) if refusal.at_record() => {
+            let below = random.one(&BELOW);
+            Some((generate::with_below(random, input, refusal.record as usize, below), verdict))
+        }
+        Verdict::Refused(_) => None,
+    }
+}
+
+/// The refusal of a record behind an accepted entry: 2 or 3, or 4, as none is due there.
+fn behind(entry: &[u8], record: &[u8]) -> Refusal {
+    let wrong = record[..RECORD - 1].iter().position(|&byte| !permitted(byte));
+    let (number, column) = match (record[RECORD - 1], wrong) {
+        (b'\n', None) => (4, 1),
+        (b'\n', Some(at)) => (3, at as u32 + 1),
+        _ => (2, RECORD as u32),
+    };
+    Refusal { number, record: (entry.len() / RECORD) as u32 + 1, column }
+}
+
 /// Subentry, section, line and column of a question.
 fn place(random: &mut Random, sheet: &Sheet) -> [u32; 4] {
     let subentry = match random.once_in(12) {
@@ -322,7 +367,7 @@ fn three_digits(digits: &[u8]) -> u32 {
 
 /// Whether a record of the sheet is still there: damage may have cut the bytes.
 fn there(sheet: &Sheet, at: usize) -> bool {
-    (at + 1) * crate::RECORD <= sheet.bytes.len()
+    (at + 1) * RECORD <= sheet.bytes.len()
 }
 
 /// A subentry of the sheet.

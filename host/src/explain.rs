@@ -1,6 +1,8 @@
 //! A refusal in words: what was expected in that place, what stands there, and the record with a mark under it.
 //!
-//! The number, record and column come from judging. The words are made here, from the entry laid out by the reference.
+//! The number, record and column come from judging. The words are made here, from the entry laid out by the reference,
+//! and like the refusal they depend on nothing below its record (M-111). Three look at all the input: the words for 1, the
+//! note on an input that holds several entries, and the count of the records below.
 
 use crate::answers::counted;
 use crate::reference::flags::{codes, without_zeros_before, Codes, FlagFault, FlagHeading};
@@ -26,7 +28,9 @@ pub fn explain(entry: &[u8], refusal: &Refusal) -> Explanation {
     if refusal.number == 1 {
         return wrong_length(entry);
     }
-    let tree = Tree::of(&entry[..entry.len() / RECORD * RECORD]);
+    // The records up to the refused one, which with 16 is one past the last.
+    let seen = &entry[..(refusal.record as usize).min(entry.len() / RECORD) * RECORD];
+    let tree = Tree::of(seen);
     let at = refusal.record as usize - 1;
     let case = Case { tree: &tree, at, column: refusal.column as usize };
     let (expected, found) = match refusal.number {
@@ -49,7 +53,7 @@ pub fn explain(entry: &[u8], refusal: &Refusal) -> Explanation {
     };
     // Where the entry is laid out otherwise than judging took it, the refusal's own words are left.
     let expected = if expected.is_empty() { format!("not this: {}", refusal.meaning()) } else { expected };
-    Explanation { expected, found, note: case.flag_note(refusal).or_else(|| note(entry, refusal)) }
+    Explanation { expected, found, note: case.flag_note(refusal).or_else(|| note(seen, refusal)) }
 }
 
 /// The record of a refusal as compilers of programs show a line: its number, its text, and a mark under the column.
@@ -434,7 +438,7 @@ fn wrong_length(entry: &[u8]) -> Explanation {
         (length, records) => format!("{}: {records}", bytes(length)),
     };
     let expected = "1 to 20,000 records of 81 bytes each, 80 columns and a line feed".into();
-    Explanation { expected, found, note: note(entry, &Refusal { number: 1, record: 0, column: 0 }) }
+    Explanation { expected, found, note: odd_line(entry, false) }
 }
 
 /// The headings that may repeat.
@@ -442,31 +446,49 @@ const REPEATING: &str =
     "E-LVL, EN-RES, ..-ERR, ..-RSL and ANG.. may repeat, and in DATA FLAG and HL..; all equal ones \
                          side by side in one section";
 
-/// What may be behind a refusal: a heading thought to repeat, several entries in a file, or lines that are not 80
-/// columns long.
-fn note(entry: &[u8], refusal: &Refusal) -> Option<String> {
-    if refusal.number == 13 {
-        return Some(REPEATING.into());
+/// What may be behind a refusal: a heading thought to repeat, or a line that is not 80 columns long.
+fn note(seen: &[u8], refusal: &Refusal) -> Option<String> {
+    match refusal.number {
+        13 => Some(REPEATING.into()),
+        2 | 3 => odd_line(seen, true),
+        _ => None,
     }
-    if matches!(refusal.number, 1 | 4) {
-        if let Some(several) = several_entries(entry) {
-            return Some(several);
-        }
-    }
-    if !matches!(refusal.number, 1..=3) || entry.is_empty() {
+}
+
+/// The first line that is not 80 columns long. Where the bytes are cut off behind a record, the last line may go on.
+fn odd_line(bytes: &[u8], cut: bool) -> Option<String> {
+    if bytes.is_empty() {
         return None;
     }
-    let lines = entry.strip_suffix(b"\n").unwrap_or(entry).split(|&byte| byte == b'\n');
+    let lines = bytes.strip_suffix(b"\n").unwrap_or(bytes).split(|&byte| byte == b'\n');
     let (number, line) = lines.enumerate().find(|(_, line)| line.len() != RECORD - 1)?;
-    let ending = match line.split_last() {
-        Some((b'\r', rest)) if rest.len() == RECORD - 1 => "ends with a carriage return".into(),
+    let ending = match (line.get(RECORD - 1..), cut) {
+        (Some(b"\r"), true) => "has a carriage return in column 81".into(),
+        (Some(b"\r"), false) => "ends with a carriage return".into(),
+        (Some(_), true) => "has more than 80 columns".into(),
         _ => format!("has {}", counted(line.len(), "column", "columns")),
     };
     Some(format!("line {} {ending}; a record has 80 columns and a line feed", number + 1))
 }
 
-/// Whether the input goes on after its first entry, or is a transmission.
-fn several_entries(bytes: &[u8]) -> Option<String> {
+/// The records below a refused one, which its refusal does not depend on (M-111), if there are any.
+pub fn below(entry: &[u8], refusal: &Refusal) -> Option<String> {
+    let below = (entry.len() / RECORD).checked_sub(refusal.record as usize)?;
+    let told = refusal.at_record() && below > 0;
+    told.then(|| format!("{}, which cannot change this refusal", counted(below, "record", "records")))
+}
+
+/// The note on a refusal: that the input holds several entries, or else what its words note.
+pub fn note_on(entry: &[u8], refusal: &Refusal, words: &Explanation) -> Option<String> {
+    several_entries(entry, refusal).or_else(|| words.note.clone())
+}
+
+/// Whether an input that is refused by 1 or 4 goes on after its first entry, or is a transmission. This is said of all the
+/// input, also of what stands below the refused record.
+fn several_entries(bytes: &[u8], refusal: &Refusal) -> Option<String> {
+    if !matches!(refusal.number, 1 | 4) {
+        return None;
+    }
     let begins = |record: &&[u8], name: &str| record.get(..11) == Some(format!("{name:11}").as_bytes());
     if bytes.chunks(RECORD).next().is_some_and(|first| begins(&first, "TRANS")) {
         return Some("this is a transmission; one entry is judged, from ENTRY to ENDENTRY".into());

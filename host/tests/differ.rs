@@ -5,7 +5,7 @@ mod common;
 use common::flags;
 use glockenbeacon::differ::{Implementation, Library, Pair, Reference};
 use glockenbeacon::reference::may_repeat;
-use glockenbeacon::reference::record::Name;
+use glockenbeacon::reference::record::{permitted, Name};
 use glockenbeacon::reference::tree::{Cell, Subentry, Tree};
 use glockenbeacon::{reference, Decimal, FieldRead, NoAnswer, Part, Refusal, Totals, Value, Verdict};
 
@@ -22,6 +22,8 @@ fn the_library_and_the_reference_agree() {
     outcome.unwrap_or_else(|difference| panic!("{difference}"));
     let counts = pair.counts;
     assert!((0..=17).all(|number| counts.verdicts.of(number) >= 5), "every refusal occurs:\n{counts}");
+    let at_record = |number: &u32| Refusal { number: *number, record: 1, column: 1 }.at_record();
+    assert!((1..=17).filter(at_record).all(|number| counts.below.of(number) >= 5), "with others below:\n{counts}");
     for number in [0, 31, 32, 33, 34, 35, 36, 37] {
         assert!(counts.answers.of(number) >= 100, "every answer occurs:\n{counts}");
     }
@@ -378,6 +380,87 @@ fn repetitions_read_otherwise_are_found() {
     ];
     for (name, slip) in slips {
         assert!(Pair::new(slip, &Reference).entries(SEED, 10_000).is_err(), "{name}: goes unseen");
+    }
+}
+
+/// All line feeds looked at before anything else.
+struct LineFeedsFirst;
+
+impl Implementation for LineFeedsFirst {
+    fn judge(&self, entry: &[u8]) -> Verdict {
+        let verdict = reference::judge(entry);
+        let missing = entry.chunks(81).position(|record| record.last() != Some(&b'\n'));
+        match (verdict, missing) {
+            (Verdict::Refused(Refusal { number: 2..=17, .. }), Some(at)) => {
+                Verdict::Refused(Refusal { number: 2, record: at as u32 + 1, column: 81 })
+            }
+            _ => verdict,
+        }
+    }
+}
+
+/// The end looked at before anything else: without ENDENTRY on some record the records end early.
+struct EndFirst;
+
+impl Implementation for EndFirst {
+    fn judge(&self, entry: &[u8]) -> Verdict {
+        let verdict = reference::judge(entry);
+        let ends = entry.chunks(81).any(|record| record.starts_with(b"ENDENTRY   "));
+        match verdict {
+            Verdict::Refused(refusal) if refusal.at_record() && !ends => {
+                Verdict::Refused(Refusal { number: 16, record: (entry.len() / 81) as u32 + 1, column: 0 })
+            }
+            _ => verdict,
+        }
+    }
+}
+
+/// The last fault in place of the first, where it is a character that is not permitted.
+struct LastFault;
+
+impl Implementation for LastFault {
+    fn judge(&self, entry: &[u8]) -> Verdict {
+        let verdict = reference::judge(entry);
+        let Some(refusal) = verdict.refusal().filter(Refusal::at_record) else { return verdict };
+        let wrong = |&at: &usize| at % 81 < 80 && !permitted(entry[at]);
+        match (81 * refusal.record as usize..entry.len()).rfind(wrong) {
+            Some(at) => Verdict::Refused(Refusal { number: 3, record: at as u32 / 81 + 1, column: at as u32 % 81 + 1 }),
+            None => verdict,
+        }
+    }
+}
+
+/// What stands behind ENDENTRY passed over.
+struct EndsThere;
+
+impl Implementation for EndsThere {
+    fn judge(&self, entry: &[u8]) -> Verdict {
+        let verdict = reference::judge(entry);
+        let Some(refusal) = verdict.refusal().filter(Refusal::at_record) else { return verdict };
+        match reference::judge(&entry[..81 * (refusal.record as usize - 1)]) {
+            accepted @ Verdict::Accepted(_) => accepted,
+            Verdict::Refused(_) => verdict,
+        }
+    }
+}
+
+/// M-111 read otherwise: found by other records below the refused one, or by one behind an accepted entry.
+#[test]
+fn what_stands_below_finds_slips() {
+    let slips: [(&str, &dyn Implementation); 4] = [
+        ("LineFeedsFirst", &LineFeedsFirst),
+        ("EndFirst", &EndFirst),
+        ("LastFault", &LastFault),
+        ("EndsThere", &EndsThere),
+    ];
+    for (name, slip) in slips {
+        let outcome = Pair::new(slip, &Reference).entries(SEED, ENTRIES);
+        let difference = outcome.expect_err(name);
+        assert!(difference.words.starts_with("judge with other records below\n"), "{name}: {difference}");
+        // Two that slip alike differ from what is due.
+        let outcome = Pair::new(slip, slip).entries(SEED, ENTRIES);
+        let words = outcome.expect_err(name).words;
+        assert!(words.starts_with("judge with other records below: both, and what is due\n"), "{name}: {words}");
     }
 }
 

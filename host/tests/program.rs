@@ -54,6 +54,7 @@ refusal 15, record 22, column 12: the value is malformed, or blank where it may 
   expected: a number: blanks, a sign or none, digits with one point; then blanks, or an exponent that ends the field: \
 a sign and digits, or E and digits
   found:    '       1.5E'
+  below:    4 records, which cannot change this refusal
 ";
     assert_eq!((printed(&output).as_str(), output.status.code()), (words, Some(1)));
 }
@@ -134,6 +135,31 @@ fn every_refusal_is_explained() {
     }
 }
 
+/// M-111: how many records stand below, where the refusal depends on none of them.
+#[test]
+fn records_below_a_refusal_are_counted() {
+    let below = |input: &[u8]| {
+        let words = printed(&run(&["judge"], input));
+        words.lines().find(|line| line.contains("below")).map(str::to_string)
+    };
+    let line = |records: &str| Some(format!("  below:    {records}, which cannot change this refusal"));
+    assert_eq!(below(&changed(1, 81, " ")), line("25 records"));
+    assert_eq!(below(&flags(&[(25, 34, "4.")])), line("5 records"));
+    assert_eq!(below(&changed(25, 22, "2")), line("1 record"));
+    // The last record; the length; the end of the records; no refusal.
+    for input in [changed(26, 22, "3"), vec![], sample()[..100].to_vec(), sample()[..25 * 81].to_vec(), sample()] {
+        assert_eq!(below(&input), None);
+    }
+    assert_eq!(below(&[&sample()[..], &[b' '; 81]].concat()), None);
+    let json = printed(&run(&["judge", "--json"], &changed(1, 81, " ")));
+    assert!(json.contains("\"refusal\":2,") && !json.contains("below"), "{json}");
+    let complaint = complained(&run(&["canon"], &changed(25, 22, "2")));
+    assert!(complaint.ends_with(&format!("{}\n", line("1 record").unwrap())), "{complaint}");
+    let help = printed(&run(&["help", "judge"], b""));
+    assert!(help.contains("a refusal other than 1 and 16 depends on nothing below its record"), "{help}");
+    assert!(help.contains("Without --json its\nlast line says how many records stand below, if any do."), "{help}");
+}
+
 /// M-101: which headings may repeat is said where one is refused, and by help.
 #[test]
 fn headings_that_may_repeat_are_named() {
@@ -169,9 +195,11 @@ fn flags_are_explained() {
                  FLAG equals no code\n";
     assert!(exponent.starts_with(words), "{exponent}");
     let words = "  expected: a number without exponent\n  found:    '       2.-0'\n";
-    assert!(exponent.ends_with(&format!("{words}  note:     a number under FLAG has no exponent\n")), "{exponent}");
+    let below = "  below:    5 records, which cannot change this refusal\n";
+    let due = |heading: &str| format!("{words}  note:     a number under {heading} has no exponent\n{below}");
+    assert!(exponent.ends_with(&due("FLAG")), "{exponent}");
     let decay = printed(&run(&["judge"], &flags(&[(23, 34, "DECAY-FLAG"), (25, 34, "       2.-0")])));
-    assert!(decay.ends_with(&format!("{words}  note:     a number under DECAY-FLAG has no exponent\n")), "{decay}");
+    assert!(decay.ends_with(&due("DECAY-FLAG")), "{decay}");
     let missing = printed(&run(&["judge"], &flags(&[(25, 34, "4.")])));
     let words = [
         "  25 | 10.        1.45       1.         4.                               9000100200012",
@@ -181,7 +209,7 @@ fn flags_are_explained() {
         "  note:     a code is ( in column 12, one digit at least, a point and ), as in (2.), under the keyword FLAG of this \
          subentry or of 001",
     ];
-    let words = words.map(|line| format!("{line}\n")).concat();
+    let words = words.map(|line| format!("{line}\n")).concat() + below;
     assert!(missing.ends_with(&words), "{missing}");
     let first = printed(&run(&["judge"], &flags(&[(6, 12, "(1)"), (9, 1, "FLAG      1")])));
     assert!(first.starts_with("17 11 1 0 0 0 0\n"), "{first}");
@@ -249,6 +277,18 @@ fn lines_that_are_no_records_are_noted() {
     let returns = String::from_utf8(sample()).unwrap().replace('\n', "\r\n");
     let words = printed(&run(&["judge"], returns.as_bytes()));
     assert!(words.contains("  note:     line 1 ends with a carriage return; a record has"), "{words}");
+    // Where the length is that of whole records, the line of the refused record is noted, as far as that record tells.
+    let noted = |input: &[u8]| {
+        let words = printed(&run(&["judge"], input));
+        words.lines().find_map(|line| line.strip_prefix("  note:     ")).map(str::to_string)
+    };
+    let line = |is: &str| Some(format!("line 3 {is}; a record has 80 columns and a line feed"));
+    assert_eq!(noted(&changed(3, 81, "\r")), line("has a carriage return in column 81"));
+    assert_eq!(noted(&changed(3, 81, " ")), line("has more than 80 columns"));
+    assert_eq!(noted(&changed(3, 41, "\n")), line("has 40 columns"));
+    let mut both = changed(3, 41, "#");
+    common::put(&mut both, 7, 41, "\n");
+    assert_eq!(noted(&both), None, "line 7 stands below");
 }
 
 #[test]
@@ -256,17 +296,14 @@ fn several_entries_in_one_file_are_refused_clearly() {
     let output = run(&["judge"], &[sample(), sample(), sample()].concat());
     let words = printed(&output);
     assert!(words.starts_with("4 27 1 0 0 0 0\n"), "{words}");
-    assert!(
-        words.ends_with("  note:     the input holds 3 entries; one entry is judged at a time: split it\n"),
-        "{words}"
-    );
+    let below = |records| format!("  below:    {records} records, which cannot change this refusal\n");
+    let note = "  note:     the input holds 3 entries; one entry is judged at a time: split it\n";
+    assert!(words.ends_with(&format!("{note}{}", below(51))), "{words}");
     assert_eq!(output.status.code(), Some(1));
     let whole = [changed(1, 1, "TRANS")[..81].to_vec(), sample()].concat();
     let words = printed(&run(&["judge"], &whole));
-    assert!(
-        words.ends_with("  note:     this is a transmission; one entry is judged, from ENTRY to ENDENTRY\n"),
-        "{words}"
-    );
+    let note = "  note:     this is a transmission; one entry is judged, from ENTRY to ENDENTRY\n";
+    assert!(words.ends_with(&format!("{note}{}", below(26))), "{words}");
 }
 
 #[test]

@@ -3,13 +3,11 @@
 
 mod common;
 
-use common::say;
-use glockenbeacon::differ::{Implementation, Library, Reference};
+use common::{say, BOTH};
+use glockenbeacon::differ::Implementation;
 use glockenbeacon::{library, reference, Decimal, FieldRead, NoAnswer, Part, Value, RECORD};
+use std::collections::BTreeMap;
 use std::path::PathBuf;
-
-/// Who is held against the tables.
-const BOTH: [&dyn Implementation; 2] = [&Library, &Reference];
 
 /// The lines of a table without its head line, each split at its tabs; none, which is said, where it is not there.
 fn table(name: &str) -> Option<Vec<Vec<String>>> {
@@ -166,14 +164,38 @@ fn entries_that_others_made() {
     same_verdicts_and_copies("r105", |_| true);
 }
 
+/// M-111, for one input: it has the first records of a case. They end with the case's refused record, and the input has
+/// its whole verdict; or they are all of an accepted case, and the one record behind them is refused by 2, 3 or 4. Says
+/// whether the case is accepted.
+fn as_above(row: &[String], case: &[String]) -> bool {
+    let (input, whole) = (entry("r105", &row[0]), entry("r105", &row[1]));
+    let records: usize = row[2].parse().expect("a count of records");
+    let shared = records * RECORD;
+    assert!(shared > 0 && shared <= whole.len() && input.starts_with(&whole[..shared]), "{row:?}: other records");
+    let (due, at) = (&row[4..11], (records + 1).to_string());
+    if case[0] == "0" {
+        assert_eq!((whole.len(), input.len()), (shared, shared + RECORD), "{row:?}: not one record behind it");
+        assert!(["2", "3", "4"].contains(&due[0].as_str()) && due[1] == at, "{row:?}: not refused behind it");
+        return true;
+    }
+    assert!(!["1", "16"].contains(&case[0].as_str()), "{row:?}: a refusal by 1 or 16");
+    assert_eq!((&case[1], due), (&row[2], case), "{row:?}: not the case's refusal at the last shared record");
+    false
+}
+
 /// Inputs that agree with an entry of `r105` in its first records.
 #[test]
 fn entries_that_others_changed_below() {
-    let Some(rows) = table("r105/prefix.tsv") else { return };
+    let (Some(rows), Some(cases)) = (table("r105/prefix.tsv"), table("r105/index.tsv")) else { return };
+    let verdicts: BTreeMap<&str, &[String]> = cases.iter().map(|row| (row[0].as_str(), &row[1..8])).collect();
+    let mut behind = 0;
     for row in &rows {
         same_verdict("r105", &row[0], &row[4..11], &row[3]);
+        behind += usize::from(as_above(row, verdicts[row[1].as_str()]));
     }
-    say(&format!("r105/prefix.tsv: {} inputs", rows.len()));
+    assert!(behind > 0 && behind < rows.len(), "{behind} of {} behind an accepted entry", rows.len());
+    let below = rows.len() - behind;
+    say(&format!("r105/prefix.tsv: {below} inputs changed below a refusal, {behind} behind an accepted entry"));
 }
 
 /// The number of a refused question, and the three beside 31.

@@ -5,7 +5,7 @@ use mathlib.Core.Path.{_≡_, refl, sym, _∙_, ap}
 use mathlib.Core.Bool.{Bool, true, false, cond, not, _&&_}
 use mathlib.Core.List.{List, []}
 use native.Mathlib.Omega.{arith}
-use borrow.Author.Tests.{eqb-true, leb-true}
+use borrow.Author.Tests.{eqb-true, leb-true, ne-eqb, eq-eqb, le-leb}
 use lib.Dec.{eqb, leb}
 use lib.ListN.{length, take, drop, getD, length-drop}
 use lib.Seq.{length-take-le}
@@ -126,6 +126,12 @@ whole-records n e =
     let z : n % 81 ≡ 0 = eqb-true (n % 81) 0 (p .0) in
     let w : n ≤ MOST-RECORDS * 81 = leb-true n (MOST-RECORDS * 81) (p .1) in
     (omega arith, omega arith)
+
+-- and the other way round
+pub of-whole : (n m : ℕ) → n ≡ m * 81 → 1 ≤ m → m ≤ MOST-RECORDS → lengthGood n ≡ true
+unfolding lengthGood
+of-whole n m e l h =
+    rw (ne-eqb n 0 (λ z. omega arith), eq-eqb (n % 81) 0 (omega arith), le-leb n (MOST-RECORDS * 81) (omega arith))
 
 -- the code's judge is the judge
 pub ranges-judge : (s : List ℕ) → judgeByRanges s ≡ judgeOf s

@@ -6,24 +6,22 @@
 -- each row by its columns. The same lemmas lead back, since each says of one part that the judge passes it exactly when
 -- its clauses hold.
 -- Assumes nothing.
-use Prim.Native.Nat.{ℕ, _*_, _/_, _%_, _≤_}
+use Prim.Native.Nat.{ℕ, _*_, _/_}
 use mathlib.Core.Path.{_≡_, refl, sym, _∙_, ap}
 use mathlib.Core.Bool.{Bool, true, false, cond}
 use mathlib.Core.List.{List, [], _∷_}
 use native.Mathlib.Omega.{arith}
 use lib.ListN.{length}
-use borrow.Author.Tests.{eq-eqb, ne-eqb, le-leb}
 use Rattle.laws.specs.Walk.{walk, All}
 use Rattle.laws.specs.Blocks.{blocks, joined}
 use Rattle.laws.proofs.Walk.{goes-walk, walk-goes}
 use Rattle.laws.proofs.Blocks.{joined-blocks, blocks-joined, length-joined, blocks-wide, length-blocks}
 use Rattle.rules_state.specs.State.{Context, startContext}
-use Rattle.rules_state.specs.Limits.{MOST-RECORDS}
 use Rattle.entry_verdict.specs.declared.verdict.Verdict.{Verdict}
 use Rattle.entry_judging.specs.Judging.{roleOf, turnOf, endOf, judgeOf}
 use Rattle.entry_verdict.specs.Verdict.{refused, accepted, isDone, lengthGood}
 use Rattle.entry_walk.proofs.GoingOn.{done-of, out-refused}
-use Rattle.entry_step.proofs.Numbered.{whole-records}
+use Rattle.entry_step.proofs.Numbered.{whole-records, of-whole}
 use Rattle.rules_plain.specs.Places.{Long}
 use Rattle.good.specs.Parts.{Record, recordsOf}
 use Rattle.good.specs.Good.{GoodBytes}
@@ -33,14 +31,6 @@ use Rattle.good.proofs.Entries.{pass-entry, entry-pass}
 
 abbrev Fair : Verdict → Type 0
 Fair v = v .refusal ≡ 0
-
--- ---- lengths
-
--- so many records have a good length; `whole-records` is the other way round
-of-whole : (n m : ℕ) → n ≡ m * 81 → 1 ≤ m → m ≤ MOST-RECORDS → lengthGood n ≡ true
-unfolding lengthGood
-of-whole n m e l h =
-    rw (ne-eqb n 0 (λ z. omega arith), eq-eqb (n % 81) 0 (omega arith), le-leb n (MOST-RECORDS * 81) (omega arith))
 
 -- ---- the last context of an accepted walk
 

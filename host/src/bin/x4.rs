@@ -32,6 +32,9 @@ A refused one has the number, record and column of its first fault, and zeros; t
 stands there, and the record with a mark under the column. With several files each line of numbers begins with the
 file's name. With --json each file is one line, an object.
 
+Entries are mended from the top: a refusal other than 1 and 16 depends on nothing below its record. Without --json its
+last line says how many records stand below, if any do.
+
 A heading with its pointer stands once in the COMMON of 001, a subentry's COMMON and its DATA together. E-LVL, EN-RES,
 words ending in -ERR or -RSL and words starting with ANG may repeat, and in DATA also FLAG and words starting with HL:
 all equal ones side by side, in one of these sections.
@@ -239,8 +242,11 @@ fn refused_words(entry: &[u8], refusal: &Refusal) -> String {
     let words = explain::explain(entry, refusal);
     let mut said = format!("{refusal}\n{}", explain::shown(entry, refusal).unwrap_or_default());
     said += &format!("  expected: {}\n  found:    {}\n", words.expected, words.found);
-    if let Some(note) = words.note {
+    if let Some(note) = explain::note_on(entry, refusal, &words) {
         said += &format!("  note:     {note}\n");
+    }
+    if let Some(below) = explain::below(entry, refusal) {
+        said += &format!("  below:    {below}\n");
     }
     said
 }
@@ -257,7 +263,8 @@ fn judged_json(file: &OsStr, entry: &[u8], verdict: &Verdict) -> String {
         members.push(("meaning", text(refusal.meaning())));
         members.push(("expected", text(&words.expected)));
         members.push(("found", text(&words.found)));
-        members.push(("note", words.note.map_or("null".into(), |note| text(&note))));
+        let note = explain::note_on(entry, refusal, &words);
+        members.push(("note", note.map_or("null".into(), |note| text(&note))));
     }
     object(&members) + "\n"
 }

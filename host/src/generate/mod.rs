@@ -1,6 +1,7 @@
 //! Makes inputs for tests: valid entries of every shape, entries damaged in known and unknown ways, number fields and
 //! decimals. Everything follows from a seed, so that a printed seed brings an input back.
 
+mod below;
 mod damage;
 mod flags;
 mod large;
@@ -8,6 +9,7 @@ mod numbers;
 mod sheet;
 mod workloads;
 
+pub use below::{added, any_bytes, with_below, Below, BELOW, BLANK};
 pub use damage::{damage, damaged, noise, random_bytes, Damage, CAUSES};
 pub use large::{large, Shape, SHAPES};
 pub use numbers::{decimal, number_field, spelling, usual_spelling};

@@ -2,11 +2,15 @@
 
 #![allow(dead_code)]
 
+use glockenbeacon::differ::{Implementation, Library, Reference};
 use glockenbeacon::library;
 use std::ffi::OsString;
 use std::io::Write;
 use std::path::{Path, PathBuf};
 use std::process::Command;
+
+/// Who is held against what is written in the tests.
+pub const BOTH: [&dyn Implementation; 2] = [&Library, &Reference];
 
 /// The sample as the paper prints it: "blank to column 66, with identification as above and column 80 blank".
 pub const SAMPLE: &str = "\

@@ -1,0 +1,5 @@
+pub mod Agree
+pub mod Below
+pub mod Behind
+pub mod Added
+pub mod Above
