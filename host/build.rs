@@ -1,5 +1,5 @@
-//! Finds the archives of proved functions, `rt staticlib exports` and `rt staticlib exports_questions`, and has them
-//! linked.
+//! Finds the archives of proved functions, made by `rt staticlib` of the crates `exports`, `exports_questions`,
+//! `exports_files` and `exports_file_copies`, and has them linked.
 //!
 //! `X4_ARCHIVES` names their folder and they must then be there; otherwise they are looked for where `rt` leaves them.
 //! `rt` makes archives for x86-64. For another processor than theirs, or where one is missing, nothing is linked, the
@@ -8,8 +8,8 @@
 use std::env;
 use std::path::{Path, PathBuf};
 
-/// The crates whose functions are linked. They are two, since a function with one caller in an archive is inlined.
-const CRATES: [&str; 2] = ["exports", "exports_questions"];
+/// The crates whose functions are linked. They are four, since a function with one caller in an archive is inlined.
+const CRATES: [&str; 4] = ["exports", "exports_questions", "exports_files", "exports_file_copies"];
 
 fn main() {
     println!("cargo::rustc-check-cfg=cfg(proved)");
@@ -53,7 +53,8 @@ fn link(archives: &[PathBuf]) {
         copy(archive, &room.join(format!("libx4_{name}.a")));
         println!("cargo::rustc-link-lib=static=x4_{name}");
     }
-    println!("cargo::warning=linked: {} and {}", archives[0].display(), archives[1].display());
+    let names = archives.iter().map(|archive| archive.display().to_string()).collect::<Vec<_>>().join(", ");
+    println!("cargo::warning=linked: {names}");
     println!("cargo::rustc-link-search=native={}", room.display());
     println!("cargo::rustc-env=X4_LINKED={}", room.display());
     println!("cargo::rustc-cfg=proved");

@@ -1,25 +1,29 @@
 ! The functions of the proved archives (rt staticlib) for Fortran. The numbers are document 01's; the count of digits is
-! that of document 02, M-104, and refusal 17, a flag with an exponent or one that equals no code, that of M-105.
+! that of document 02, M-104, refusal 17, a flag with an exponent or one that equals no code, that of M-105, and
+! transmissions are those of M-100.
 !
 ! A call returns a word, 0 where it is answered, and then stores what it answers in an array that is lent to it:
 ! totals(4) are subentries, keywords, DATA lines, numbers; value(8) are kind (0 blank, 1 number), 1 if below zero,
 ! coefficient, power of ten, count of digits, three zeros; part(3) are the first byte counted from 0, the length, the
-! pointer. A refused call stores nothing. The word has the number of the refusal in bits 0-7, the entry's refusal in
-! 8-15, its column in 16-23, its record in 24-47.
+! pointer. A refused call stores nothing. The word has the number of the refusal in bits 0-7, the refusal of the entry
+! or transmission in 8-15, its column in 16-23, its record in 24-47, the ordinal of the entry in a transmission in
+! 48-63.
 module x4
   use, intrinsic :: iso_c_binding, only: c_char, c_int8_t, c_int32_t, c_int64_t, c_size_t
   implicit none
   private
   public :: x4_version, x4_interface, x4_refused, x4_value, x4_part, x4_verdict
   public :: x4_judged, x4_ask_value, x4_ask_heading, x4_ask_unit, x4_ask_passage, x4_copied, x4_read, x4_write
+  public :: x4_judged_file, x4_entry_at, x4_copied_file
 
   ! The interface that this module describes; x4_version() is the same of the archives.
-  integer(c_int32_t), parameter :: x4_interface = 3
+  integer(c_int32_t), parameter :: x4_interface = 4
 
-  ! A refusal by its number, 0 where there is none; beside 31 why the entry is refused, else zeros.
+  ! A refusal by its number, 0 where there is none; beside 31 why the entry or transmission is refused, else zeros. The
+  ! ordinal is that of the entry in a transmission, 0 for a single entry and outside entries.
   type :: x4_refused
     integer(c_int32_t) :: number = 0
-    integer(c_int32_t) :: refusal = 0, place = 0, column = 0
+    integer(c_int32_t) :: refusal = 0, place = 0, column = 0, ordinal = 0
   end type x4_refused
 
   ! What a number field says: blank, a number, or a refusal beside a blank; and the count of digits written, from the
@@ -40,10 +44,11 @@ module x4
     character(kind=c_char) :: pointer = ' '
   end type x4_part
 
-  ! The verdict on an entry: the seven numbers; a refusal is 1 to 17.
+  ! The verdict on an entry: the seven numbers; a refusal is 1 to 17. That on a transmission has the ordinal, too.
   type :: x4_verdict
     integer(c_int32_t) :: refusal = 0, place = 0, column = 0
     integer(c_int32_t) :: subentries = 0, keywords = 0, lines = 0, numbers = 0
+    integer(c_int32_t) :: ordinal = 0
   end type x4_verdict
 
   interface
@@ -123,6 +128,29 @@ module x4
       integer(c_size_t), value :: length
       integer(c_int32_t) :: refusal
     end function x4_write_number
+
+    function x4_judge_file(file, length, totals) bind(c, name='x4_judge_file') result(word)
+      import :: c_char, c_int64_t, c_size_t
+      character(kind=c_char), intent(in) :: file(*)
+      integer(c_size_t), value :: length
+      integer(c_int64_t), intent(inout) :: totals(4)
+      integer(c_int64_t) :: word
+    end function x4_judge_file
+
+    function x4_entry_length(file, length, at) bind(c, name='x4_entry_length') result(bytes)
+      import :: c_char, c_size_t
+      character(kind=c_char), intent(in) :: file(*)
+      integer(c_size_t), value :: length, at
+      integer(c_size_t) :: bytes
+    end function x4_entry_length
+
+    function x4_copy_file(file, length, out, out_length) bind(c, name='x4_copy_file') result(word)
+      import :: c_char, c_int64_t, c_size_t
+      character(kind=c_char), intent(in) :: file(*)
+      character(kind=c_char), intent(inout) :: out(*)
+      integer(c_size_t), value :: length, out_length
+      integer(c_int64_t) :: word
+    end function x4_copy_file
   end interface
 
 contains
@@ -131,18 +159,40 @@ contains
   function x4_judged(entry) result(v)
     character(len=*, kind=c_char), intent(in) :: entry
     type(x4_verdict) :: v
-    type(x4_refused) :: r
-    integer(c_int64_t) :: totals(4)
+    integer(c_int64_t) :: word, totals(4)
     totals = 0
-    r = refused_in(x4_judge(entry, len(entry, c_size_t), totals))
-    v%refusal = r%refusal
-    v%place = r%place
-    v%column = r%column
-    v%subentries = int(totals(1), c_int32_t)
-    v%keywords = int(totals(2), c_int32_t)
-    v%lines = int(totals(3), c_int32_t)
-    v%numbers = int(totals(4), c_int32_t)
+    word = x4_judge(entry, len(entry, c_size_t), totals)
+    v = verdict_in(word, totals)
   end function x4_judged
+
+  ! Judges a transmission; `place` is the record, counted from TRANS.
+  function x4_judged_file(file) result(v)
+    character(len=*, kind=c_char), intent(in) :: file
+    type(x4_verdict) :: v
+    integer(c_int64_t) :: word, totals(4)
+    totals = 0
+    word = x4_judge_file(file, len(file, c_size_t), totals)
+    v = verdict_in(word, totals)
+  end function x4_judged_file
+
+  ! The entry that begins with the character `first` of a transmission, file(first:last), up to and with ENDENTRY; empty
+  ! where none begins there. The first of an accepted one begins with character 82, each other behind the one before it.
+  function x4_entry_at(file, first) result(p)
+    character(len=*, kind=c_char), intent(in) :: file
+    integer, intent(in) :: first
+    type(x4_part) :: p
+    if (first < 1) return
+    p%first = first
+    p%last = first - 1 + int(x4_entry_length(file, len(file, c_size_t), int(first - 1, c_size_t)))
+  end function x4_entry_at
+
+  ! Stores the canonical copy of a transmission in the front of a text that is as long or longer.
+  function x4_copied_file(file, copy) result(r)
+    character(len=*, kind=c_char), intent(in) :: file
+    character(len=*, kind=c_char), intent(inout) :: copy
+    type(x4_refused) :: r
+    r = refused_in(x4_copy_file(file, len(file, c_size_t), copy, len(copy, c_size_t)))
+  end function x4_copied_file
 
   ! The value in a line and a column of section 1 (COMMON, line 1 only) or 2 (DATA) of a subentry.
   function x4_ask_value(entry, subentry, section, line, column) result(v)
@@ -228,7 +278,23 @@ contains
     r%refusal = int(ibits(word, 8, 8), c_int32_t)
     r%column = int(ibits(word, 16, 8), c_int32_t)
     r%place = int(ibits(word, 24, 24), c_int32_t)
+    r%ordinal = int(ibits(word, 48, 16), c_int32_t)
   end function refused_in
+
+  pure function verdict_in(word, totals) result(v)
+    integer(c_int64_t), intent(in) :: word, totals(4)
+    type(x4_verdict) :: v
+    type(x4_refused) :: r
+    r = refused_in(word)
+    v%refusal = r%refusal
+    v%place = r%place
+    v%column = r%column
+    v%ordinal = r%ordinal
+    v%subentries = int(totals(1), c_int32_t)
+    v%keywords = int(totals(2), c_int32_t)
+    v%lines = int(totals(3), c_int32_t)
+    v%numbers = int(totals(4), c_int32_t)
+  end function verdict_in
 
   pure function value_in(word, numbers) result(v)
     integer(c_int64_t), intent(in) :: word, numbers(8)

@@ -2,17 +2,18 @@
  *
  * A slice of bytes is a pointer and a length. Every call answers for every argument: nothing has to be tested before,
  * but a pointer must be that of so many bytes or numbers. The numbers are document 01's; the count of digits is that of
- * document 02, M-104, and refusal 17 that of M-105.
+ * document 02, M-104, refusal 17 that of M-105, and transmissions are those of M-100.
  *
  * A call returns a word, 0 where it is answered, and then stores what it answers in the array that is lent to it, as
  * long as its parameter says. A refused call stores nothing.
  *
  *     bits    the word that a call returns
  *     0-7     the number of its refusal; 0 answered
- *     8-15    the entry's refusal: of a refused verdict the same number, beside 31 the verdict's, else 0
+ *     8-15    the refusal of the entry or transmission: of a refused verdict the same number, beside 31 the verdict's,
+ *             else 0
  *     16-23   its column
  *     24-47   its record
- *     48-63   zeros
+ *     48-63   the ordinal of the entry in a transmission; 0 for a single entry, beside 1 and 16, and outside entries
  *
  *     totals[0] subentries    value[0] 0 blank, 1 number                     part[0] first byte of the entry, from 0
  *     totals[1] keywords      value[1] 1 below zero, else 0                  part[1] length in bytes
@@ -36,7 +37,7 @@ extern "C" {
 #endif
 
 /* What this header describes; x4_version() is the same of the archives. */
-#define X4_VERSION 3
+#define X4_VERSION 4
 
 uint32_t x4_version(void);
 
@@ -72,6 +73,24 @@ uint64_t x4_read_number(const uint8_t *field, size_t length, uint64_t value[8]);
  * done, 40 buffer not eleven bytes, 41 no field reads to the value. */
 uint32_t x4_write_number(uint32_t negative, uint64_t coefficient, int32_t power, uint8_t *out, size_t length);
 
+/* ---- transmissions: TRANS, one or more entries, ENDTRANS; 200,000 records at the most, an entry 20,000 */
+
+/* The verdict on a transmission: the totals of all its entries, or refusal 1 to 17 with its record, counted from TRANS,
+ * its column, and the ordinal of the entry that it is in. */
+uint64_t x4_judge_file(const uint8_t *file, size_t length, uint64_t totals[4]);
+
+/* How many bytes the entry has that begins with byte `at`, counted from 0: from its ENTRY record up to and with the
+ * first ENDENTRY record, 20,000 records at the most; 0 where none begins there. No rule is made. In an accepted
+ * transmission the first begins at byte 81, and each other where the one before it ends:
+ *
+ *     for (size_t at = 81, n; (n = x4_entry_length(file, length, at)) != 0; at += n) .. x4_value(file + at, n, ..) ..
+ */
+size_t x4_entry_length(const uint8_t *file, size_t length, size_t at);
+
+/* Stores the canonical copy of a transmission in the front of a buffer that does not overlap it: TRANS and ENDTRANS as
+ * they are, each entry its own copy. Refusals: 31, 37 buffer shorter than the transmission. */
+uint64_t x4_copy_file(const uint8_t *file, size_t length, uint8_t *out, size_t out_length);
+
 /* ---- the word that a call returns */
 
 /* 0 where the call is answered */
@@ -81,6 +100,7 @@ static inline uint32_t x4_refusal(uint64_t word) { return (uint32_t)(word & 0xff
 static inline uint32_t x4_entry_refusal(uint64_t word) { return (uint32_t)(word >> 8 & 0xff); }
 static inline uint32_t x4_entry_column(uint64_t word) { return (uint32_t)(word >> 16 & 0xff); }
 static inline uint32_t x4_entry_record(uint64_t word) { return (uint32_t)(word >> 24 & 0xffffff); }
+static inline uint32_t x4_entry_ordinal(uint64_t word) { return (uint32_t)(word >> 48); }
 
 /* ---- the lent array of a value */
 

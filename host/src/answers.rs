@@ -8,7 +8,7 @@ pub(crate) fn counted(count: impl TryInto<u64>, one: &str, several: &str) -> Str
     format!("{count} {}", if count == 1 { one } else { several })
 }
 
-/// The four totals of an accepted entry.
+/// The four totals of an accepted entry, or of all entries of an accepted transmission.
 #[derive(Clone, Copy, Debug, Default, PartialEq, Eq, Hash)]
 pub struct Totals {
     /// Subentries, NOSUBENT included.
@@ -21,18 +21,36 @@ pub struct Totals {
     pub numbers: u32,
 }
 
-/// Why an entry is not accepted, and where: the paper's number, record and column.
+impl fmt::Display for Totals {
+    fn fmt(&self, f: &mut fmt::Formatter<'_>) -> fmt::Result {
+        let subentries = counted(self.subentries, "subentry", "subentries");
+        let keywords = counted(self.keywords, "keyword", "keywords");
+        let lines = counted(self.lines, "DATA line", "DATA lines");
+        write!(f, "{subentries}, {keywords}, {lines}, {}", counted(self.numbers, "number", "numbers"))
+    }
+}
+
+/// Why an entry or a transmission is not accepted, and where: the paper's number, record and column, and in a
+/// transmission the entry.
 #[derive(Clone, Copy, Debug, PartialEq, Eq, Hash)]
 pub struct Refusal {
     /// 1 to 17, from the paper's table of refusals.
     pub number: u32,
-    /// The record, from 1. It is 0 with number 1, and one past the last record with number 16.
+    /// The record, from 1 at the start of what was judged. It is 0 with number 1, and one past the last with number 16.
     pub record: u32,
     /// The column, from 1. It is 0 with numbers 1 and 16.
     pub column: u32,
+    /// Which entry of a transmission it is in, from 1 (M-100). It is 0 for a single entry, with numbers 1 and 16, and
+    /// outside ENTRY to ENDENTRY.
+    pub ordinal: u32,
 }
 
 impl Refusal {
+    /// A refusal of a single entry.
+    pub fn new(number: u32, record: u32, column: u32) -> Refusal {
+        Refusal { number, record, column, ordinal: 0 }
+    }
+
     /// Whether it depends on nothing below its record: 2 to 15 and 17 (M-111). 1 goes by the length, and 16 by where the
     /// records end.
     pub fn at_record(&self) -> bool {
@@ -42,7 +60,7 @@ impl Refusal {
     /// What the number stands for, in the words of the paper's table.
     pub fn meaning(&self) -> &'static str {
         match self.number {
-            1 => "the length is 0, not a multiple of 81, or over 1,620,000",
+            1 => "the length is 0, not a multiple of 81, or over 1,620,000 (of a transmission 16,200,000)",
             2 => "byte 81 of the record is not a line feed",
             3 => "the character is not permitted",
             4 => "the record is not due here by nesting or counts",
@@ -57,7 +75,7 @@ impl Refusal {
             13 => "the heading is repeated where it may not be",
             14 => "the pointer of the DATA heading is not found",
             15 => "the value is malformed, or blank where it may not be",
-            16 => "the records end before ENDENTRY",
+            16 => "the records end before ENDENTRY (a transmission's before ENDTRANS)",
             17 => "the number under FLAG or DECAY-FLAG has an exponent, or that under FLAG equals no code",
             _ => "the paper has no such refusal",
         }
@@ -67,6 +85,9 @@ impl Refusal {
 impl fmt::Display for Refusal {
     fn fmt(&self, f: &mut fmt::Formatter<'_>) -> fmt::Result {
         write!(f, "refusal {}", self.number)?;
+        if self.ordinal > 0 {
+            write!(f, ", entry {}", self.ordinal)?;
+        }
         if self.record > 0 {
             write!(f, ", record {}", self.record)?;
         }
@@ -80,7 +101,7 @@ impl fmt::Display for Refusal {
 /// What judging says of a string of bytes.
 #[derive(Clone, Copy, Debug, PartialEq, Eq, Hash)]
 pub enum Verdict {
-    /// The bytes are one entry that keeps every rule.
+    /// The bytes are one entry, or one transmission, that keeps every rule.
     Accepted(Totals),
     /// The first fault: "records in order; within one record the lowest number; within that the leftmost column".
     Refused(Refusal),
@@ -96,6 +117,11 @@ impl Verdict {
         }
     }
 
+    /// The entry of a transmission that is refused, from 1; 0 where it is accepted or the refusal is in none.
+    pub fn ordinal(&self) -> u32 {
+        self.refusal().map_or(0, |refusal| refusal.ordinal)
+    }
+
     /// The refusal, if it is one.
     pub fn refusal(&self) -> Option<Refusal> {
         match self {
@@ -108,12 +134,7 @@ impl Verdict {
 impl fmt::Display for Verdict {
     fn fmt(&self, f: &mut fmt::Formatter<'_>) -> fmt::Result {
         match self {
-            Verdict::Accepted(t) => {
-                let subentries = counted(t.subentries, "subentry", "subentries");
-                let keywords = counted(t.keywords, "keyword", "keywords");
-                let lines = counted(t.lines, "DATA line", "DATA lines");
-                write!(f, "accepted: {subentries}, {keywords}, {lines}, {}", counted(t.numbers, "number", "numbers"))
-            }
+            Verdict::Accepted(totals) => write!(f, "accepted: {totals}"),
             Verdict::Refused(refusal) => refusal.fmt(f),
         }
     }
@@ -124,7 +145,7 @@ impl fmt::Display for Verdict {
 pub struct NoAnswer {
     /// The paper's number: 31 to 37 for questions and copies; 40, 41 and 15 for number fields.
     pub number: u32,
-    /// With 31, why the entry is refused. With any other number there is none.
+    /// With 31, why the entry or the transmission is refused. With any other number there is none.
     pub entry: Option<Refusal>,
 }
 
@@ -138,13 +159,13 @@ impl NoAnswer {
     pub fn meaning(&self) -> &'static str {
         match self.number {
             15 => "the number field is malformed",
-            31 => "the entry is refused",
+            31 => "the entry or transmission is refused",
             32 => "no such subentry, or NOSUBENT",
             33 => "no such section",
             34 => "no such line",
             35 => "no such column",
             36 => "no passage with that keyword place and pointer",
-            37 => "the buffer is shorter than the entry",
+            37 => "the buffer is shorter than what is copied",
             40 => "a number field is eleven bytes",
             41 => "no field reads to the value",
             _ => "the paper has no such refusal",

@@ -48,6 +48,9 @@ extern "C" {
     fn x4_copy(entry: *const u8, length: usize, out: *mut u8, out_length: usize) -> u64;
     fn x4_read_number(field: *const u8, length: usize, value: *mut [u64; 8]) -> u64;
     fn x4_write_number(negative: u32, coefficient: u64, power: i32, out: *mut u8, length: usize) -> u32;
+    fn x4_judge_file(file: *const u8, length: usize, totals: *mut [u64; 4]) -> u64;
+    fn x4_entry_length(file: *const u8, length: usize, at: usize) -> usize;
+    fn x4_copy_file(file: *const u8, length: usize, out: *mut u8, out_length: usize) -> u64;
 }
 
 /// The version of the archives' interface, which is to be [`words::VERSION`].
@@ -127,6 +130,30 @@ pub fn write_number(decimal: Decimal, buffer: &mut [u8]) -> Result<(), NoAnswer>
     // SAFETY: the pointer and the length are those of one slice, which nobody else has while it is written.
     let number = unsafe { x4_write_number(negative.into(), coefficient, power, buffer.as_mut_ptr(), buffer.len()) };
     words::answered(number.into())
+}
+
+/// Judges one transmission.
+#[cfg(proved)]
+pub fn judge_file(file: &[u8]) -> Verdict {
+    let mut totals = [0; 4];
+    // SAFETY: the pointer and the length are those of one slice, which is only read; the array is this call's own.
+    let word = unsafe { x4_judge_file(file.as_ptr(), file.len(), &mut totals) };
+    words::verdict(word, totals)
+}
+
+/// How many bytes the entry has that begins with a byte of a transmission.
+#[cfg(proved)]
+pub fn entry_length(file: &[u8], at: usize) -> usize {
+    // SAFETY: the pointer and the length are those of one slice, which is only read.
+    unsafe { x4_entry_length(file.as_ptr(), file.len(), at) }
+}
+
+/// The canonical copy of a transmission, into the front of a buffer.
+#[cfg(proved)]
+pub fn copy_file(file: &[u8], buffer: &mut [u8]) -> Result<(), NoAnswer> {
+    let (first, length) = (buffer.as_mut_ptr(), buffer.len());
+    // SAFETY: the file is only read, and nobody else has the buffer while it is written.
+    words::answered(unsafe { x4_copy_file(file.as_ptr(), file.len(), first, length) })
 }
 
 /// What C's own reader makes of a text: for comparisons of speed.
@@ -211,6 +238,37 @@ mod tests {
         let cut = ask(&sample[..20 * RECORD], 2, DATA, 1, 1, b"REACTION  ");
         let beside = (16 << 8) + (21 << 24);
         assert_eq!(cut.each_ref().map(number), [16, 31, 31, 31, 31].map(|number| (number + beside, true)));
+    }
+
+    /// Judging and copying a transmission, and its entries' lengths: what is refused leaves array and buffer as they
+    /// were.
+    #[test]
+    fn refused_files_store_nothing() {
+        let sample = include_bytes!("../data/sample.x4");
+        let line = |text: &str| format!("{text:80}\n").into_bytes();
+        let (trans, end) = (line("TRANS             X001   20240105"), line("ENDTRANS             2"));
+        let file = [&trans[..], sample, sample, &end].concat();
+        let ask = |file: &[u8], room: usize| {
+            let (mut totals, mut out) = ([BEFORE; 4], vec![b'#'; room]);
+            let (bytes, length) = (file.as_ptr(), file.len());
+            // SAFETY: pointers and lengths are those of slices; the array and the buffer are this function's own.
+            let words = unsafe {
+                [x4_judge_file(bytes, length, &mut totals), x4_copy_file(bytes, length, out.as_mut_ptr(), room)]
+            };
+            (words, totals, out.iter().all(|&byte| byte == b'#'))
+        };
+        assert_eq!(ask(&file, file.len()), ([0, 0], [4, 6, 4, 12], false));
+        assert_eq!(ask(&file, file.len() - 1), ([0, 37], [4, 6, 4, 12], true));
+        // column 26 of the second ENTRY is filled: 7 on record 28, column 23, in entry 2
+        let mut refused = file.clone();
+        refused[27 * RECORD + 25] = b'X';
+        let beside = (7 << 8) + (23 << 16) + (28 << 24) + (2 << 48);
+        assert_eq!(ask(&refused, file.len()), ([7 + beside, 31 + beside], [BEFORE; 4], true));
+        assert_eq!(ask(&[], 0).0, [1 + (1 << 8), 31 + (1 << 8)]);
+        let lengths = [0, RECORD, RECORD + 1, 27 * RECORD, 53 * RECORD, file.len(), file.len() + 1, usize::MAX];
+        // SAFETY: the pointer and the length are those of one slice, which is only read.
+        let lengths = lengths.map(|at| unsafe { x4_entry_length(file.as_ptr(), file.len(), at) });
+        assert_eq!(lengths, [0, 26 * 81, 0, 26 * 81, 0, 0, 0, 0]);
     }
 
     /// The array behind a reading that is answered.

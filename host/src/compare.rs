@@ -1,4 +1,4 @@
-//! Compares tables: those of two entries, or of an entry and of another program that read it.
+//! Compares tables: those of two entries or transmissions, or of one and of another program that read it.
 
 use crate::answers::counted;
 use crate::tables::Row;
@@ -30,6 +30,8 @@ impl fmt::Display for Same {
 /// The first difference.
 #[derive(Clone, Debug, PartialEq, Eq)]
 pub struct Difference {
+    /// The entry of a transmission, from 1; 0 where neither of the two is one.
+    pub entry: usize,
     /// Accession and number of the subentry.
     pub subentry: String,
     /// `COMMON` or `DATA`.
@@ -48,6 +50,9 @@ pub struct Difference {
 
 impl fmt::Display for Difference {
     fn fmt(&self, f: &mut fmt::Formatter<'_>) -> fmt::Result {
+        if self.entry > 0 {
+            write!(f, "entry {}, ", self.entry)?;
+        }
         write!(f, "subentry {}, {}", self.subentry, self.section)?;
         match self.kind.as_deref() {
             Some(kind) if kind.parse::<u32>().is_ok() => write!(f, ", line {kind}")?,
@@ -78,9 +83,11 @@ pub struct Asked {
 /// A table as rows that follow each other.
 type Group<'a> = &'a [Row];
 
-/// Rows of one table after another.
+/// Rows of one table after another. Two entries of a transmission may have one accession; a table begins with its
+/// headings.
 fn groups(rows: &[Row]) -> Vec<Group<'_>> {
-    rows.chunk_by(|one, next| one.subentry == next.subentry && one.section == next.section).collect()
+    let same = |one: &Row, next: &Row| one.subentry == next.subentry && one.section == next.section;
+    rows.chunk_by(|one, next| same(one, next) && next.kind != "heading").collect()
 }
 
 /// Compares table by table, row by row, column by column. Unless `exact` is asked for, two numbers are the same also
@@ -132,7 +139,16 @@ fn missing_table(group: Group, in_first: bool) -> Box<Difference> {
     let said = |there: bool| there.then(|| "a table".to_string());
     let (subentry, section) = (group[0].subentry.clone(), group[0].section.clone());
     let (first, second) = (said(in_first), said(!in_first));
-    Box::new(Difference { subentry, section, kind: None, column: None, digits: false, first, second })
+    Box::new(Difference {
+        entry: group[0].entry,
+        subentry,
+        section,
+        kind: None,
+        column: None,
+        digits: false,
+        first,
+        second,
+    })
 }
 
 /// Compares two tables of the same subentry and section.
@@ -140,10 +156,13 @@ fn same_table(one: Group, other: Group, asked: Asked, same: &mut Same) -> Result
     for place in 0..one.len().max(other.len()) {
         let (a, b) = (one.get(place), other.get(place));
         let row = a.or(b).expect("one of them has this row");
+        // The first's entry, if it is a transmission, else the second's.
+        let entry = if one[0].entry > 0 { one[0].entry } else { other[0].entry };
         let difference = |cell: Option<usize>, first, second| {
             let (subentry, section) = (row.subentry.clone(), row.section.clone());
             let (column, digits) = (cell.map(|cell| asked.column(cell)), cell.is_some_and(|cell| asked.counts(cell)));
-            Box::new(Difference { subentry, section, kind: Some(row.kind.clone()), column, digits, first, second })
+            let kind = Some(row.kind.clone());
+            Box::new(Difference { entry, subentry, section, kind, column, digits, first, second })
         };
         let (Some(a), Some(b)) = (a, b) else {
             return Err(difference(None, a.map(|_| "a row".into()), b.map(|_| "a row".into())));

@@ -37,6 +37,18 @@ pub trait Implementation {
     fn canonical_copy(&self, entry: &[u8], buffer: &mut [u8]) -> Result<(), NoAnswer> {
         reference::canonical_copy(entry, buffer)
     }
+    /// The verdict on a transmission.
+    fn judge_file(&self, file: &[u8]) -> Verdict {
+        reference::judge_file(file)
+    }
+    /// The bytes of the entry that begins with a byte of a transmission.
+    fn entry_length(&self, file: &[u8], at: usize) -> usize {
+        reference::entry_length(file, at)
+    }
+    /// The canonical copy of a transmission.
+    fn copy_file(&self, file: &[u8], buffer: &mut [u8]) -> Result<(), NoAnswer> {
+        reference::copy_file(file, buffer)
+    }
     /// The reading of a field, and its count of digits.
     fn read_number(&self, field: &[u8]) -> Result<FieldRead, NoAnswer> {
         reference::read_number(field)
@@ -77,6 +89,15 @@ impl Implementation for Library {
     fn canonical_copy(&self, entry: &[u8], buffer: &mut [u8]) -> Result<(), NoAnswer> {
         library::canonical_copy(entry, buffer)
     }
+    fn judge_file(&self, file: &[u8]) -> Verdict {
+        library::judge_file(file)
+    }
+    fn entry_length(&self, file: &[u8], at: usize) -> usize {
+        library::entry_length(file, at)
+    }
+    fn copy_file(&self, file: &[u8], buffer: &mut [u8]) -> Result<(), NoAnswer> {
+        library::copy_file(file, buffer)
+    }
     fn read_number(&self, field: &[u8]) -> Result<FieldRead, NoAnswer> {
         library::read_number(field)
     }
@@ -84,6 +105,12 @@ impl Implementation for Library {
         library::write_number(decimal, buffer)
     }
 }
+
+/// How much of an input is shown.
+const SHOWN: usize = 2_000 * RECORD;
+
+/// The most bytes of a transmission.
+const MOST_IN_FILE: usize = 200_000 * RECORD;
 
 /// A case on which two implementations differ.
 #[derive(Clone, Debug)]
@@ -98,7 +125,12 @@ pub struct Difference {
 
 impl fmt::Display for Difference {
     fn fmt(&self, f: &mut fmt::Formatter<'_>) -> fmt::Result {
-        write!(f, "seed {}: {}\n{}", self.seed, self.words, String::from_utf8_lossy(&self.input))
+        let (shown, rest) = self.input.split_at(self.input.len().min(SHOWN));
+        write!(f, "seed {}: {}\n{}", self.seed, self.words, String::from_utf8_lossy(shown))?;
+        match rest.len() {
+            0 => Ok(()),
+            more => writeln!(f, "and {more} bytes more"),
+        }
     }
 }
 
@@ -130,6 +162,16 @@ pub struct Counts {
     pub below: Tally,
     /// Answers to questions and copies.
     pub answers: Tally,
+    /// Verdicts on transmissions.
+    pub files: Tally,
+    /// Those of them that are refused inside an entry.
+    pub inside: Tally,
+    /// Verdicts on the same transmissions with other records below the refused one, or with one behind ENDTRANS.
+    pub files_below: Tally,
+    /// Copies of transmissions.
+    pub file_copies: Tally,
+    /// Bytes of transmissions at which an entry begins, and at which none does.
+    pub begins: [u64; 2],
     /// Readings.
     pub readings: Tally,
     /// Writings.
@@ -142,6 +184,10 @@ impl fmt::Display for Counts {
             ("verdicts", &self.verdicts),
             ("verdicts with other records below", &self.below),
             ("questions and copies", &self.answers),
+            ("verdicts on transmissions", &self.files),
+            ("those inside an entry", &self.inside),
+            ("verdicts on transmissions with other records below", &self.files_below),
+            ("copies of transmissions", &self.file_copies),
             ("number fields read", &self.readings),
             ("decimals written", &self.writings),
         ];
@@ -151,7 +197,8 @@ impl fmt::Display for Counts {
                 writeln!(f, "  {number:>2}: {count}")?;
             }
         }
-        Ok(())
+        let [some, none] = self.begins;
+        writeln!(f, "bytes of transmissions asked for an entry: {some} begin one, {none} do not")
     }
 }
 
@@ -195,6 +242,81 @@ impl<'i> Pair<'i> {
                 same("judge", &one, &other).map_err(|words| Difference { seed, words, input: changed.clone() })?;
             }
             changed[place] = entry[place];
+        }
+        Ok(())
+    }
+
+    /// Asks both about so many transmissions, good and damaged, and once more with other records below.
+    pub fn files(&mut self, seed: u64, count: u64) -> Result<(), Difference> {
+        for seed in seed..seed + count {
+            let mut random = Random::seeded(seed);
+            let file = generate::file_input(&mut random);
+            self.file(seed, &mut random, &file)?;
+        }
+        Ok(())
+    }
+
+    /// Asks both about given transmissions.
+    pub fn given_files(&mut self, files: &[Vec<u8>]) -> Result<(), Difference> {
+        let mut seeded = (0..).zip(files);
+        seeded.try_for_each(|(seed, file)| self.file(seed, &mut Random::seeded(seed), file))
+    }
+
+    /// The verdict on one transmission, the lengths of its entries and a copy; and the verdict with other records
+    /// below.
+    fn file(&mut self, seed: u64, random: &mut Random, file: &[u8]) -> Result<(), Difference> {
+        let asked = self.whole_file(random, file);
+        let verdict = asked.map_err(|words| Difference { seed, words, input: file.to_vec() })?;
+        let Some((input, due)) = other_below(random, file, verdict) else { return Ok(()) };
+        // Behind a full one the length is refused.
+        let due = if input.len() > MOST_IN_FILE { Verdict::Refused(Refusal::new(1, 0, 0)) } else { due };
+        let (one, other) = (self.one.judge_file(&input), self.other.judge_file(&input));
+        self.counts.files_below.count(one.numbers()[0]);
+        let same = same("judge_file with other records below", &one, &other)
+            .and_then(|()| same("judge_file with other records below: both, and what is due", &one, &due));
+        same.map_err(|words| Difference { seed, words, input })
+    }
+
+    /// What both say of one transmission. Hands back the verdict.
+    fn whole_file(&mut self, random: &mut Random, file: &[u8]) -> Result<Verdict, String> {
+        let (verdict, other) = (self.one.judge_file(file), self.other.judge_file(file));
+        same("judge_file", &verdict, &other)?;
+        self.counts.files.count(verdict.numbers()[0]);
+        if verdict.ordinal() > 0 {
+            self.counts.inside.count(verdict.numbers()[0]);
+        }
+        // At every record's first byte, at some others, and past the end.
+        let odd = [file.len(), file.len() + 1, file.len() + RECORD, usize::MAX, 1, RECORD - 1, RECORD + 1];
+        let any = std::iter::repeat_with(|| random.below(file.len() + 1)).take(20).collect::<Vec<_>>();
+        for at in (0..file.len()).step_by(RECORD).chain(odd).chain(any) {
+            let (one, other) = (self.one.entry_length(file, at), self.other.entry_length(file, at));
+            same(&format!("entry_length {at}"), &one, &other)?;
+            self.counts.begins[usize::from(one == 0)] += 1;
+        }
+        let length = file.len() + random.below(3);
+        let length = if random.once_in(3) { length.saturating_sub(random.below(100)) } else { length };
+        let (mut first, mut second) = (vec![b'#'; length], vec![b'#'; length]);
+        let (copied, other) = (self.one.copy_file(file, &mut first), self.other.copy_file(file, &mut second));
+        self.counts.file_copies.add(&copied);
+        same("copy_file", &copied, &other)?;
+        match first == second {
+            true => Ok(verdict),
+            false => Err("copy_file: other bytes".into()),
+        }
+    }
+
+    /// Asks both to judge a transmission with one byte of TRANS or ENDTRANS changed, for all of these values.
+    pub fn file_bytes(&mut self, file: &[u8], values: &[u8]) -> Result<(), Difference> {
+        let mut changed = file.to_vec();
+        for place in (0..RECORD).chain(file.len() - RECORD..file.len()) {
+            for &value in values {
+                changed[place] = value;
+                let (one, other) = (self.one.judge_file(&changed), self.other.judge_file(&changed));
+                self.counts.files.count(one.numbers()[0]);
+                let seed = place as u64;
+                same("judge_file", &one, &other).map_err(|words| Difference { seed, words, input: changed.clone() })?;
+            }
+            changed[place] = file[place];
         }
         Ok(())
     }
@@ -345,7 +467,7 @@ fn behind(entry: &[u8], record: &[u8]) -> Refusal {
         (b'\n', Some(at)) => (3, at as u32 + 1),
         _ => (2, RECORD as u32),
     };
-    Refusal { number, record: (entry.len() / RECORD) as u32 + 1, column }
+    Refusal::new(number, (entry.len() / RECORD) as u32 + 1, column)
 }
 
 /// Subentry, section, line and column of a question.

@@ -1,14 +1,17 @@
 //! A refusal in words: what was expected in that place, what stands there, and the record with a mark under it.
 //!
 //! The number, record and column come from judging. The words are made here, from the entry laid out by the reference,
-//! and like the refusal they depend on nothing below its record (M-111). Three look at all the input: the words for 1, the
-//! note on an input that holds several entries, and the count of the records below.
+//! and like the refusal they depend on nothing below its record (M-111). Three look at all the input: the words for 1,
+//! the note on an input that holds several entries, and the count of the records below. In a transmission (M-100) the
+//! words on a refusal inside an entry are those of that entry, with its records counted from the start of the
+//! transmission.
 
 use crate::answers::counted;
 use crate::reference::flags::{codes, without_zeros_before, Codes, FlagFault, FlagHeading};
 use crate::reference::record::{blank, is_pointer, is_word, Name, Record};
 use crate::reference::tree::{Cell, Role, Stop, Subentry, Table, Tree};
 use crate::reference::{identification_due, keyword_total, may_repeat};
+use crate::transmission::Place;
 use crate::{Refusal, RECORD};
 use std::collections::BTreeSet;
 
@@ -25,17 +28,72 @@ pub struct Explanation {
 
 /// Explains a refusal, where `refusal` is what judging says of this very entry.
 pub fn explain(entry: &[u8], refusal: &Refusal) -> Explanation {
-    if refusal.number == 1 {
-        return wrong_length(entry);
+    match refusal.number {
+        1 => wrong_length(entry, "20,000"),
+        _ => explain_behind(entry, refusal, 0),
     }
+}
+
+/// Explains the refusal of a transmission, where `refusal` is what judging says of this very transmission.
+pub fn explain_file(file: &[u8], refusal: &Refusal) -> Explanation {
+    if refusal.number == 1 {
+        return wrong_length(file, "200,000");
+    }
+    let place = Place::of(file, refusal);
+    let own = Refusal::new(refusal.number, place.record as u32, refusal.column);
+    let Some(entry) = place.entry else { return explain_outside(file, &own, &place) };
+    let mut words = explain_behind(entry, &own, place.before);
+    if (own.number, own.record) == (4, 20_001) {
+        words.expected = "nothing: an entry has 20,000 records at the most".into();
+        return words;
+    }
+    words.note = words.note.or_else(|| not_ended(entry, &own, &place));
+    words
+}
+
+/// That an entry has not ended, where the input ends or a record stands that is in no entry.
+fn not_ended(entry: &[u8], refusal: &Refusal, place: &Place) -> Option<String> {
+    let name = entry.chunks_exact(RECORD).nth(place.record - 1).and_then(|record| Name::of(Record(record)));
+    let open = matches!(name, Some(Name::Entry | Name::Trans | Name::EndTrans));
+    let told = refusal.number == 16 || (refusal.number == 4 && open);
+    let words = format!("{} begins on record {} and has no ENDENTRY yet", place.entry_in_words()?, place.before + 1);
+    told.then_some(words)
+}
+
+/// Explains the refusal of a record that is in no entry: TRANS, ENDTRANS, one between entries or one behind ENDTRANS.
+fn explain_outside(file: &[u8], refusal: &Refusal, place: &Place) -> Explanation {
+    let seen = &file[..((place.before + place.record) * RECORD).min(file.len())];
+    let tree = Tree::of(&seen[(seen.len() - RECORD)..]);
+    let case = Case { tree: &tree, at: 0, column: refusal.column as usize, before: 0 };
+    let due = match (place.before, place.record, place.entries) {
+        (0, ..) => "TRANS",
+        (_, 1, 0) => "ENTRY",
+        (_, 1, _) => "ENTRY or ENDTRANS",
+        _ => "nothing: a transmission ends with ENDTRANS",
+    };
+    let (expected, found) = match refusal.number {
+        2 | 3 => case.characters(refusal.number),
+        4 => (due.into(), case.columns(1, 11)),
+        7 if place.before > 0 => (COUNT.into(), case.field()),
+        7 if refusal.column == 12 => ("7 blanks and the file identifier: 4 capitals or digits".into(), case.field()),
+        7 => (DATE.into(), case.field()),
+        8 => (format!("{}, the entries", place.entries), case.field()),
+        _ => (due.into(), "the end of the input".into()),
+    };
+    let empty = refusal.number == 4 && due == "ENTRY" && Name::of(case.record()) == Some(Name::EndTrans);
+    let empty = empty.then(|| "a transmission has one entry at least".into());
+    Explanation { expected, found, note: empty.or_else(|| note(seen, refusal, 0)) }
+}
+
+/// Explains a refusal in an entry that so many records stand before, which do not belong to it.
+fn explain_behind(entry: &[u8], refusal: &Refusal, before: usize) -> Explanation {
     // The records up to the refused one, which with 16 is one past the last.
     let seen = &entry[..(refusal.record as usize).min(entry.len() / RECORD) * RECORD];
     let tree = Tree::of(seen);
     let at = refusal.record as usize - 1;
-    let case = Case { tree: &tree, at, column: refusal.column as usize };
+    let case = Case { tree: &tree, at, column: refusal.column as usize, before };
     let (expected, found) = match refusal.number {
-        2 => ("a line feed in byte 81".into(), case.character()),
-        3 => ("a blank, a letter, a digit or one of + - . ) ( * / = ' , % < > : ; ! ? &".into(), case.character()),
+        2 | 3 => case.characters(refusal.number),
         4 => (case.due_record(), case.columns(1, 11)),
         5 => (case.identification().0, case.columns(67, 74)),
         6 => (case.identification().1, case.columns(75, 79)),
@@ -53,7 +111,7 @@ pub fn explain(entry: &[u8], refusal: &Refusal) -> Explanation {
     };
     // Where the entry is laid out otherwise than judging took it, the refusal's own words are left.
     let expected = if expected.is_empty() { format!("not this: {}", refusal.meaning()) } else { expected };
-    Explanation { expected, found, note: case.flag_note(refusal).or_else(|| note(seen, refusal)) }
+    Explanation { expected, found, note: case.flag_note(refusal).or_else(|| note(seen, refusal, before)) }
 }
 
 /// The record of a refusal as compilers of programs show a line: its number, its text, and a mark under the column.
@@ -99,27 +157,25 @@ fn either(names: &[Name]) -> String {
     names.join(" or ")
 }
 
-/// A table as its first record announces it.
-fn announced(table: &Table) -> String {
-    let columns = counted(table.columns, "column", "columns");
-    let shape = match table.name {
-        Name::Common => columns,
-        _ => format!("{columns}, {}", counted(table.lines, "line", "lines")),
-    };
-    format!("{} on record {} ({shape})", table.name.spelling(), table.opening + 1)
-}
-
 /// What is due in a field beyond the table's columns.
 fn unused(table: &Table, cell: &Cell) -> String {
     let columns = counted(table.columns, "column", "columns");
     format!("blanks, as the table has {columns} and this would be column {}", cell.column)
 }
 
+/// The form of a date.
+const DATE: &str = "3 blanks and a date YYYYMMDD, month 01-12, day 01-31";
+
+/// The form of a count.
+const COUNT: &str = "a count: blanks, then digits up to the last column";
+
 /// One refused place in an entry that is laid out.
 struct Case<'t, 'a> {
     tree: &'t Tree<'a>,
     at: usize,
     column: usize,
+    /// How many records of a transmission stand before the entry.
+    before: usize,
 }
 
 impl<'t, 'a> Case<'t, 'a> {
@@ -129,6 +185,30 @@ impl<'t, 'a> Case<'t, 'a> {
 
     fn columns(&self, first: usize, last: usize) -> String {
         quoted(self.record().columns(first, last))
+    }
+
+    /// How a record of the entry is counted, from 1 at the start of all.
+    fn counted(&self, at: usize) -> usize {
+        self.before + at + 1
+    }
+
+    /// A table as its first record announces it.
+    fn announced(&self, table: &Table) -> String {
+        let columns = counted(table.columns, "column", "columns");
+        let shape = match table.name {
+            Name::Common => columns,
+            _ => format!("{columns}, {}", counted(table.lines, "line", "lines")),
+        };
+        format!("{} on record {} ({shape})", table.name.spelling(), self.counted(table.opening))
+    }
+
+    /// Refusals 2 and 3: the line feed, or what is permitted, and the character that stands there.
+    fn characters(&self, number: u32) -> (String, String) {
+        let expected = match number {
+            2 => "a line feed in byte 81",
+            _ => "a blank, a letter, a digit or one of + - . ) ( * / = ' , % < > : ; ! ? &",
+        };
+        (expected.into(), self.character())
     }
 
     /// The eleven columns from the refused one on.
@@ -198,9 +278,9 @@ impl<'t, 'a> Case<'t, 'a> {
             _ => None,
         };
         match (table, &subentry.bib) {
-            (Some(table), _) => format!(", as the {} records of {} end here", table.records(), announced(table)),
+            (Some(table), _) => format!(", as the {} records of {} end here", table.records(), self.announced(table)),
             (None, Some(bib)) if due == [Name::EndBib] => {
-                format!(", as the {} records of BIB on record {} end here", bib.text.len(), bib.opening + 1)
+                format!(", as the {} records of BIB on record {} end here", bib.text.len(), self.counted(bib.opening))
             }
             _ => String::new(),
         }
@@ -210,13 +290,13 @@ impl<'t, 'a> Case<'t, 'a> {
     fn due_in_section(&self) -> String {
         if let Some(table) = self.table() {
             let place = self.at - table.opening;
-            return format!("record {place} of the {} that {} announces", table.records(), announced(table));
+            return format!("record {place} of the {} that {} announces", table.records(), self.announced(table));
         }
         match self.subentry().and_then(|subentry| subentry.bib.as_ref()) {
             Some(bib) => {
                 let records = String::from_utf8_lossy(self.tree.records[bib.opening].n2()).trim().to_string();
                 let place = self.at - bib.opening;
-                format!("record {place} of the {records} that BIB on record {} announces", bib.opening + 1)
+                format!("record {place} of the {records} that BIB on record {} announces", self.counted(bib.opening))
             }
             None => "ENTRY".into(),
         }
@@ -229,10 +309,8 @@ impl<'t, 'a> Case<'t, 'a> {
             (Some(Name::Subent | Name::NoSubent), 12) => {
                 "3 blanks, the accession (a capital or digit, 4 digits), 3 digits"
             }
-            (Some(Name::Entry | Name::Subent | Name::NoSubent), _) => {
-                "3 blanks and a date YYYYMMDD, month 01-12, day 01-31"
-            }
-            _ => "a count: blanks, then digits up to the last column",
+            (Some(Name::Entry | Name::Subent | Name::NoSubent), _) => DATE,
+            _ => COUNT,
         }
     }
 
@@ -267,7 +345,7 @@ impl<'t, 'a> Case<'t, 'a> {
             return format!("{}, the records between", bib.text.len());
         }
         let total = counted(total, "keyword", "keywords");
-        format!("{total} in N1 of BIB on record {}, which says {announced}", bib.opening + 1)
+        format!("{total} in N1 of BIB on record {}, which says {announced}", self.counted(bib.opening))
     }
 
     /// Refusal 9.
@@ -294,7 +372,7 @@ impl<'t, 'a> Case<'t, 'a> {
             return "a keyword: a word from column 1, blanks behind it; or ten blanks".into();
         }
         let first = bib.text.clone().find(|&at| self.tree.records[at].keyword() == keyword).unwrap_or(self.at);
-        format!("a keyword that this BIB does not have yet; record {} has this one", first + 1)
+        format!("a keyword that this BIB does not have yet; record {} has this one", self.counted(first))
     }
 
     /// Refusal 11.
@@ -304,7 +382,7 @@ impl<'t, 'a> Case<'t, 'a> {
         let bib = bib.filter(|bib| is_pointer(byte) && bib.text.contains(&self.at));
         let Some(bib) = bib else { return "a pointer, 1-9 or A-Z, or a blank".into() };
         let earlier = (bib.text.start..self.at).rev().find(|&at| self.tree.records[at].pointer() == byte);
-        let earlier = earlier.unwrap_or(self.at) + 1;
+        let earlier = self.counted(earlier.unwrap_or(self.at));
         format!("a pointer that is new under its keyword; record {earlier} has this one")
     }
 
@@ -338,7 +416,7 @@ impl<'t, 'a> Case<'t, 'a> {
         } else {
             format!("a heading that is new here, as this one may not repeat in {}", table.name.spelling())
         };
-        format!("{wanted}; record {}, column {} has this one", same.record + 1, same.first_column())
+        format!("{wanted}; record {}, column {} has this one", self.counted(same.record), same.first_column())
     }
 
     /// Refusal 14.
@@ -428,8 +506,8 @@ fn code_text(digits: &[u8]) -> String {
     }
 }
 
-/// Refusal 1.
-fn wrong_length(entry: &[u8]) -> Explanation {
+/// Refusal 1, where so many records are the most.
+fn wrong_length(entry: &[u8], most: &str) -> Explanation {
     let (records, rest) = (entry.len() / RECORD, entry.len() % RECORD);
     let bytes = |count: usize| counted(count, "byte", "bytes");
     let found = match (entry.len(), counted(records, "record", "records")) {
@@ -437,8 +515,8 @@ fn wrong_length(entry: &[u8]) -> Explanation {
         (length, records) if rest != 0 => format!("{}: {records} and {}", bytes(length), bytes(rest)),
         (length, records) => format!("{}: {records}", bytes(length)),
     };
-    let expected = "1 to 20,000 records of 81 bytes each, 80 columns and a line feed".into();
-    Explanation { expected, found, note: odd_line(entry, false) }
+    let expected = format!("1 to {most} records of 81 bytes each, 80 columns and a line feed");
+    Explanation { expected, found, note: odd_line(entry, false, 0) }
 }
 
 /// The headings that may repeat.
@@ -447,16 +525,17 @@ const REPEATING: &str =
                          side by side in one section";
 
 /// What may be behind a refusal: a heading thought to repeat, or a line that is not 80 columns long.
-fn note(seen: &[u8], refusal: &Refusal) -> Option<String> {
+fn note(seen: &[u8], refusal: &Refusal, before: usize) -> Option<String> {
     match refusal.number {
         13 => Some(REPEATING.into()),
-        2 | 3 => odd_line(seen, true),
+        2 | 3 => odd_line(seen, true, before),
         _ => None,
     }
 }
 
-/// The first line that is not 80 columns long. Where the bytes are cut off behind a record, the last line may go on.
-fn odd_line(bytes: &[u8], cut: bool) -> Option<String> {
+/// The first line that is not 80 columns long, with so many before the first. Where the bytes are cut off behind a
+/// record, the last line may go on.
+fn odd_line(bytes: &[u8], cut: bool, before: usize) -> Option<String> {
     if bytes.is_empty() {
         return None;
     }
@@ -468,10 +547,11 @@ fn odd_line(bytes: &[u8], cut: bool) -> Option<String> {
         (Some(_), true) => "has more than 80 columns".into(),
         _ => format!("has {}", counted(line.len(), "column", "columns")),
     };
-    Some(format!("line {} {ending}; a record has 80 columns and a line feed", number + 1))
+    Some(format!("line {} {ending}; a record has 80 columns and a line feed", before + number + 1))
 }
 
-/// The records below a refused one, which its refusal does not depend on (M-111), if there are any.
+/// The records below a refused one of an entry or a transmission, which its refusal does not depend on (M-111), if
+/// there are any.
 pub fn below(entry: &[u8], refusal: &Refusal) -> Option<String> {
     let below = (entry.len() / RECORD).checked_sub(refusal.record as usize)?;
     let told = refusal.at_record() && below > 0;
@@ -483,18 +563,16 @@ pub fn note_on(entry: &[u8], refusal: &Refusal, words: &Explanation) -> Option<S
     several_entries(entry, refusal).or_else(|| words.note.clone())
 }
 
-/// Whether an input that is refused by 1 or 4 goes on after its first entry, or is a transmission. This is said of all the
-/// input, also of what stands below the refused record.
+/// Whether an input that is refused by 1 or 4 goes on after its first entry, and is no transmission. This is said of
+/// all the input, also of what stands below the refused record.
 fn several_entries(bytes: &[u8], refusal: &Refusal) -> Option<String> {
     if !matches!(refusal.number, 1 | 4) {
         return None;
     }
     let begins = |record: &&[u8], name: &str| record.get(..11) == Some(format!("{name:11}").as_bytes());
-    if bytes.chunks(RECORD).next().is_some_and(|first| begins(&first, "TRANS")) {
-        return Some("this is a transmission; one entry is judged, from ENTRY to ENDENTRY".into());
-    }
     let mut records = bytes.chunks(RECORD);
     records.find(|record| begins(record, "ENDENTRY"))?;
     let more = records.filter(|record| begins(record, "ENTRY")).count();
-    (more > 0).then(|| format!("the input holds {} entries; one entry is judged at a time: split it", more + 1))
+    let how = "one entry is judged, or a transmission, with TRANS before its entries and ENDTRANS behind them";
+    (more > 0).then(|| format!("the input holds {} entries; {how}", more + 1))
 }

@@ -1,11 +1,12 @@
-//! Reads one EXFOR entry, from ENTRY to ENDENTRY: judges it, answers questions about its tables and passages,
-//! reads and writes number fields, and copies the entry canonically.
+//! Reads EXFOR entries, from ENTRY to ENDENTRY: judges them, answers questions about their tables and passages, reads
+//! and writes number fields, and copies entries canonically. A whole transmission, from TRANS to ENDTRANS, is judged,
+//! taken apart into its entries and copied.
 //!
-//! "The paper" is document 01, `Build requirements and exact rules`, with three requests of document 02: M-104, the
-//! count of digits, M-101, headings that may repeat, and M-105, a number under FLAG equals a code. Its numbers are kept:
-//! a refusal here has the number that the paper gives it, records, lines and columns count from 1, and an accepted entry
-//! has the paper's four totals. Programs call [`library`]; [`reference`] is a second implementation, written from the paper
-//! alone, which the tests hold against the first.
+//! "The paper" is document 01, `Build requirements and exact rules`, with four requests of document 02: M-104, the
+//! count of digits, M-101, headings that may repeat, M-105, a number under FLAG equals a code, and M-100, whole
+//! transmissions. Its numbers are kept: a refusal here has the number that the paper gives it, records, lines and
+//! columns count from 1, and an accepted entry has the paper's four totals. Programs call [`library`]; [`reference`] is
+//! a second implementation, written from the paper alone, which the tests hold against the first.
 //!
 //! ```
 //! use glockenbeacon::{library, Value, Verdict, DATA};
@@ -18,6 +19,11 @@
 //! let read = library::value(&entry, 2, DATA, 1, 2)?;
 //! if let Value::Number(decimal) = read.value {
 //!     assert_eq!((decimal.to_string().as_str(), read.digits), ("0.145", 3));
+//! }
+//! let file = std::fs::read("data/transmission.x4")?;
+//! assert!(library::judge_file(&file).refusal().is_none());
+//! for (first, entry) in library::entries(&file) {
+//!     println!("byte {first}: {}", library::judge(entry));
 //! }
 //! # Ok::<(), Box<dyn std::error::Error>>(())
 //! ```
@@ -38,6 +44,7 @@ pub mod library;
 pub mod plot;
 pub mod reference;
 pub mod tables;
+pub mod transmission;
 pub mod words;
 
 pub use answers::{NoAnswer, Part, Refusal, Totals, Verdict};

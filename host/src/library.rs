@@ -5,11 +5,23 @@
 use crate::boundary as archives_or_reference;
 #[cfg(not(proved))]
 use crate::reference as archives_or_reference;
+use crate::transmission::Entries;
 use crate::{Decimal, FieldRead, NoAnswer, Part, Verdict};
 
 /// Every call, in the order of this module.
-pub const CALLS: [&str; 8] =
-    ["judge", "value", "heading", "unit", "passage", "canonical_copy", "read_number", "write_number"];
+pub const CALLS: [&str; 11] = [
+    "judge",
+    "value",
+    "heading",
+    "unit",
+    "passage",
+    "canonical_copy",
+    "read_number",
+    "write_number",
+    "judge_file",
+    "entry_length",
+    "copy_file",
+];
 
 /// The calls that the archives of proved functions answer in this build.
 pub fn proved() -> &'static [&'static str] {
@@ -20,9 +32,10 @@ pub fn proved() -> &'static [&'static str] {
 }
 
 /// The paths of the archives that are linked, if they are.
-pub fn archives() -> Option<[String; 2]> {
+pub fn archives() -> Option<[String; 4]> {
     let folder = option_env!("X4_LINKED").filter(|_| cfg!(proved))?;
-    Some(["exports", "exports_questions"].map(|name| format!("{folder}/libx4_{name}.a")))
+    let crates = ["exports", "exports_questions", "exports_files", "exports_file_copies"];
+    Some(crates.map(|name| format!("{folder}/libx4_{name}.a")))
 }
 
 /// Who answers, in words.
@@ -72,4 +85,27 @@ pub fn read_number(field: &[u8]) -> Result<FieldRead, NoAnswer> {
 /// Writes the canonical field of a value into eleven bytes. Refused, it stores nothing.
 pub fn write_number(decimal: Decimal, buffer: &mut [u8]) -> Result<(), NoAnswer> {
     archives_or_reference::write_number(decimal, buffer)
+}
+
+/// Judges one transmission: TRANS, one or more entries, ENDTRANS (M-100). Records and totals are those of the whole,
+/// and a refusal inside an entry has its ordinal.
+pub fn judge_file(file: &[u8]) -> Verdict {
+    archives_or_reference::judge_file(file)
+}
+
+/// How many bytes the entry has that begins with a byte of a transmission: from ENTRY to the first ENDENTRY, 20,000
+/// records at the most. 0 where none begins there. No rule is made.
+pub fn entry_length(file: &[u8], at: usize) -> usize {
+    archives_or_reference::entry_length(file, at)
+}
+
+/// The entries of a transmission as parts of it, each with its first byte: all of them where it is accepted.
+pub fn entries(file: &[u8]) -> Entries<'_> {
+    Entries::of(file)
+}
+
+/// Writes the canonical copy of a transmission to the front of the buffer: TRANS and ENDTRANS as they are, each entry
+/// its own copy. Refused, it stores nothing.
+pub fn copy_file(file: &[u8], buffer: &mut [u8]) -> Result<(), NoAnswer> {
+    archives_or_reference::copy_file(file, buffer)
 }

@@ -41,6 +41,8 @@ pub type Lines = Vec<Vec<FieldRead>>;
 /// A COMMON or DATA section.
 #[derive(Clone, Debug, PartialEq, Eq)]
 pub struct Table {
+    /// The entry of a transmission that it is in, from 1; 0 for a single entry.
+    pub entry: usize,
     /// Accession and number of its subentry, such as `90001002`.
     pub subentry: String,
     /// `COMMON` or `DATA`.
@@ -62,11 +64,23 @@ pub fn tables(entry: &[u8]) -> Result<Vec<Table>, NoAnswer> {
         let number = count(&owner[5..]) as u32;
         for (section, name) in [(COMMON, "COMMON"), (DATA, "DATA")] {
             if let Some((columns, lines)) = table(entry, number, section)? {
-                tables.push(Table { subentry: written(owner), section: name, columns, lines });
+                tables.push(Table { entry: 0, subentry: written(owner), section: name, columns, lines });
             }
         }
     }
     Ok(tables)
+}
+
+/// All tables of a transmission, entry by entry.
+pub fn file_tables(file: &[u8]) -> Result<Vec<Table>, NoAnswer> {
+    if let Verdict::Refused(refusal) = library::judge_file(file) {
+        return Err(NoAnswer { number: 31, entry: Some(refusal) });
+    }
+    let mut all = Vec::new();
+    for (index, (_, entry)) in library::entries(file).enumerate() {
+        all.extend(tables(entry)?.into_iter().map(|table| Table { entry: index + 1, ..table }));
+    }
+    Ok(all)
 }
 
 /// The accession and number of each subentry: all its records have them in columns 67-74.
@@ -127,6 +141,8 @@ const DIGITS: &str = "digits";
 /// One row of comma-separated values.
 #[derive(Clone, Debug, PartialEq, Eq)]
 pub struct Row {
+    /// The entry of a transmission that it is of, from 1; 0 for a single entry, and where another program wrote it.
+    pub entry: usize,
     /// Accession and number of the subentry.
     pub subentry: String,
     /// `COMMON` or `DATA`.
@@ -141,6 +157,7 @@ impl Table {
     /// The rows of this table, with the digits behind each column where they are asked for.
     pub fn rows(&self, digits: bool) -> Vec<Row> {
         let row = |kind: String, cells: Vec<String>| Row {
+            entry: self.entry,
             subentry: self.subentry.clone(),
             section: self.section.to_string(),
             kind,
@@ -196,7 +213,7 @@ pub fn from_csv(text: &str) -> Result<Vec<Row>, String> {
         if !line_number && !["heading", "pointer", "unit"].contains(&kind.as_str()) {
             return Err(format!("line {at}: expected heading, pointer, unit or a line number, found '{kind}'"));
         }
-        rows.push(Row { subentry, section, kind, cells: fields.collect() });
+        rows.push(Row { entry: 0, subentry, section, kind, cells: fields.collect() });
     }
     Ok(rows)
 }
@@ -216,7 +233,7 @@ fn csv_fields(line: &str) -> Option<Vec<String>> {
 }
 
 /// Tables as JSON: numbers are texts, so that no reader rounds them; blank is null. With digits a value is an object of
-/// both.
+/// both. Of a transmission each table has its entry's ordinal.
 pub fn to_json(tables: &[Table], digits: bool) -> String {
     let tables = tables.iter().map(|table| {
         let columns = table.columns.iter().map(|column| {
@@ -235,12 +252,14 @@ pub fn to_json(tables: &[Table], digits: bool) -> String {
             true => object(&[("value", value(&read.value)), (DIGITS, read.digits.to_string())]),
         };
         let lines = table.lines.iter().map(|line| array(line.iter().map(cell)));
-        object(&[
+        let own = [
             ("subentry", text(&table.subentry)),
             ("section", text(table.section)),
             ("columns", array(columns)),
             ("lines", array(lines)),
-        ])
+        ];
+        let entry = (table.entry > 0).then(|| ("entry", table.entry.to_string()));
+        object(&entry.into_iter().chain(own).collect::<Vec<_>>())
     });
     array(tables)
 }

@@ -4,10 +4,10 @@
 //! | bits of the word | |
 //! |---|---|
 //! | 0-7 | the paper's number; 0 answered |
-//! | 8-15 | the entry's refusal, if it is refused |
+//! | 8-15 | the refusal of the entry or transmission, if it is refused |
 //! | 16-23 | its column |
 //! | 24-47 | its record |
-//! | 48-63 | zeros |
+//! | 48-63 | the ordinal of the entry in a transmission; 0 for a single entry |
 //!
 //! A value is kind (0 blank, 1 number), whether it is below zero, coefficient, power of ten in two's complement, the
 //! count of digits written, and three zeros; a part is first byte, length and pointer; the totals are subentries,
@@ -16,7 +16,7 @@
 use crate::{Decimal, FieldRead, NoAnswer, Part, Refusal, Totals, Value, Verdict};
 
 /// The version of the interface that this module takes apart.
-pub const VERSION: u32 = 3;
+pub const VERSION: u32 = 4;
 
 /// Answered, or why not.
 pub fn answered(word: u64) -> Result<(), NoAnswer> {
@@ -26,10 +26,11 @@ pub fn answered(word: u64) -> Result<(), NoAnswer> {
     }
 }
 
-/// The entry's refusal, if there is one.
+/// The refusal of the entry or transmission, if there is one.
 fn entry_refusal(word: u64) -> Option<Refusal> {
-    let [number, column, record] = [word >> 8 & 0xff, word >> 16 & 0xff, word >> 24 & 0xff_ffff].map(|n| n as u32);
-    (number != 0).then_some(Refusal { number, record, column })
+    let rooms = [word >> 8 & 0xff, word >> 16 & 0xff, word >> 24 & 0xff_ffff, word >> 48];
+    let [number, column, record, ordinal] = rooms.map(|n| n as u32);
+    (number != 0).then_some(Refusal { number, record, column, ordinal })
 }
 
 /// What a verdict's word and totals say.
@@ -61,13 +62,15 @@ mod tests {
 
     #[test]
     fn rooms_are_where_the_table_says() {
-        let refusal = Refusal { number: 17, record: 20_001, column: 81 };
-        let beside = (17 << 8) + (81 << 16) + (20_001 << 24);
+        let refusal = Refusal { number: 17, record: 200_001, column: 81, ordinal: 33_333 };
+        let beside = (17 << 8) + (81 << 16) + (200_001 << 24) + (33_333 << 48);
         assert_eq!(answered(31 + beside), Err(NoAnswer { number: 31, entry: Some(refusal) }));
         assert_eq!((answered(0), answered(37)), (Ok(()), Err(NoAnswer::numbered(37))));
         assert_eq!(verdict(17 + beside, [7; 4]), Verdict::Refused(refusal));
-        let totals = Totals { subentries: 998, keywords: 19_993, lines: 20_000, numbers: 120_000 };
-        assert_eq!(verdict(0, [998, 19_993, 20_000, 120_000]), Verdict::Accepted(totals));
+        let alone = (17 << 8) + (81 << 16) + (20_001 << 24);
+        assert_eq!(verdict(17 + alone, [7; 4]), Verdict::Refused(Refusal::new(17, 20_001, 81)));
+        let totals = Totals { subentries: 66_665, keywords: 199_930, lines: 200_000, numbers: 1_200_000 };
+        assert_eq!(verdict(0, [66_665, 199_930, 200_000, 1_200_000]), Verdict::Accepted(totals));
         let number = |negative, coefficient, power, digits| {
             let value = Value::Number(Decimal { negative, coefficient, power });
             FieldRead { value, digits }

@@ -154,7 +154,7 @@ fn above_a_refusal_only_the_end_is_refused() {
             for by in BOTH {
                 match by.judge(above) {
                     Verdict::Refused(refusal) => {
-                        assert_eq!(refusal, Refusal { number: 16, record: records + 1, column: 0 });
+                        assert_eq!(refusal, Refusal::new(16, records + 1, 0));
                     }
                     Verdict::Accepted(_) => {
                         assert!(records + 1 == due.record && (2..=4).contains(&due.number), "{records}: {due}");

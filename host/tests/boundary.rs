@@ -1,10 +1,10 @@
-//! Numbers and verdicts asked from C, by `include/x4.h`, and from Fortran, by `fortran/x4.f90`.
+//! Numbers, verdicts and transmissions asked from C, by `include/x4.h`, and from Fortran, by `fortran/x4.f90`.
 
 mod common;
 
 use common::{compiled, say, C};
 use glockenbeacon::generate::{self, Random};
-use glockenbeacon::{library, reference, Value};
+use glockenbeacon::{library, reference, Value, Verdict};
 use std::io::Write;
 use std::path::Path;
 use std::process::{Command, Stdio};
@@ -124,6 +124,69 @@ fn fortran_programs_get_the_same_verdicts() {
     let arguments = ["-std=f2008", "-O2", "-Wall", "-Werror", "-J", modules];
     if let Some(program) = compiled("gfortran", "judge-f", &arguments, &["fortran/x4.f90", "fortran/judge.f90"]) {
         verdicts_agree(&program, "f");
+    }
+}
+
+/// Transmissions: damaged by each cause, good, at the limits, and none at all.
+fn files() -> Vec<Vec<u8>> {
+    let mut files = vec![Vec::new(), common::transmission(&[&common::sample()])];
+    for cause in 0..generate::FILE_CAUSES.len() {
+        files.push(generate::damaged_file(&mut Random::seeded(cause as u64), cause).0.bytes());
+    }
+    files.extend((0..40).map(|seed| generate::file_input(&mut Random::seeded(1_000 + seed))));
+    files.extend(generate::file_limits());
+    files
+}
+
+/// What both programs print of a transmission, by the reference.
+fn file_in_numbers(file: &[u8]) -> String {
+    let said = |verdict: Verdict| {
+        let numbers = verdict.numbers().into_iter().chain([verdict.ordinal()]).map(|number| number.to_string());
+        numbers.collect::<Vec<_>>().join(" ") + "\n"
+    };
+    let mut words = said(reference::judge_file(file));
+    let mut at = 81;
+    loop {
+        let length = reference::entry_length(file, at);
+        if length == 0 {
+            break;
+        }
+        words += &format!("{at} {length} {}", said(reference::judge(&file[at..at + length])));
+        at += length;
+    }
+    let mut copy = vec![b'#'; file.len()];
+    let answer = reference::copy_file(file, &mut copy);
+    let sum = copy.iter().fold(0, |sum: u32, &byte| sum.wrapping_mul(65599).wrapping_add(byte.into()));
+    let number = answer.map_or_else(|refused| refused.number, |()| 0);
+    let beside = answer.err().and_then(|refused| refused.entry);
+    let beside = beside.map_or([0; 4], |beside| [beside.number, beside.record, beside.column, beside.ordinal]);
+    format!("{words}{sum} {number} {}\n", beside.map(|number| number.to_string()).join(" "))
+}
+
+fn files_agree(program: &Path, name: &str) {
+    for (index, file) in files().iter().enumerate() {
+        let path = Path::new(env!("CARGO_TARGET_TMPDIR")).join(format!("{name}.x4"));
+        std::fs::write(&path, file).unwrap();
+        let input = std::fs::File::open(&path).unwrap();
+        let output = Command::new(program).arg(&path).stdin(input).output().unwrap();
+        assert_eq!(String::from_utf8_lossy(&output.stdout), file_in_numbers(file), "transmission {index}");
+    }
+}
+
+#[test]
+fn c_programs_get_the_same_transmissions() {
+    if let Some(program) = compiled("gcc", "files-c", &C, &["tests/c/files.c"]) {
+        files_agree(&program, "files-c");
+    }
+}
+
+#[test]
+fn fortran_programs_get_the_same_transmissions() {
+    let modules = concat!(env!("CARGO_TARGET_TMPDIR"), "/files");
+    std::fs::create_dir_all(modules).unwrap();
+    let arguments = ["-std=f2008", "-O2", "-Wall", "-Werror", "-J", modules];
+    if let Some(program) = compiled("gfortran", "files-f", &arguments, &["fortran/x4.f90", "fortran/files.f90"]) {
+        files_agree(&program, "files-f");
     }
 }
 

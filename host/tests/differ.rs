@@ -2,16 +2,18 @@
 
 mod common;
 
-use common::flags;
+use common::{end_trans, flags, sample, transmission};
 use glockenbeacon::differ::{Implementation, Library, Pair, Reference};
+use glockenbeacon::generate::{self, Random};
 use glockenbeacon::reference::may_repeat;
 use glockenbeacon::reference::record::{permitted, Name};
-use glockenbeacon::reference::tree::{Cell, Subentry, Tree};
+use glockenbeacon::reference::tree::{Cell, Role, Subentry, Tree};
 use glockenbeacon::{reference, Decimal, FieldRead, NoAnswer, Part, Refusal, Totals, Value, Verdict};
 
 /// The short run: a long one is `cargo run --release --bin differ`.
 const SEED: u64 = 7;
 const ENTRIES: u64 = 3_000;
+const FILES: u64 = 1_000;
 
 #[test]
 fn the_library_and_the_reference_agree() {
@@ -22,13 +24,30 @@ fn the_library_and_the_reference_agree() {
     outcome.unwrap_or_else(|difference| panic!("{difference}"));
     let counts = pair.counts;
     assert!((0..=17).all(|number| counts.verdicts.of(number) >= 5), "every refusal occurs:\n{counts}");
-    let at_record = |number: &u32| Refusal { number: *number, record: 1, column: 1 }.at_record();
+    let at_record = |number: &u32| Refusal::new(*number, 1, 1).at_record();
     assert!((1..=17).filter(at_record).all(|number| counts.below.of(number) >= 5), "with others below:\n{counts}");
     for number in [0, 31, 32, 33, 34, 35, 36, 37] {
         assert!(counts.answers.of(number) >= 100, "every answer occurs:\n{counts}");
     }
     assert!([0, 15, 40].iter().all(|&number| counts.readings.of(number) >= 1_000), "{counts}");
     assert!([0, 40, 41].iter().all(|&number| counts.writings.of(number) >= 1_000), "{counts}");
+}
+
+/// Transmissions: generated ones, those at the limits, and each byte of TRANS and ENDTRANS changed.
+#[test]
+fn the_library_and_the_reference_agree_on_transmissions() {
+    let mut pair = Pair::new(&Library, &Reference);
+    let file = generate::transmission(&mut Random::seeded(SEED)).bytes();
+    let outcome = pair.files(SEED, FILES).and_then(|()| pair.given_files(&generate::file_limits()));
+    let outcome = outcome.and_then(|()| pair.file_bytes(&file, b" 019AZa.-\n#"));
+    let outcome = outcome.and_then(|()| pair.file_bytes(&transmission(&[&sample()]), b" 019AZa.-\n#"));
+    outcome.unwrap_or_else(|difference| panic!("{difference}"));
+    let counts = pair.counts;
+    assert!([0, 1, 2, 3, 4, 7, 8, 16].iter().all(|&number| counts.files.of(number) >= 20), "{counts}");
+    assert!([2, 3, 4, 5, 6, 7, 8, 9].iter().all(|&number| counts.inside.of(number) >= 1), "{counts}");
+    assert!((2..=4).all(|number| counts.files_below.of(number) >= 20), "{counts}");
+    assert!([0, 31, 37].iter().all(|&number| counts.file_copies.of(number) >= 20), "{counts}");
+    assert!(counts.begins.iter().all(|&times| times >= 1_000), "{counts}");
 }
 
 /// The bytes that stand in the place of each byte of the sample with flags.
@@ -341,7 +360,7 @@ impl Implementation for TooNarrow {
             all.windows(2).find(equal).map(|pair| (pair[1].record as u32 + 1, pair[1].first_column() as u32))
         });
         match (verdict, refused) {
-            (Verdict::Accepted(_), Some((record, column))) => Verdict::Refused(Refusal { number: 13, record, column }),
+            (Verdict::Accepted(_), Some((record, column))) => Verdict::Refused(Refusal::new(13, record, column)),
             _ => verdict,
         }
     }
@@ -392,7 +411,7 @@ impl Implementation for LineFeedsFirst {
         let missing = entry.chunks(81).position(|record| record.last() != Some(&b'\n'));
         match (verdict, missing) {
             (Verdict::Refused(Refusal { number: 2..=17, .. }), Some(at)) => {
-                Verdict::Refused(Refusal { number: 2, record: at as u32 + 1, column: 81 })
+                Verdict::Refused(Refusal::new(2, at as u32 + 1, 81))
             }
             _ => verdict,
         }
@@ -408,7 +427,7 @@ impl Implementation for EndFirst {
         let ends = entry.chunks(81).any(|record| record.starts_with(b"ENDENTRY   "));
         match verdict {
             Verdict::Refused(refusal) if refusal.at_record() && !ends => {
-                Verdict::Refused(Refusal { number: 16, record: (entry.len() / 81) as u32 + 1, column: 0 })
+                Verdict::Refused(Refusal::new(16, (entry.len() / 81) as u32 + 1, 0))
             }
             _ => verdict,
         }
@@ -424,7 +443,7 @@ impl Implementation for LastFault {
         let Some(refusal) = verdict.refusal().filter(Refusal::at_record) else { return verdict };
         let wrong = |&at: &usize| at % 81 < 80 && !permitted(entry[at]);
         match (81 * refusal.record as usize..entry.len()).rfind(wrong) {
-            Some(at) => Verdict::Refused(Refusal { number: 3, record: at as u32 / 81 + 1, column: at as u32 % 81 + 1 }),
+            Some(at) => Verdict::Refused(Refusal::new(3, at as u32 / 81 + 1, at as u32 % 81 + 1)),
             None => verdict,
         }
     }
@@ -462,6 +481,302 @@ fn what_stands_below_finds_slips() {
         let words = outcome.expect_err(name).words;
         assert!(words.starts_with("judge with other records below: both, and what is due\n"), "{name}: {words}");
     }
+}
+
+/// A verdict on a transmission that is otherwise than it should be.
+struct FileSlip(fn(&[u8], Verdict) -> Verdict);
+
+impl Implementation for FileSlip {
+    fn judge_file(&self, file: &[u8]) -> Verdict {
+        (self.0)(file, reference::judge_file(file))
+    }
+}
+
+/// The record of a refusal, from its first byte on.
+fn at<'f>(file: &'f [u8], refusal: &Refusal) -> &'f [u8] {
+    file.get(81 * (refusal.record.max(1) as usize - 1)..).unwrap_or_default()
+}
+
+/// How many records stand before an entry of a transmission, and how many entries before a record.
+fn before(file: &[u8], ordinal: u32) -> u32 {
+    let mut first = 81;
+    (1..ordinal).for_each(|_| first += reference::entry_length(file, first));
+    first as u32 / 81
+}
+
+fn entries_before(file: &[u8], record: u32) -> u32 {
+    (1..)
+        .take_while(|&ordinal| before(file, ordinal) < record && before(file, ordinal) < before(file, ordinal + 1))
+        .count() as u32
+}
+
+/// Changes a refusal, where it is one.
+fn refusing(verdict: Verdict, change: impl Fn(Refusal) -> Refusal) -> Verdict {
+    match verdict {
+        Verdict::Refused(refusal) => Verdict::Refused(change(refusal)),
+        accepted => accepted,
+    }
+}
+
+/// Accepts what is refused in some way.
+fn accepting(verdict: Verdict, wrong: impl Fn(&Refusal) -> bool) -> Verdict {
+    match verdict {
+        Verdict::Refused(refusal) if wrong(&refusal) => Verdict::Accepted(Totals::default()),
+        verdict => verdict,
+    }
+}
+
+/// Whether a refusal is the one of an entry's 20,001st record.
+fn too_long(file: &[u8], refusal: &Refusal) -> bool {
+    refusal.ordinal > 0 && refusal.record == before(file, refusal.ordinal) + 20_001
+}
+
+/// Whether a refusal inside an entry is at its first record.
+fn at_entry(file: &[u8], refusal: &Refusal) -> bool {
+    refusal.ordinal > 0 && refusal.record == before(file, refusal.ordinal) + 1
+}
+
+/// The readings of M-100 taken otherwise, each found among transmissions.
+#[test]
+fn slips_in_transmissions_are_found() {
+    let slips: [(&str, FileSlip); 17] = [
+        (
+            "ordinal one too many",
+            FileSlip(|_, v| refusing(v, |r| Refusal { ordinal: r.ordinal + r.ordinal.min(1), ..r })),
+        ),
+        ("ordinal from 0", FileSlip(|_, v| refusing(v, |r| Refusal { ordinal: r.ordinal.saturating_sub(1), ..r }))),
+        (
+            "record from the entry's start",
+            FileSlip(|file, v| {
+                refusing(v, |r| Refusal {
+                    record: r.record - if r.ordinal > 0 { before(file, r.ordinal) } else { 0 },
+                    ..r
+                })
+            }),
+        ),
+        (
+            "totals of the last entry only",
+            FileSlip(|file, v| match v {
+                Verdict::Accepted(_) => {
+                    let last = (1..).take_while(|&n| before(file, n) < before(file, n + 1)).last().unwrap_or(1);
+                    let first = 81 * before(file, last) as usize;
+                    reference::judge(&file[first..first + reference::entry_length(file, first)])
+                }
+                refused => refused,
+            }),
+        ),
+        ("20,001st record passed over", FileSlip(|file, v| accepting(v, |r| r.number == 4 && too_long(file, r)))),
+        (
+            "20,001st record by 4 before 2 and 3, or without ordinal",
+            FileSlip(|file, v| refusing(v, |r| if too_long(file, &r) { Refusal { ordinal: 0, ..r } } else { r })),
+        ),
+        (
+            "20,000th record refused",
+            FileSlip(|file, v| match (v, reference::entry_length(file, 81)) {
+                (Verdict::Accepted(_), 1_620_000) => {
+                    Verdict::Refused(Refusal { number: 4, record: 20_001, column: 1, ordinal: 1 })
+                }
+                _ => v,
+            }),
+        ),
+        (
+            "a record between entries with the ordinal of the next",
+            FileSlip(|file, v| {
+                refusing(v, |r| match (r.number, r.ordinal) {
+                    (2..=4, 0) if r.record > 1 => Refusal { ordinal: entries_before(file, r.record) + 1, ..r },
+                    _ => r,
+                })
+            }),
+        ),
+        (
+            "2 and 3 on ENTRY without ordinal",
+            FileSlip(|file, v| {
+                refusing(v, |r| match r.number {
+                    2 | 3 if at_entry(file, &r) => Refusal { ordinal: 0, ..r },
+                    _ => r,
+                })
+            }),
+        ),
+        (
+            "7 on ENTRY without ordinal",
+            FileSlip(|file, v| {
+                refusing(v, |r| match r.number {
+                    5..=7 if at_entry(file, &r) => Refusal { ordinal: 0, ..r },
+                    _ => r,
+                })
+            }),
+        ),
+        (
+            "ENTRY or ENDTRANS in an open entry without ordinal",
+            FileSlip(|file, v| {
+                let named = |r: &Refusal| [b"ENTRY   ", b"ENDTRANS"].iter().any(|name| at(file, r).starts_with(*name));
+                refusing(v, |r| if r.number == 4 && named(&r) { Refusal { ordinal: 0, ..r } } else { r })
+            }),
+        ),
+        (
+            "ordinal beside 16",
+            FileSlip(|file, v| {
+                refusing(v, |r| match r.number {
+                    16 => Refusal { ordinal: entries_before(file, r.record), ..r },
+                    _ => r,
+                })
+            }),
+        ),
+        (
+            "count of ENDTRANS not looked at",
+            FileSlip(|file, v| accepting(v, |r| r.number == 8 && at(file, r).starts_with(b"ENDTRANS"))),
+        ),
+        (
+            "records behind ENDTRANS passed over",
+            FileSlip(|file, v| {
+                let end = |r: &Refusal| {
+                    r.record > 1 && at(file, &Refusal { record: r.record - 1, ..*r }).starts_with(b"ENDTRANS")
+                };
+                accepting(v, |r| r.number == 4 && r.ordinal == 0 && end(r))
+            }),
+        ),
+        (
+            "a file without entries",
+            FileSlip(|file, v| {
+                accepting(v, |r| r.number == 4 && r.record == 2 && at(file, r).starts_with(b"ENDTRANS   "))
+            }),
+        ),
+        (
+            "columns 67-79 of TRANS judged",
+            FileSlip(|file, v| match v {
+                Verdict::Accepted(_) if file[66..79] != *b"             " => Verdict::Refused(Refusal::new(5, 1, 67)),
+                _ => v,
+            }),
+        ),
+        (
+            "1,620,000 bytes for a file, too",
+            FileSlip(|file, v| match file.len() {
+                0..=1_620_000 => v,
+                _ => Verdict::Refused(Refusal::new(1, 0, 0)),
+            }),
+        ),
+    ];
+    let limits = generate::file_limits();
+    for (name, slip) in &slips {
+        let mut pair = Pair::new(slip, &Reference);
+        let outcome = pair.files(SEED, FILES).and_then(|()| pair.given_files(&limits));
+        assert!(outcome.is_err(), "{name}: goes unseen");
+    }
+}
+
+/// Parts and copies of a transmission that are otherwise than they should be.
+struct PartSlip(fn(&[u8], usize) -> usize);
+
+impl Implementation for PartSlip {
+    fn entry_length(&self, file: &[u8], at: usize) -> usize {
+        (self.0)(file, at)
+    }
+}
+
+struct CopySlip(fn(&[u8], &mut [u8]) -> Result<(), NoAnswer>);
+
+impl Implementation for CopySlip {
+    fn copy_file(&self, file: &[u8], buffer: &mut [u8]) -> Result<(), NoAnswer> {
+        (self.0)(file, buffer)
+    }
+}
+
+/// Where a record with this name begins, from a byte on.
+fn next(file: &[u8], at: usize, name: &str) -> Option<usize> {
+    (at..file.len()).step_by(81).find(|&at| file[at..].starts_with(format!("{name:11}").as_bytes()))
+}
+
+#[test]
+fn slips_in_parts_and_copies_are_found() {
+    let slips: [(&str, &dyn Implementation); 8] = [
+        (
+            "an entry up to the next ENTRY or ENDTRANS",
+            &PartSlip(|file, at| match reference::entry_length(file, at) {
+                0 => 0,
+                _ => next(file, at + 81, "ENTRY").or(next(file, at, "ENDTRANS")).unwrap_or(at) - at,
+            }),
+        ),
+        (
+            "an entry without its end",
+            &PartSlip(|file, at| match (reference::entry_length(file, at), file.get(at..)) {
+                (0, Some(rest)) if rest.starts_with(b"ENTRY      ") => rest.len() / 81 * 81,
+                (length, _) => length,
+            }),
+        ),
+        (
+            "more than 20,000 records",
+            &PartSlip(|file, at| match (reference::entry_length(file, at), file.get(at..)) {
+                (0, Some(rest)) if rest.starts_with(b"ENTRY      ") => {
+                    next(file, at, "ENDENTRY").map_or(0, |last| last + 81 - at)
+                }
+                (length, _) => length,
+            }),
+        ),
+        ("the last record left out", &PartSlip(|file, at| reference::entry_length(file, at).saturating_sub(81))),
+        ("TRANS is no entry", &PartSlip(|file, at| reference::entry_length(file, at.max(81)))),
+        (
+            "a plain duplicate",
+            &CopySlip(|file, buffer| {
+                reference::copy_file(file, buffer)?;
+                buffer[..file.len()].copy_from_slice(file);
+                Ok(())
+            }),
+        ),
+        (
+            "the count of ENDTRANS without its zeros",
+            &CopySlip(|file, buffer| {
+                reference::copy_file(file, buffer)?;
+                let first = file.len() - 70;
+                let digits = file[first..first + 11].iter().position(|&byte| byte != b' ' && byte != b'0').unwrap_or(0);
+                buffer[first..first + digits].fill(b' ');
+                Ok(())
+            }),
+        ),
+        (
+            "stored before it is refused",
+            &CopySlip(|file, buffer| {
+                let common = file.len().min(buffer.len());
+                let answer = reference::copy_file(file, buffer);
+                if answer.is_err() {
+                    buffer[..common].copy_from_slice(&file[..common]);
+                }
+                answer
+            }),
+        ),
+    ];
+    let limits = generate::file_limits();
+    for (name, slip) in slips {
+        let mut pair = Pair::new(slip, &Reference);
+        assert!(pair.files(SEED, FILES).and_then(|()| pair.given_files(&limits)).is_err(), "{name}: goes unseen");
+    }
+}
+
+/// TRANS and ENDTRANS taken for keywords in BIB, and ENDTRANS for a heading, a unit or a value.
+struct FourteenNames(fn(Role) -> bool);
+
+impl Implementation for FourteenNames {
+    fn judge(&self, entry: &[u8]) -> Verdict {
+        accepting(reference::judge(entry), |refusal| {
+            let named = refusal.number == 4
+                && [&b"TRANS      "[..], b"ENDTRANS   "].iter().any(|name| at(entry, refusal).starts_with(name));
+            named && Tree::of(entry).roles.get(refusal.record as usize - 1).is_some_and(|&role| (self.0)(role))
+        })
+    }
+}
+
+#[test]
+fn two_names_overlooked_are_found() {
+    let slips = [
+        FourteenNames(|role| role == Role::Text),
+        FourteenNames(|role| matches!(role, Role::Heading(_))),
+        FourteenNames(|role| matches!(role, Role::Unit(_))),
+        FourteenNames(|role| matches!(role, Role::Values(_))),
+    ];
+    for (place, slip) in slips.iter().enumerate() {
+        assert!(Pair::new(slip, &Reference).entries(SEED, ENTRIES).is_err(), "{place}: goes unseen");
+    }
+    // A transmission without entries is one of the limits, too.
+    assert_eq!(reference::judge_file(&[common::trans(), end_trans(0)].concat()).numbers()[..3], [4, 2, 1]);
 }
 
 #[test]

@@ -135,7 +135,7 @@ impl Reading {
             }
         }
         let (record, column) = faults.into_iter().min()?;
-        Some(Refusal { number: 17, record: record as u32 + 1, column: column as u32 })
+        Some(Refusal::new(17, record as u32 + 1, column as u32))
     }
 }
 

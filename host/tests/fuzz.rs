@@ -34,5 +34,9 @@ fn mutated_entries_are_answered() {
     for refusal in [" 0:", " 31:", " 32:", " 33:", " 34:", " 35:", " 36:", " 37:"] {
         assert!(words.contains(refusal), "every answer occurs: {words}");
     }
+    let files = words.split("transmissions by refusal").nth(1).unwrap_or_default();
+    for refusal in [" 0:", " 1:", " 2:", " 3:", " 4:", " 5:", " 7:", " 8:"] {
+        assert!(files.contains(refusal), "transmissions of every kind occur: {words}");
+    }
     say(words.trim_end());
 }

@@ -2,8 +2,9 @@
 //! gives for it, and canonical copies have the properties that the paper asks for.
 
 use glockenbeacon::explain::{explain, shown};
-use glockenbeacon::generate::{self, damage, damaged, Kind, Random, Shape, CAUSES, SHAPES};
-use glockenbeacon::library::{canonical_copy, heading, judge, read_number, unit, value, write_number};
+use glockenbeacon::generate::{self, damage, damaged, damaged_file, Kind, Random, Shape, CAUSES, FILE_CAUSES, SHAPES};
+use glockenbeacon::library::{canonical_copy, copy_file, heading, judge, read_number, unit, value, write_number};
+use glockenbeacon::library::{entries, judge_file};
 use glockenbeacon::reference::flags::{Codes, FlagHeading};
 use glockenbeacon::reference::number::{canonical_text, read, Reading};
 use glockenbeacon::reference::tree::{Cell, Subentry, Tree};
@@ -174,6 +175,64 @@ fn every_cause_gets_its_refusal() {
     assert!(numbers[1..].iter().all(|&times| times >= 50), "{numbers:?}");
 }
 
+/// Valid transmissions are accepted with the totals of their entries, whatever the order of these; the entries are
+/// their parts, and the copy is the copies in place.
+#[test]
+fn valid_transmissions_are_accepted_and_copied() {
+    let mut random = Random::seeded(SEED + 20);
+    let mut sizes = [0; 7];
+    for _ in 0..200 {
+        let mut parts = generate::transmission(&mut random);
+        let file = parts.bytes();
+        let mut sums = [0; 7];
+        for sheet in &parts.entries {
+            sums.iter_mut().zip(judge(&sheet.bytes).numbers()).for_each(|(sum, number)| *sum += number);
+        }
+        let verdict = judge_file(&file);
+        assert_eq!((verdict.numbers(), verdict.ordinal()), (sums, 0));
+        let own: Vec<&[u8]> = parts.entries.iter().map(|sheet| sheet.bytes.as_slice()).collect();
+        assert_eq!(entries(&file).map(|(_, entry)| entry).collect::<Vec<_>>(), own);
+        let mut copy = vec![b'#'; file.len() + 3];
+        copy_file(&file, &mut copy).expect("an accepted transmission is copied");
+        let mut due = parts.trans.clone();
+        for entry in own {
+            let mut one = entry.to_vec();
+            canonical_copy(entry, &mut one).expect("an accepted entry is copied");
+            due.extend(one);
+        }
+        assert!(copy == [&due[..], &parts.end, b"###"].concat(), "the copies in place");
+        assert_eq!(judge_file(&copy[..file.len()]), verdict, "the copy is accepted, with the same totals");
+        parts.entries.reverse();
+        assert_eq!(judge_file(&parts.bytes()), verdict, "the order of entries plays no part");
+        sizes[parts.entries.len()] += 1;
+    }
+    assert!([1, 2, 3, 4, 6].iter().all(|&entries| sizes[entries] >= 10), "{sizes:?}");
+}
+
+#[test]
+fn every_cause_in_a_transmission_gets_its_refusal() {
+    let mut random = Random::seeded(SEED + 21);
+    let (mut seen, mut numbers, mut ordinals) = (vec![0; FILE_CAUSES.len()], [0; 18], BTreeMap::new());
+    for round in 0..2_000 {
+        // Damage to an entry has many causes of its own.
+        let cause = if round % 2 == 0 { FILE_CAUSES.len() - 1 } else { round / 2 % FILE_CAUSES.len() };
+        let (parts, Some(due)) = damaged_file(&mut random, cause) else { continue };
+        let file = parts.bytes();
+        let text = String::from_utf8_lossy(&file).to_string();
+        assert_eq!(judge_file(&file), Verdict::Refused(due), "{} (round {round}):\n{text}", FILE_CAUSES[cause].0);
+        let mut copy = vec![b'#'; file.len()];
+        let answer = copy_file(&file, &mut copy).expect_err("a refused transmission has no copy");
+        assert_eq!((answer.number, answer.entry), (31, Some(due)));
+        assert!(copy.iter().all(|&byte| byte == b'#'), "a refused call stores nothing");
+        seen[cause] += 1;
+        numbers[due.number as usize] += 1;
+        *ordinals.entry(due.ordinal).or_insert(0) += 1;
+    }
+    assert!(seen.iter().all(|&times| times >= 30), "{seen:?}");
+    assert!(numbers[1..].iter().all(|&times| times >= 5), "{numbers:?}");
+    assert!((0..=6).all(|ordinal| ordinals.get(&ordinal).is_some_and(|&times| times >= 5)), "{ordinals:?}");
+}
+
 #[test]
 fn refused_entries_are_not_copied() {
     let mut random = Random::seeded(SEED + 2);
@@ -201,7 +260,7 @@ fn random_bytes_are_refused() {
         let bytes = generate::random_bytes(&mut random);
         let whole = !bytes.is_empty() && bytes.len() % 81 == 0;
         match judge(&bytes) {
-            Verdict::Refused(Refusal { number: 1, record: 0, column: 0 }) => assert!(!whole),
+            Verdict::Refused(Refusal { number: 1, record: 0, column: 0, ordinal: 0 }) => assert!(!whole),
             Verdict::Refused(refusal) => assert!(whole && refusal.record >= 1),
             Verdict::Accepted(_) => panic!("accepted: {bytes:?}"),
         }
@@ -329,7 +388,7 @@ fn an_expectation_is_never_empty() {
     for number in [8, 10, 12, 13, 15, 17] {
         for record in 1..=30 {
             for column in [1, 12, 23, 34, 45, 56] {
-                let words = explain(entry, &Refusal { number, record, column });
+                let words = explain(entry, &Refusal::new(number, record, column));
                 assert!(!words.expected.is_empty(), "{number} on record {record}, column {column}");
             }
         }

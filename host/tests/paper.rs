@@ -500,7 +500,7 @@ fn values_of_the_sample() {
     ] {
         assert_eq!(value(&bytes, subentry, section, line, column), refused(refusal));
     }
-    let entry = Some(Refusal { number: 16, record: 26, column: 0 });
+    let entry = Some(Refusal::new(16, 26, 0));
     assert_eq!(value(&bytes[..25 * 81], 9, 9, 9, 9), Err(NoAnswer { number: 31, entry }));
     let absent = replaced("ENDENTRY             2", "NOSUBENT      90001003   20240105\nENDENTRY             3");
     assert_eq!(value(&absent, 3, DATA, 1, 1), refused(32), "NOSUBENT has no tables");
@@ -730,6 +730,6 @@ fn the_copy_of_the_sample() {
     let mut short = vec![b'#'; bytes.len() - 1];
     assert_eq!(canonical_copy(&bytes, &mut short), refused(37));
     assert!(short.iter().all(|&byte| byte == b'#'));
-    let entry = Some(Refusal { number: 1, record: 0, column: 0 });
+    let entry = Some(Refusal::new(1, 0, 0));
     assert_eq!(canonical_copy(&[], &mut short), Err(NoAnswer { number: 31, entry }));
 }

@@ -2,7 +2,8 @@
 
 mod common;
 
-use common::{changed, entry, flags, replaced, sample, wide, FLAGS, SAMPLE};
+use common::{changed, end_trans, entry, flags, put, replaced, sample, trans, transmission, wide, FLAGS, SAMPLE};
+use glockenbeacon::generate::{large, Random, Shape};
 use std::io::Write;
 use std::path::PathBuf;
 use std::process::{Command, Output, Stdio};
@@ -297,13 +298,208 @@ fn several_entries_in_one_file_are_refused_clearly() {
     let words = printed(&output);
     assert!(words.starts_with("4 27 1 0 0 0 0\n"), "{words}");
     let below = |records| format!("  below:    {records} records, which cannot change this refusal\n");
-    let note = "  note:     the input holds 3 entries; one entry is judged at a time: split it\n";
+    let note =
+        "  note:     the input holds 3 entries; one entry is judged, or a transmission, with TRANS before its entries \
+                and ENDTRANS behind them\n";
     assert!(words.ends_with(&format!("{note}{}", below(51))), "{words}");
     assert_eq!(output.status.code(), Some(1));
-    let whole = [changed(1, 1, "TRANS")[..81].to_vec(), sample()].concat();
+    // Where TRANS is not spelled so, it is no transmission.
+    let mut file = transmission(&[&sample(), &sample()]);
+    put(&mut file, 1, 1, "TRANZ");
+    let words = printed(&run(&["judge"], &file));
+    assert!(
+        words.starts_with("4 1 1 0 0 0 0\n") && words.contains("  note:     the input holds 2 entries; "),
+        "{words}"
+    );
+    // A transmission of several entries has no such note.
+    let words = printed(&run(&["judge"], &[trans(), sample(), sample(), sample()].concat()));
+    assert!(words.starts_with("16 80 0 0 0 0 0 0\n") && !words.contains("note:"), "{words}");
+}
+
+/// The sample twice between TRANS and ENDTRANS, with a change: record, column, text.
+fn twice(at: usize, column: usize, text: &str) -> Vec<u8> {
+    let mut file = transmission(&[&sample(), &sample()]);
+    put(&mut file, at, column, text);
+    file
+}
+
+#[test]
+fn a_good_transmission_is_judged() {
+    let output = run(&["judge"], &twice(1, 80, " "));
+    let words = "0 0 0 4 6 4 12 0\naccepted: 2 entries, 4 subentries, 6 keywords, 4 DATA lines, 12 numbers\n";
+    assert_eq!((printed(&output).as_str(), output.status.code()), (words, Some(0)));
+    let one = printed(&run(&["judge"], &transmission(&[&sample()])));
+    assert!(one.ends_with("accepted: 1 entry, 2 subentries, 3 keywords, 2 DATA lines, 6 numbers\n"), "{one}");
+}
+
+/// The entry is named by its ordinal and accession, and the record in the transmission and in the entry. All records
+/// that the words name are counted from TRANS.
+#[test]
+fn a_bad_transmission_is_shown_with_its_entry() {
+    let output = run(&["judge"], &twice(47, 33, "1"));
+    let words = "\
+13 47 23 0 0 0 0 2
+refusal 13, entry 2, record 47, column 23: the heading is repeated where it may not be
+  47 | ANG        DATA      1DATA      1                                 9000100200008
+     |                       ^~~~~~~~~~~
+  where:    entry 2 (accession 90001), record 20 of the entry, 47 of the transmission
+  expected: a heading that is new here, as this one may not repeat in DATA; record 47, column 12 has this one
+  found:    'DATA      1'
+  note:     E-LVL, EN-RES, ..-ERR, ..-RSL and ANG.. may repeat, and in DATA FLAG and HL..; all equal ones side by side in \
+one section
+  below:    7 records, which cannot change this refusal
+";
+    assert_eq!((printed(&output).as_str(), output.status.code()), (words, Some(1)));
+    for (file, due) in [
+        (twice(32, 1, "TITLE "), "record 31 has this one\n"),
+        (twice(30, 33, "3"), "record 3 of the 3 that BIB on record 30 announces\n"),
+        (twice(46, 33, "1"), "as the 3 records of DATA on record 46 (3 columns, 1 line) end here\n"),
+        (twice(41, 22, "2"), "1 keyword in N1 of BIB on record 41, which says 2\n"),
+        (twice(43, 11, "1"), "record 42 has this one\n"),
+        (twice(30, 81, "\r"), "line 30 has a carriage return in column 81; a record has 80 columns and a line feed\n"),
+    ] {
+        let words = printed(&run(&["judge"], &file));
+        assert!(words.contains(due) && words.contains("  where:    entry 2 (accession 90001), record "), "{words}");
+    }
+    // An accession that is none is not named.
+    let words = printed(&run(&["judge"], &twice(28, 18, "x")));
+    assert!(words.contains("  where:    entry 2, record 1 of the entry, 28 of the transmission\n"), "{words}");
+}
+
+/// What is refused outside the entries, or where one has not ended: expected, found and noted.
+#[test]
+fn transmissions_are_explained() {
+    let whole = transmission(&[&sample()]);
+    let open = sample()[..25 * 81].to_vec();
+    let begun = |ordinal, record| {
+        format!("entry {ordinal} (accession 90001) begins on record {record} and has no ENDENTRY yet")
+    };
+    let long = large(&mut Random::seeded(1), Shape::Text, 20_001);
+    let cases: Vec<(Vec<u8>, &str, &str, Option<String>)> = vec![
+        (
+            whole[..100].to_vec(),
+            "1 to 200,000 records of 81 bytes each, 80 columns and a line feed",
+            "100 bytes: 1 record and 19 bytes",
+            Some("line 2 has 19 columns; a record has 80 columns and a line feed".into()),
+        ),
+        (twice(1, 18, "X"), "7 blanks and the file identifier: 4 capitals or digits", "'      XX001'", None),
+        (twice(1, 30, "13"), "3 blanks and a date YYYYMMDD, month 01-12, day 01-31", "'   20241305'", None),
+        (twice(54, 22, "."), "a count: blanks, then digits up to the last column", "'          .'", None),
+        (twice(54, 22, "3"), "2, the entries", "'          3'", None),
+        (twice(54, 70, "#"), "a blank, a letter, a digit or one of + - . ) ( * / = ' , % < > : ; ! ? &", "'#'", None),
+        (
+            [trans(), end_trans(0)].concat(),
+            "ENTRY",
+            "'ENDTRANS   '",
+            Some("a transmission has one entry at least".into()),
+        ),
+        (twice(28, 1, "X"), "ENTRY or ENDTRANS", "'XNTRY      '", None),
+        (twice(2, 1, "X"), "ENTRY", "'XNTRY      '", None),
+        ([whole.clone(), trans()].concat(), "nothing: a transmission ends with ENDTRANS", "'TRANS      '", None),
+        (trans(), "ENTRY", "the end of the input", None),
+        (whole[..27 * 81].to_vec(), "ENTRY or ENDTRANS", "the end of the input", None),
+        (
+            [trans(), sample(), open.clone()].concat(),
+            "SUBENT or NOSUBENT or ENDENTRY",
+            "the end of the input",
+            Some(begun(2, 28)),
+        ),
+        (transmission(&[&open]), "SUBENT or NOSUBENT or ENDENTRY", "'ENDTRANS   '", Some(begun(1, 2))),
+        (
+            transmission(&[&sample(), &open, &sample()]),
+            "SUBENT or NOSUBENT or ENDENTRY",
+            "'ENTRY      '",
+            Some(begun(2, 28)),
+        ),
+        (transmission(&[&long]), "nothing: an entry has 20,000 records at the most", "'ENDENTRY   '", None),
+    ];
+    for (file, expected, found, note) in cases {
+        let output = run(&["judge"], &file);
+        let words = printed(&output);
+        let lines = format!("  expected: {expected}\n  found:    {found}\n");
+        let noted = words.lines().find_map(|line| line.strip_prefix("  note:     ")).map(str::to_string);
+        assert!(words.contains(&lines) && noted == note, "{words}");
+        assert_eq!(output.status.code(), Some(1));
+    }
+}
+
+#[test]
+fn transmissions_as_json() {
+    let words = printed(&run(&["judge", "--json"], &twice(1, 80, " ")));
+    assert!(words.ends_with("\"lines\":4,\"numbers\":12,\"ordinal\":0,\"entries\":2}\n"), "{words}");
+    let words = printed(&run(&["judge", "--json"], &twice(28, 26, "X")));
+    let due = "{\"file\":\"-\",\"accepted\":false,\"refusal\":7,\"record\":28,\"column\":23,\"subentries\":0,\
+               \"keywords\":0,\"lines\":0,\"numbers\":0,\"ordinal\":2,\"accession\":\"90001\",\"entry_record\":1,\
+               \"meaning\":\"the system field is not in its form\",\
+               \"expected\":\"3 blanks and a date YYYYMMDD, month 01-12, day 01-31\",\"found\":\"'   X0240105'\",\
+               \"note\":null}\n";
+    assert_eq!(words, due);
+    let words = printed(&run(&["judge", "--json"], &twice(54, 22, "3")));
+    assert!(words.contains("\"ordinal\":0,\"accession\":null,\"entry_record\":null,\"meaning\":"), "{words}");
+    let json = printed(&run(&["tables", "--json"], &twice(1, 80, " ")));
+    assert!(json.starts_with("[{\"entry\":1,\"subentry\":\"90001001\","), "{json}");
+    assert_eq!((json.matches("\"entry\":1,").count(), json.matches("\"entry\":2,").count()), (2, 2), "{json}");
+}
+
+/// Tables and copies of a transmission are those of its entries.
+#[test]
+fn tables_and_copies_of_transmissions() {
+    let other = changed(22, 12, "       1.45");
+    let file = transmission(&[&sample(), &other]);
+    for options in [&["tables"][..], &["tables", "--digits"]] {
+        let both = run(options, &sample()).stdout.into_iter().chain(run(options, &other).stdout).collect::<Vec<u8>>();
+        assert_eq!(run(options, &file).stdout, both);
+    }
+    let copies = [&file[..81], &run(&["canon"], &sample()).stdout, &run(&["canon"], &other).stdout, &file[53 * 81..]];
+    assert!(run(&["canon"], &file).stdout == copies.concat());
+    for command in ["tables", "canon"] {
+        let output = run(&[command], &twice(49, 12, "       1.5E"));
+        assert_eq!((printed(&output).as_str(), output.status.code()), ("", Some(1)));
+        assert!(complained(&output).starts_with("x4: standard input: refusal 15, entry 2, record 49, column 12: "));
+    }
+}
+
+/// Two transmissions, one and its entry, and one and its tables are compared; a difference is named with its entry.
+#[test]
+fn transmissions_are_compared() {
+    let both = file("both.x4", &twice(1, 80, " "));
+    let output = run(&["compare", &both, &both], b"");
+    assert_eq!((printed(&output).as_str(), output.status.code()), ("same: 4 tables, 12 numbers\n", Some(0)));
+    let other = file("both-other.x4", &twice(49, 12, "       1.45"));
+    let output = run(&["compare", &both, &other], b"");
+    let words = "entry 2, subentry 90001002, DATA, line 1, column 2: first 0.145, second 1.45\n";
+    assert_eq!((printed(&output).as_str(), output.status.code()), (words, Some(1)));
+    let (alone, one) = (file("alone.x4", &sample()), file("one.x4", &transmission(&[&sample()])));
+    assert_eq!(printed(&run(&["compare", &alone, &one], b"")), "same: 2 tables, 6 numbers\n");
+    let words = "entry 2, subentry 90001001, COMMON: first nothing, second a table\n";
+    assert_eq!(printed(&run(&["compare", &alone, &both], b"")), words);
+    let table = file("both.csv", &run(&["tables", &both], b"").stdout);
+    assert_eq!(printed(&run(&["compare", "--exact", &both, &table], b"")), "same: 4 tables, 12 numbers\n");
+    let words = "entry 2, subentry 90001002, DATA, line 1, column 2: first 0.145, second 1.45\n";
+    assert_eq!(printed(&run(&["compare", &table, &other], b"")), words);
+    let doubled = file("digits.x4", &twice(50, 12, "0.140"));
+    let words = "entry 2, subentry 90001002, DATA, line 2, column 2, digits: first 2, second 3\n";
+    assert_eq!(printed(&run(&["compare", "--digits", &both, &doubled], b"")), words);
+}
+
+/// As many entries as there may be, nearly: each of six records.
+#[test]
+fn a_large_transmission_is_judged() {
+    let small = entry(
+        "ENTRY            90001   20240105\nSUBENT        90001001   20240105\nNOBIB\nNOCOMMON\n\
+         ENDSUBENT            2\nENDENTRY             1\n",
+    );
+    let mut whole = transmission(&vec![small.as_slice(); 33_333]);
     let words = printed(&run(&["judge"], &whole));
-    let note = "  note:     this is a transmission; one entry is judged, from ENTRY to ENDENTRY\n";
-    assert!(words.ends_with(&format!("{note}{}", below(26))), "{words}");
+    assert_eq!(
+        words,
+        "0 0 0 33333 0 0 0 0\naccepted: 33333 entries, 33333 subentries, 0 keywords, 0 DATA lines, 0 numbers\n"
+    );
+    put(&mut whole, 199_999, 22, "2");
+    let words = printed(&run(&["judge"], &whole));
+    assert!(words.starts_with("8 199999 12 0 0 0 0 33333\n"), "{words}");
+    assert!(words
+        .contains("  where:    entry 33333 (accession 90001), record 6 of the entry, 199999 of the transmission\n"));
 }
 
 #[test]
@@ -311,9 +507,11 @@ fn several_files_are_judged_one_by_one() {
     let (good, bad) = (file("good.x4", &sample()), file("bad.x4", &changed(26, 72, "000")));
     let output = run(&["judge", &good, "no-such-file", &bad], b"");
     let words = printed(&output);
-    assert!(
-        words.contains(&format!("{good}: 0 0 0 2 3 2 6\n")) && words.contains(&format!("{bad}: 5 26 67 0 0 0 0\n"))
-    );
+    let meaning = "wrong accession or subentry in columns 67-74";
+    assert_eq!(words, format!("{good}: 0 0 0 2 3 2 6\n{bad}: 5 26 67 0 0 0 0, {meaning}\n"), "one line for each");
+    let both = file("several.x4", &twice(28, 26, "X"));
+    let words = format!("{good}: 0 0 0 2 3 2 6\n{both}: 7 28 23 0 0 0 0 2, the system field is not in its form\n");
+    assert_eq!(printed(&run(&["judge", &good, &both], b"")), words);
     assert_eq!(complained(&output), "x4: no-such-file: No such file or directory (os error 2)\n", "and no progress");
     assert_eq!(output.status.code(), Some(2));
     assert_eq!(run(&["judge", &good, &good], b"").status.code(), Some(0));
@@ -429,7 +627,9 @@ fn entries_are_compared() {
     assert_eq!((printed(&output).as_str(), output.status.code()), ("same: 2 tables, 6 numbers\n", Some(0)));
     let output = run(&["compare", &first, "-"], b"no table\n");
     assert_eq!(output.status.code(), Some(2));
-    assert!(complained(&output).starts_with("x4: standard input: neither an entry nor tables: line 1: "));
+    assert!(
+        complained(&output).starts_with("x4: standard input: neither an entry, a transmission nor tables: line 1: ")
+    );
     assert_eq!(run(&["compare", &first], b"").status.code(), Some(2));
     let output = run(&["compare", "-", "-"], b"");
     assert_eq!(complained(&output), "x4: only one of the two can be standard input\n");

@@ -212,9 +212,20 @@ fn cases_are_judged_as_stored() {
                 whole.extend(record(line, 1));
                 case = whole.clone();
             }
-            Some(b'!') => {
+            Some(b'&') => {
+                let start = (numbered(line, 1, 6) - 1) * RECORD;
+                drop(case.splice(start..start, whole.iter().copied()));
+            }
+            Some(kind @ (b'!' | b'%')) => {
                 said.extend([&line[2..], b":"].concat());
-                reference::judge(&case).numbers().iter().for_each(|number| said.extend(format!(" {number}").bytes()));
+                let numbers = match kind {
+                    b'!' => reference::judge(&case).numbers().to_vec(),
+                    _ => {
+                        let verdict = reference::judge_file(&case);
+                        [verdict.numbers().as_slice(), &[verdict.ordinal()]].concat()
+                    }
+                };
+                numbers.iter().for_each(|number| said.extend(format!(" {number}").bytes()));
                 said.push(b'\n');
                 case = whole.clone();
             }

@@ -12,7 +12,7 @@ fn writing_takes_little_stack() {
 
 #[cfg(all(proved, any(target_arch = "x86_64", target_arch = "aarch64")))]
 mod measured {
-    use crate::common::{sample, say, wide};
+    use crate::common::{sample, say, transmission, wide};
     use glockenbeacon::generate::{self, Random};
     use glockenbeacon::{reference, Decimal};
     use std::arch::asm;
@@ -31,6 +31,9 @@ mod measured {
         fn x4_unit();
         fn x4_passage();
         fn x4_copy();
+        fn x4_judge_file();
+        fn x4_entry_length();
+        fn x4_copy_file();
     }
 
     type Function = unsafe extern "C" fn();
@@ -231,6 +234,33 @@ mod measured {
         }
         entries.extend(generate::SHAPES.map(|shape| generate::large(&mut Random::seeded(1), shape, 300)));
         entries
+    }
+
+    /// Transmissions of these entries, of generated ones good and damaged, and none.
+    #[test]
+    fn transmissions_are_measured() {
+        let mut judge = Measured::new("x4_judge_file", x4_judge_file);
+        let mut begins = Measured::new("x4_entry_length", x4_entry_length);
+        let mut copy = Measured::new("x4_copy_file", x4_copy_file);
+        let mut totals = [0u64; 4];
+        // how often each was answered, and refused or 0
+        let mut said = [[0; 2]; 3];
+        let mut note = |call: usize, no: bool| said[call][usize::from(no)] += 1;
+        let mut files: Vec<Vec<u8>> = entries().iter().map(|entry| transmission(&[entry, entry])).collect();
+        files.extend((0..100).map(|seed| generate::file_input(&mut Random::seeded(seed))));
+        for file in files {
+            let [first, length] = bytes(&file);
+            note(0, judge.call([first, length, lent(&mut totals), 0, 0, 0, 0, 0]) != 0);
+            for at in [0, 81, 82, length, u64::MAX] {
+                note(1, begins.call([first, length, at, 0, 0, 0, 0, 0]) == 0);
+            }
+            for room in [file.len(), 80] {
+                let mut buffer = vec![b'#'; room];
+                note(2, copy.call([first, length, lent(&mut buffer), room as u64, 0, 0, 0, 0]) != 0);
+            }
+        }
+        assert!(said.iter().flatten().all(|&times| times > 0), "{said:?}");
+        [judge, begins, copy].iter().for_each(Measured::say);
     }
 
     #[test]

@@ -1,9 +1,10 @@
-//! Verdicts, answers, copies and counts of digits that others worked out from the papers, where their tables are beside
-//! the project: in `../shared/vectors/02`. The library and the reference are held against them.
+//! Verdicts, answers, copies, entries of transmissions and counts of digits that others worked out from the papers,
+//! where their tables are beside the project: in `../shared/vectors/02`. The library and the reference are held against
+//! them.
 
 mod common;
 
-use common::{say, BOTH};
+use common::{copied, say, sha256, BOTH};
 use glockenbeacon::differ::Implementation;
 use glockenbeacon::{library, reference, Decimal, FieldRead, NoAnswer, Part, Value, RECORD};
 use std::collections::BTreeMap;
@@ -137,10 +138,35 @@ fn flagged(of: &str, file: &str) -> bool {
     })
 }
 
+/// Whether M-100 refuses an entry of a folder that is judged without it: by 4, at a record that is TRANS or ENDTRANS,
+/// where the table has no refusal on a record before it.
+fn identified(of: &str, file: &str, numbers: &[String]) -> bool {
+    let bytes = entry(of, file);
+    let Some(refusal) = reference::judge(&bytes).refusal().filter(|refusal| refusal.number == 4) else { return false };
+    let record = &bytes[(refusal.record as usize - 1) * RECORD..];
+    let before = numbers[1].parse::<u32>().expect("a record");
+    let named = record.starts_with(b"TRANS      ") || record.starts_with(b"ENDTRANS   ");
+    let other = numbers[0] != "4" || refusal.record != before;
+    named && other && (numbers[0] == "0" || refusal.record <= before)
+}
+
+/// The rows that M-100 leaves as they are; at those that it refuses the library refuses them, too.
+fn without_transmissions(of: &str, rows: &mut Vec<Vec<String>>, verdict: impl Fn(&[String]) -> Vec<String>) {
+    let all = rows.len();
+    rows.retain(|row| {
+        let refused = identified(of, &row[0], &verdict(row));
+        let bytes = entry(of, &row[0]);
+        assert!(!refused || library::judge(&bytes) == reference::judge(&bytes), "{of}/{}", row[0]);
+        !refused
+    });
+    say(&format!("{of}: {} of {all} rows are about an entry that TRANS or ENDTRANS refuses", all - rows.len()));
+}
+
 /// Verdicts, and the copies of what is accepted.
 fn same_verdicts_and_copies(of: &str, known: impl Fn(&str) -> bool) {
     let Some(mut rows) = table(&format!("{of}/index.tsv")) else { return };
     rows.retain(|row| known(&row[0]));
+    without_transmissions(of, &mut rows, |row| row[1..8].to_vec());
     let mut copies = 0;
     for row in &rows {
         same_verdict(of, &row[0], &row[1..8], &row[9]);
@@ -186,7 +212,8 @@ fn as_above(row: &[String], case: &[String]) -> bool {
 /// Inputs that agree with an entry of `r105` in its first records.
 #[test]
 fn entries_that_others_changed_below() {
-    let (Some(rows), Some(cases)) = (table("r105/prefix.tsv"), table("r105/index.tsv")) else { return };
+    let (Some(mut rows), Some(cases)) = (table("r105/prefix.tsv"), table("r105/index.tsv")) else { return };
+    without_transmissions("r105", &mut rows, |row| row[4..11].to_vec());
     let verdicts: BTreeMap<&str, &[String]> = cases.iter().map(|row| (row[0].as_str(), &row[1..8])).collect();
     let mut behind = 0;
     for row in &rows {
@@ -196,6 +223,62 @@ fn entries_that_others_changed_below() {
     assert!(behind > 0 && behind < rows.len(), "{behind} of {} behind an accepted entry", rows.len());
     let below = rows.len() - behind;
     say(&format!("r105/prefix.tsv: {below} inputs changed below a refusal, {behind} behind an accepted entry"));
+}
+
+/// The hash is that of the standard: its own two examples.
+#[test]
+fn copies_are_told_by_their_hash() {
+    assert_eq!(sha256(b"abc"), "ba7816bf8f01cfea414140de5dae2223b00361a396177a9cb410ff61f20015ad");
+    let two_blocks = b"abcdbcdecdefdefgefghfghighijhijkijkljklmklmnlmnomnopnopq";
+    assert_eq!(sha256(two_blocks), "248d6a61d20638b8e5c026930c3e6039a33ce45964ff2167f6ecedd419db06c1");
+}
+
+/// Single entries, many of them with TRANS or ENDTRANS inside (M-100).
+#[test]
+fn entries_beside_transmissions() {
+    let Some(rows) = table("files/entries.tsv") else { return };
+    for row in &rows {
+        same_verdict("files", &row[0], &row[1..8], &row[11]);
+    }
+    say(&format!("files/entries.tsv: {} entries", rows.len()));
+}
+
+/// The entries of a transmission as a table has them: first byte and length of each, one behind the other.
+fn parts(by: &dyn Implementation, file: &[u8]) -> String {
+    let (mut at, mut parts) = (RECORD, Vec::new());
+    loop {
+        match by.entry_length(file, at) {
+            0 => return parts.join(","),
+            length => parts.push(format!("{at}:{length}")),
+        }
+        at += by.entry_length(file, at);
+    }
+}
+
+/// Verdicts on transmissions with their ordinals, and of those that are accepted the entries and the copy.
+#[test]
+fn transmissions_that_others_made() {
+    let Some(rows) = table("files/files.tsv") else { return };
+    let mut accepted = 0;
+    for row in &rows {
+        let file = entry("files", &row[0]);
+        for by in BOTH {
+            let verdict = by.judge_file(&file);
+            let judged = verdict.numbers().map(|number| number.to_string());
+            assert_eq!((&judged[..], verdict.ordinal().to_string()), (&row[1..8], row[8].clone()), "{row:?}");
+            if row[1] == "0" {
+                assert_eq!(
+                    (parts(by, &file), sha256(&copied(by, &file))),
+                    (row[10].clone(), row[11].clone()),
+                    "{row:?}"
+                );
+            }
+        }
+        accepted += usize::from(row[1] == "0");
+    }
+    let ordinals = rows.iter().filter(|row| row[8] != "0").count();
+    let words = format!("{accepted} of them accepted and copied, {ordinals} refused inside an entry");
+    say(&format!("files/files.tsv: {} transmissions, {words}", rows.len()));
 }
 
 /// The number of a refused question, and the three beside 31.
@@ -231,7 +314,10 @@ fn answered(by: &dyn Implementation, entry: &[u8], question: &str, asked: &[&str
 /// Questions with their whole answers.
 fn same_answers(of: &str, known: impl Fn(&str) -> bool) {
     let Some(mut rows) = table(&format!("{of}/questions.tsv")) else { return };
+    let Some(cases) = table(&format!("{of}/index.tsv")) else { return };
+    let verdicts: BTreeMap<&str, &[String]> = cases.iter().map(|row| (row[0].as_str(), &row[1..8])).collect();
     rows.retain(|row| known(&row[0]));
+    without_transmissions(of, &mut rows, |row| verdicts[row[0].as_str()].to_vec());
     for row in &rows {
         let asked: Vec<&str> = row[2].split(' ').collect();
         for by in BOTH {

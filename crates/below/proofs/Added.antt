@@ -22,23 +22,23 @@ use Rattle.below.proofs.Below.{from-two, least-numbered}
 use Rattle.below.proofs.Behind.{said-behind}
 
 -- nothing is found in an accepted entry, and its end is met
-met : (s : List ℕ) (v : Verdict) → First s v → v .refusal ≡ 0
+pub end-met : (s : List ℕ) (v : Verdict) → First s v → v .refusal ≡ 0
     → NothingFound s × (isDone (contextAt s (length s / 81) .phase) ≡ true)
-met s v (by-length e) z = absurd (omega arith)
-met s v (by-record i n k a) z =
+end-met s v (by-length e) z = absurd (omega arith)
+end-met s v (by-record i n k a) z =
     let h = from-two n (least-numbered (contextAt s i) (blockAt 81 s i) n k (a .least)) .0 in absurd (omega arith)
-met s v (by-end a e) z = absurd (omega arith)
-met s v (by-none a e) z = (a, e)
+end-met s v (by-end a e) z = absurd (omega arith)
+end-met s v (by-none a e) z = (a, e)
 
 -- 2, 3 or 4
-low : (r : List ℕ) (n k : ℕ) → BehindEnd r n k → (2 ≤ n) × (n ≤ 4)
-low r n k (no-line-feed e) = (omega arith, omega arith)
-low r n k (not-permitted i e h p b) = (omega arith, omega arith)
-low r n k (nothing-due e p) = (omega arith, omega arith)
+pub two-to-four : (r : List ℕ) (n k : ℕ) → BehindEnd r n k → (2 ≤ n) × (n ≤ 4)
+two-to-four r n k (no-line-feed e) = (omega arith, omega arith)
+two-to-four r n k (not-permitted i e h p b) = (omega arith, omega arith)
+two-to-four r n k (nothing-due e p) = (omega arith, omega arith)
 
 pub anything-added : AnythingAdded
 anything-added s x f some w =
-    let m = met s (judgeOf s) (refused-first s) f in
+    let m = end-met s (judgeOf s) (refused-first s) f in
     let n = length s / 81 in
     let whole : length s ≡ n * 81 = whole-records (length s) (m .0 .length-good) .0 in
     let agrees = added-agree s x n (omega arith) in
@@ -50,8 +50,8 @@ anything-added s x f some w =
     record {
       number = b .number;
       column = b .column;
-      from = low (take 81 x) (b .number) (b .column) told .0;
-      to = low (take 81 x) (b .number) (b .column) told .1;
+      from = two-to-four (take 81 x) (b .number) (b .column) told .0;
+      to = two-to-four (take 81 x) (b .number) (b .column) told .1;
       said = told;
       verdict = sym (first-alone (s ++ x) (refused (b .number) (record { 0 = n + 1 }) (b .column))
           (by-record n (b .number) (b .column) (record {
@@ -64,7 +64,7 @@ anything-added s x f some w =
 
 pub added-refused : AddedRefused
 added-refused s r f wide room =
-    let good = met s (judgeOf s) (refused-first s) f .0 .length-good in
+    let good = end-met s (judgeOf s) (refused-first s) f .0 .length-good in
     let n = length s / 81 in
     let whole : length s ≡ n * 81 = whole-records (length s) good .0 in
     anything-added s r f (omega arith)

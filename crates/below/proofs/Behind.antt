@@ -2,21 +2,20 @@
 -- Assumes nothing.
 use Prim.Native.Nat.{ℕ, _+_, _<_, _≤_}
 use mathlib.Core.Path.{_≡_, refl, sym, _∙_, ap, subst}
-use mathlib.Core.Bool.{Bool, true, false}
+use mathlib.Core.Bool.{Bool, true, false, not}
 use mathlib.Core.List.{List, [], _∷_}
 use native.Mathlib.Omega.{arith}
 use borrow.Author.Tests.{ne-eqb, lt-ltb, le-ltb, not-true, not-false}
 use lib.ListN.{length, getD}
 use Rattle.laws.specs.Search.{first}
 use Rattle.laws.proofs.Search.{either}
-use Rattle.laws.proofs.Counting.{first-before, first-holds}
+use Rattle.laws.proofs.Counting.{first-before, first-holds, first-is, first-past}
 use Rattle.columns.specs.Columns.{hasLineFeed}
 use Rattle.columns.specs.Fields.{fieldsOf}
 use Rattle.classes.specs.Class.{isPermitted, notPermitted}
 use Rattle.record_names.specs.Identifier.{identifierOf}
-use Rattle.rules_roles.specs.declared.fault.Fault.{Fault}
 use Rattle.rules_roles.specs.declared.fault.Fault.the-variants.{At}
-use Rattle.rules_roles.specs.Fault.{leftmost, firstFault}
+use Rattle.rules_roles.specs.Fault.{leftmost, Finding, finding, firstFault}
 use Rattle.rules_roles.specs.Roles.{NOT-DUE}
 use Rattle.rules_roles.proofs.Leftmost.{leftmost-where}
 use Rattle.rules_state.specs.declared.state.Phase.{Phase}
@@ -57,32 +56,87 @@ no-third : (r : List ℕ) → 80 ≤ first (notPermitted r) 0 80 → leftmost (r
 unfolding rule3
 no-third r h = leftmost-where (notPermitted r) (λ i. i + 1) 80 ∙ rw (le-ltb (first (notPermitted r) 0 80) 80 h) refl
 
-module _ (c : Context) (r : List ℕ) (done : isDone (c .phase) ≡ true) where
-  four : rule4 (roleOf c r) ≡ 1 ∷ []
-  unfolding rule4
-  four = rw (none-due (c .phase) (c .track) (identifierOf (getD (fieldsOf r) 0 [])) done)
+-- ---- of any table in which 4 is found
 
-  -- so something is found there
-  pub found-behind : Nothing (foundIn c r) → ⊥
-  found-behind none =
-      let z : _≡_ {A = List ℕ} (1 ∷ []) [] = sym four ∙ none 2 (omega arith) in
-      let y : _≡_ {A = ℕ} 1 0 = ap length z in
-      omega arith
+-- the characters before the first that is not permitted
+before : (r : List ℕ) (i : ℕ) → i ≤ first (notPermitted r) 0 80 → i ≤ 80 → FirstPermitted r i
+before r i h l j b =
+    not-false (isPermitted (getD r j 0))
+    (first-before (notPermitted r) 0 80 j (omega arith) (omega arith) (omega arith))
 
-  abbrev faultHere : Fault
-  faultHere = faultOf (c .track) (c .seen) (roleOf c r) (fieldsOf r) r
+-- and that one
+at-fault : (r : List ℕ) (at : ℕ) → first (notPermitted r) 0 80 ≡ at → at < 80 → isPermitted (getD r at 0) ≡ false
+at-fault r at q h =
+    not-true (isPermitted (getD r at 0))
+    (subst (λ (i : ℕ). notPermitted r i ≡ true) q (first-holds (notPermitted r) 0 80 (omega arith)))
 
-  fault2 : hasLineFeed r ≡ false → faultHere ≡ At 2 81
-  unfolding faultOf firstFault rule2
+-- each record has a number and a column there
+pub record SaidAlone (r : List ℕ) : Type 0 where
+  pub number : ℕ
+  pub column : ℕ
+  pub said : BehindEnd r number column
+
+pub behind-end : (r : List ℕ) → SaidAlone r
+behind-end r = by-line-feed (hasLineFeed r) refl (first (notPermitted r) 0 80) refl
+  where
+    by-line-feed : (b : Bool) → hasLineFeed r ≡ b → (at : ℕ) → first (notPermitted r) 0 80 ≡ at → SaidAlone r
+    by-line-feed false e at q = record { number = 2; column = 81; said = no-line-feed e }
+    by-line-feed true e at q =
+        either at 80
+        (λ h. record {
+          number = 3;
+          column = at + 1;
+          said = not-permitted at e h (at-fault r at q h) (before r at (omega arith) (omega arith));
+        })
+        (λ h. record {
+          number = 4;
+          column = 1;
+          said = nothing-due e (before r 80 (omega arith) (omega arith));
+        })
+
+module _ (r : List ℕ) (fs : List Finding) where
+  abbrev notDue : List Finding
+  notDue = finding 2 (rule2 r) ∷ finding 3 (rule3 r) ∷ finding 4 (rule4 NOT-DUE) ∷ fs
+
+  fault2 : hasLineFeed r ≡ false → firstFault notDue ≡ At 2 81
+  unfolding firstFault rule2
   fault2 e = rw e refl
 
-  fault3 : (i : ℕ) → hasLineFeed r ≡ true → leftmost (rule3 r) ≡ i + 1 → faultHere ≡ At 3 (i + 1)
-  unfolding faultOf firstFault rule2
+  fault3 : (i : ℕ) → hasLineFeed r ≡ true → leftmost (rule3 r) ≡ i + 1 → firstFault notDue ≡ At 3 (i + 1)
+  unfolding firstFault rule2
   fault3 i e h = rw (e, h, ne-eqb (i + 1) 0 (λ z. omega arith)) refl
 
-  fault4 : hasLineFeed r ≡ true → leftmost (rule3 r) ≡ 0 → faultHere ≡ At 4 1
-  unfolding faultOf firstFault rule2
-  fault4 e h = rw (e, h, four) refl
+  fault4 : hasLineFeed r ≡ true → leftmost (rule3 r) ≡ 0 → firstFault notDue ≡ At 4 1
+  unfolding firstFault rule2 rule4
+  fault4 e h = rw (e, h) refl
+
+  -- and what is found there is that
+  pub behind-fault : (n k : ℕ) → BehindEnd r n k
+      → firstFault (finding 2 (rule2 r) ∷ finding 3 (rule3 r) ∷ finding 4 (rule4 NOT-DUE) ∷ fs) ≡ At n k
+  behind-fault n k (no-line-feed e) = fault2 e
+  behind-fault n k (not-permitted i e h p b) =
+      fault3 i e
+      (third r i
+      (first-is (notPermitted r) 0 80 i (omega arith) (omega arith) (ap not p) (λ j a l. ap not (b j l)))
+      h)
+  behind-fault n k (nothing-due e p) =
+      fault4 e
+      (no-third r
+      (first-past (notPermitted r) 0 80 80 (omega arith) (omega arith) (λ j a l. ap not (p j l))))
+
+-- ---- behind the end of an entry
+
+module _ (c : Context) (r : List ℕ) (done : isDone (c .phase) ≡ true) where
+  no-role : roleOf c r ≡ NOT-DUE
+  no-role = none-due (c .phase) (c .track) (identifierOf (getD (fieldsOf r) 0 [])) done
+
+  -- something is found there
+  pub found-behind : Nothing (foundIn c r) → ⊥
+  unfolding rule4
+  found-behind none =
+      let z : _≡_ {A = List ℕ} (1 ∷ []) [] = rw no-role at (none 2 (omega arith)) in
+      let y : _≡_ {A = ℕ} 1 0 = ap length z in
+      omega arith
 
   -- its refusal: number, column, why, and that it is the least that is found
   pub record SaidBehind : Type 0 where
@@ -91,56 +145,26 @@ module _ (c : Context) (r : List ℕ) (done : isDone (c .phase) ≡ true) where
     pub said : BehindEnd r number column
     pub least : Least (foundIn c r) number column
 
-  saying : (n k : ℕ) → BehindEnd r n k → faultHere ≡ At n k → SaidBehind
-  saying n k b e =
-      record {
-        number = n;
-        column = k;
-        said = b;
-        least = fault-least (c .track) (c .seen) (roleOf c r) (fieldsOf r) r n k e;
-      }
-
-  -- the characters before the first that is not permitted
-  before : (i : ℕ) → i ≤ first (notPermitted r) 0 80 → i ≤ 80 → FirstPermitted r i
-  before i h l j b =
-      not-false (isPermitted (getD r j 0))
-      (first-before (notPermitted r) 0 80 j (omega arith) (omega arith) (omega arith))
-
-  -- and that one
-  at-fault : (at : ℕ) → first (notPermitted r) 0 80 ≡ at → at < 80 → isPermitted (getD r at 0) ≡ false
-  at-fault at q h =
-      not-true (isPermitted (getD r at 0))
-      (subst (λ (i : ℕ). notPermitted r i ≡ true) q (first-holds (notPermitted r) 0 80 (omega arith)))
+  said-here : (n k : ℕ) → BehindEnd r n k → faultOf (c .track) (c .seen) (roleOf c r) (fieldsOf r) r ≡ At n k
+  unfolding faultOf
+  said-here n k b = rw no-role (behind-fault r _ n k b)
 
   pub said-behind : SaidBehind
-  said-behind = by-line-feed (hasLineFeed r) refl (first (notPermitted r) 0 80) refl
-    where
-      by-line-feed : (b : Bool) → hasLineFeed r ≡ b → (at : ℕ) → first (notPermitted r) 0 80 ≡ at → SaidBehind
-      by-line-feed false e at q = saying 2 81 (no-line-feed e) (fault2 e)
-      by-line-feed true e at q =
-          either at 80
-          (λ h. saying 3 (at + 1)
-          (not-permitted at e h (at-fault at q h) (before at (omega arith) (omega arith)))
-          (fault3 at e (third r at q h)))
-          (λ h. saying 4 1 (nothing-due e (before 80 (omega arith) (omega arith))) (fault4 e (no-third r (omega arith))))
+  said-behind =
+      let b = behind-end r in
+      record {
+        number = b .number;
+        column = b .column;
+        said = b .said;
+        least = fault-least (c .track) (c .seen) (roleOf c r) (fieldsOf r) r (b .number) (b .column)
+            (said-here (b .number) (b .column) (b .said));
+      }
 
 -- ---- one number with one column
 
-none-before : (r : List ℕ) (i n : ℕ) → isPermitted (getD r i 0) ≡ false → FirstPermitted r n → n ≤ i
-none-before r i n e p = either i n (λ h. no (sym e ∙ p i h)) (λ h. h)
-
 pub one-behind : OneBehind
-one-behind r n k m j (no-line-feed e) (no-line-feed f) = (refl, refl)
-one-behind r n k m j (no-line-feed e) (not-permitted i f l q p) = no (sym e ∙ f)
-one-behind r n k m j (no-line-feed e) (nothing-due f p) = no (sym e ∙ f)
-one-behind r n k m j (not-permitted i e l q p) (no-line-feed f) = no (sym f ∙ e)
-one-behind r n k m j (not-permitted i e l q p) (not-permitted h f t y x) =
-    let a = none-before r i h q x in
-    let b = none-before r h i y p in
-    (refl, omega arith)
-one-behind r n k m j (not-permitted i e l q p) (nothing-due f x) =
-    let a = none-before r i 80 q x in absurd (omega arith)
-one-behind r n k m j (nothing-due e p) (no-line-feed f) = no (sym f ∙ e)
-one-behind r n k m j (nothing-due e p) (not-permitted h f t y x) =
-    let a = none-before r h 80 y p in absurd (omega arith)
-one-behind r n k m j (nothing-due e p) (nothing-due f x) = (refl, refl)
+one-behind r n k m j a b =
+    let e : At n k ≡ At m j = sym (behind-fault r [] n k a) ∙ behind-fault r [] m j b in
+    let p : n ≡ m = cc in
+    let q : k ≡ j = cc in
+    (p, q)

@@ -49,7 +49,7 @@ judge-refused s h = refused-at s (judgeOf s) (refused-first s) h
 
 -- ---- nothing below
 
-first-agree : (s t : List ℕ) (i n k : ℕ) → FirstAt s i n k → RecordsWhole (length t) → Agrees (i + 1) s t
+pub first-agree : (s t : List ℕ) (i n k : ℕ) → FirstAt s i n k → RecordsWhole (length t) → Agrees (i + 1) s t
     → FirstAt t i n k
 first-agree s t i n k a whole agrees =
     record {

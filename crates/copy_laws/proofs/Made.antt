@@ -3,10 +3,7 @@
 -- Assumes nothing.
 use Prim.Native.Nat.{ℕ, _<_, _≤_}
 use mathlib.Core.Path.{_≡_, refl, sym, _∙_, ap}
-use mathlib.Core.Bool.{true, false}
 use mathlib.Core.List.{List, _++_}
-use borrow.Author.Tests.{eq-eqb, ne-eqb, lt-ltb, le-ltb}
-use lib.Dec.{eqb, ltb}
 use lib.ListN.{length, drop}
 use lib.Seq.{take-at, drop-at}
 use Rattle.entry_verdict.specs.declared.verdict.Verdict.{Verdict}
@@ -16,11 +13,12 @@ use Rattle.copy_laws.specs.Copy.{copyOf}
 use Rattle.copy_laws.specs.Call.{copied, copiedInto, storedCopy}
 use Rattle.copy_laws.specs.Demand.{CopyMade}
 use Rattle.copy_laws.specs.Storing.{Room}
+use Rattle.copy_laws.proofs.Answered.{answer-refused, answer-short, answer-made}
 use Rattle.copy_laws.proofs.Demand.{passed, copy-long}
 
 answered : (s : List ℕ) (room : ℕ) → Accepted s → length s ≤ room → copied s room ≡ answerOf 0
 unfolding copied
-answered s room f long = rw (eq-eqb (judgeOf s .refusal) 0 f, le-ltb room (length s) long)
+answered s room f long = sym (answer-made (judgeOf s) (length s) room f long)
 
 pub stored-copy : (s out : List ℕ) → Accepted s → length s ≤ length out
     → storedCopy s out ≡ copyOf s ++ drop (length s) out
@@ -43,16 +41,17 @@ accepted-by s v e z = ap (λ (x : Verdict). x .refusal) (sym e) ∙ z
 pub refused-copied : (s out : List ℕ) (v : Verdict) → v ≡ judgeOf s → (v .refusal ≡ 0 → ⊥)
     → (answerFor v 31 ≡ copied s (length out)) × (out ≡ storedCopy s out)
 unfolding copied storedCopy
-refused-copied s out v e n = let z : eqb (v .refusal) 0 ≡ false = ne-eqb (v .refusal) 0 n in rw (← e, z) (refl, refl)
+refused-copied s out v e n =
+    let a = answer-refused v (length s) (length out) n in
+    rw (← e, ← a) (refl, refl)
 
 -- 37
 pub short-copied : (s out : List ℕ) (v : Verdict) → v ≡ judgeOf s → v .refusal ≡ 0 → length out < length s
     → (answerOf 37 ≡ copied s (length out)) × (out ≡ storedCopy s out)
 unfolding copied storedCopy
 short-copied s out v e z short =
-    let a : eqb (v .refusal) 0 ≡ true = eq-eqb (v .refusal) 0 z in
-    let b : ltb (length out) (length s) ≡ true = lt-ltb (length out) (length s) short in
-    rw (← e, a, b) (refl, refl)
+    let a = answer-short v (length s) (length out) z short in
+    rw (← e, ← a) (refl, refl)
 
 -- 0
 pub made-room : (s out : List ℕ) (v : Verdict) → v ≡ judgeOf s → v .refusal ≡ 0 → length s ≤ length out → Room s out

@@ -59,7 +59,7 @@ fn copy_fields<'a>(out: &mut [u8], at: usize, t: Track, table: &'a [u8], role: u
 }
 
 // Columns as they are: n of them, behind the first `from`.
-fn copy_columns(out: &mut [u8], at: usize, rec: &[u8], from: usize, n: usize)
+pub fn copy_columns(out: &mut [u8], at: usize, rec: &[u8], from: usize, n: usize)
     requires { ⌜ (at + n ≤ length (now out)) × (from + n ≤ length (now rec)) ⌝ }
     ensures { λ _. ⌜ now (out .exit) ≡ paste (now (out .entry)) at (drop from (now (rec .entry))) n ⌝ }
 {

@@ -1,13 +1,13 @@
 -- The judge by ranges is the judge of the definitions: the two go over the same records, and keep that the numbers
 -- stand for the context. Assumes nothing.
-use Prim.Native.Nat.{ℕ, _+_, _*_, _-_, _/_, _%_, _<_, _≤_}
-use mathlib.Core.Path.{_≡_, refl, sym, _∙_, ap}
+use Prim.Native.Nat.{ℕ, _+_, _*_, _/_, _%_, _<_, _≤_}
+use mathlib.Core.Path.{_≡_, refl, sym, _∙_}
 use mathlib.Core.Bool.{Bool, true, false, cond, not, _&&_}
-use mathlib.Core.List.{List, []}
+use mathlib.Core.List.{List, _++_}
 use native.Mathlib.Omega.{arith}
 use borrow.Author.Tests.{eqb-true, leb-true, ne-eqb, eq-eqb, le-leb}
 use lib.Dec.{eqb, leb}
-use lib.ListN.{length, take, drop, getD, length-drop}
+use lib.ListN.{length, take, drop, length-drop, length-append}
 use lib.Seq.{length-take-le}
 use Rattle.laws.specs.Turns.{run}
 use Rattle.laws.specs.Blocks.{blocks, blockAt}
@@ -16,7 +16,6 @@ use Rattle.laws.proofs.Agree.{Agree, runs-agree}
 use Rattle.laws.proofs.Blocks.{run-walk}
 use Rattle.columns_places.specs.Places.{recordOf}
 use Rattle.columns.specs.Fields.{fieldsOf}
-use Rattle.record_names.specs.Identifier.{identifierOf}
 use Rattle.rules_roles.specs.declared.fault.Fault.{Fault}
 use Rattle.rules_roles.specs.declared.fault.Fault.the-variants.{Fine, At}
 use Rattle.rules_state.specs.State.{Context, startContext}
@@ -24,15 +23,13 @@ use Rattle.rules_state.specs.Limits.{MOST-RECORDS}
 use Rattle.rules_state.specs.Ranging.{Bounded, AllPlaced, seenOf}
 use Rattle.rules.specs.Order.{faultOf}
 use Rattle.entry_step.specs.declared.step.Judge.{Judge}
-use Rattle.entry_counted.specs.Counted.{trackAfter}
 use Rattle.entry_next.specs.Next.{contextAfter}
 use Rattle.entry_judging.specs.Judging.{roleOf, onFault, turnAs, turnOf, endOf, judgeOf}
 use Rattle.entry_verdict.specs.Verdict.{refused, lengthGood}
 use Rattle.entry_step.specs.ByRanges.{contextOf, judgeAfter, stepFor, stepAs, stepOf, startJudge, onStep}
-use Rattle.entry_step.specs.ByRanges.{stepTurn, finishOf, judgeByRanges}
-use Rattle.entry_counted.proofs.Counting.{Follows, track-follows}
-use Rattle.entry_step.proofs.Stepping.{next-bytes}
-use Rattle.entry_next.proofs.Following.{Joins, all-placed, seen-next, reaches, joins-next}
+use Rattle.entry_step.specs.ByRanges.{stepTurn, finishOf, judgeByRanges, Ready}
+use Rattle.entry_step.proofs.Stepping.{next-bytes, stood-start, stood-next, context-next}
+use Rattle.entry_next.proofs.Following.{Joins}
 
 module _ (s : List ℕ) (n : ℕ) (whole : length s ≡ n * 81) (few : n ≤ MOST-RECORDS) where
   -- the context before the record with the index i, and the numbers that stand for it
@@ -49,26 +46,26 @@ module _ (s : List ℕ) (n : ℕ) (whole : length s ≡ n * 81) (few : n ≤ MOS
       let r = blockAt 81 s i in
       let role = roleOf (contextOf b j) r in
       Standing (i + 1) (contextAfter (contextOf b j) role (fieldsOf r) r) (judgeAfter j role (fieldsOf r) r)
-  unfolding contextAfter judgeAfter
   goes-on i j l c k =
       let b = take (i * 81) s in
       let r = blockAt 81 s i in
-      let fs = fieldsOf r in
-      let role = roleOf (contextOf b j) r in
-      let long : length b ≡ i * 81 = length-take-le (i * 81) s (omega arith) in
-      let wide : length r ≡ 81 = length-take-le 81 (drop (i * 81) s) (simp length-drop (omega arith)) in
       let e : j .track .records .0 ≡ i = k .records in
-      let long′ : length b ≡ j .track .records .0 * 81 = rw e long in
-      let f : Follows (j .track) (trackAfter (j .track) role fs r) = track-follows (j .track) (k .bounded)
-      (omega arith) role fs r in
-      let seen = seen-next (j .track) (j .ranges) role fs b r long′ wide (k .placed)
-      (reaches (j .phase) (j .track) (j .ranges) (identifierOf (getD fs 0 [])) (getD fs 0 []) (k .joins)) in
+      let long : length b ≡ i * 81 = length-take-le (i * 81) s (omega arith) in
+      let ready : Ready j b r = record {
+        stands = record { bounded = k .bounded; long = rw e long; placed = k .placed };
+        few = omega arith;
+        whole = record { long = length-take-le 81 (drop (i * 81) s) (simp length-drop (omega arith)) };
+      } in
+      let next = stood-next b r j (k .joins) ready in
+      let w = next .stands .long in
+      let x : length (b ++ r) ≡ length b + length r = length-append b r in
+      let y = ready .whole .long in
       record {
-        same = rw (next-bytes s i, seen);
-        records = f .records ∙ ap (λ (m : ℕ). m + 1) e;
-        bounded = f .bounded;
-        placed = rw (f .records) (all-placed (j .track) (j .ranges) role fs (k .placed));
-        joins = joins-next (j .track) (j .ranges) role fs r (f .records);
+        same = rw (next-bytes s i) (context-next b r j (k .joins) ready);
+        records = omega arith;
+        bounded = next .stands .bounded;
+        placed = next .stands .placed;
+        joins = next .joins;
       }
 
   turn : (i : ℕ) (c : Context) (j : Judge) → i < n → Standing i c j
@@ -100,9 +97,9 @@ module _ (s : List ℕ) (n : ℕ) (whole : length s ≡ n * 81) (few : n ≤ MOS
       record {
         same = refl;
         records = refl;
-        bounded = omega arith;
-        placed = omega arith;
-        joins = record { bib = λ e. refl; under = λ e. refl; table = λ e h. refl };
+        bounded = stood-start .stands .bounded;
+        placed = stood-start .stands .placed;
+        joins = stood-start .joins;
       }
 
   numbers-run : run (λ c i. turnOf c i (blockAt 81 s i)) endOf startContext 0 n ≡ run (stepTurn s) finishOf startJudge
@@ -118,14 +115,18 @@ split false false c e = let z : _≡_ {A = ℕ} 0 1 = cc in absurd (omega arith)
 split true b c e = let z : _≡_ {A = ℕ} 0 1 = cc in absurd (omega arith)
 
 -- a good length is that of so many whole records
+pub whole-up-to : (most n : ℕ) → (not (eqb n 0) && (eqb (n % 81) 0 && leb n (most * 81))) ≡ true
+    → (n ≡ n / 81 * 81) × (n / 81 ≤ most)
+whole-up-to most n e =
+    let p : (eqb (n % 81) 0 ≡ true) × (leb n (most * 81) ≡ true) =
+    split (eqb n 0) (eqb (n % 81) 0) (leb n (most * 81)) e in
+    let z : n % 81 ≡ 0 = eqb-true (n % 81) 0 (p .0) in
+    let w : n ≤ most * 81 = leb-true n (most * 81) (p .1) in
+    (omega arith, omega arith)
+
 pub whole-records : (n : ℕ) → lengthGood n ≡ true → (n ≡ n / 81 * 81) × (n / 81 ≤ MOST-RECORDS)
 unfolding lengthGood
-whole-records n e =
-    let p : (eqb (n % 81) 0 ≡ true) × (leb n (MOST-RECORDS * 81) ≡ true) =
-    split (eqb n 0) (eqb (n % 81) 0) (leb n (MOST-RECORDS * 81)) e in
-    let z : n % 81 ≡ 0 = eqb-true (n % 81) 0 (p .0) in
-    let w : n ≤ MOST-RECORDS * 81 = leb-true n (MOST-RECORDS * 81) (p .1) in
-    (omega arith, omega arith)
+whole-records n e = whole-up-to MOST-RECORDS n e
 
 -- and the other way round
 pub of-whole : (n m : ℕ) → n ≡ m * 81 → 1 ≤ m → m ≤ MOST-RECORDS → lengthGood n ≡ true

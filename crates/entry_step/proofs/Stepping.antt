@@ -1,21 +1,26 @@
--- What the code's loop keeps: the state stands before the record in hand, and its result is that of the judge by
--- numbers. Assumes nothing.
+-- What the code's loop keeps: the state stands before the record in hand, and for the context there; and its result is
+-- that of the judge by numbers. Assumes nothing.
 use Prim.Native.Nat.{ℕ, _+_, _*_, _/_, _≤_}
 use mathlib.Core.Path.{_≡_, refl, _∙_, ap}
 use mathlib.Core.Bool.{true}
 use mathlib.Core.List.{List, [], _++_}
 use native.Mathlib.Omega.{arith}
-use lib.ListN.{length, take, length-append}
+use lib.ListN.{length, take, getD, length-append}
 use lib.Seq.{take-add, length-take-le}
 use Rattle.laws.specs.Blocks.{blockAt}
 use Rattle.laws.proofs.Turns.{Run, run-all}
+use Rattle.columns.specs.Fields.{fieldsOf}
+use Rattle.record_names.specs.Identifier.{identifierOf}
 use Rattle.rules_state.specs.Ranging.{Stands}
 use Rattle.entry_step.specs.declared.step.Judge.{Judge}
 use Rattle.entry_counted.specs.Counted.{trackAfter}
+use Rattle.entry_next.specs.Next.{contextAfter}
+use Rattle.entry_judging.specs.Judging.{roleOf}
 use Rattle.entry_verdict.specs.Verdict.{lengthGood}
-use Rattle.entry_step.specs.ByRanges.{judgeAfter, startJudge, stepTurn, finishOf, judgeByRanges, Ready}
+use Rattle.entry_step.specs.ByRanges.{contextOf, judgeAfter, startJudge, stepTurn, finishOf, judgeByRanges}
+use Rattle.entry_step.specs.ByRanges.{Ready}
 use Rattle.entry_counted.proofs.Counting.{Follows, track-follows}
-use Rattle.entry_next.proofs.Following.{all-placed}
+use Rattle.entry_next.proofs.Following.{Joins, all-placed, seen-next, reaches, joins-next}
 
 -- the state after a record stands before the next one
 pub stands-after : (j : Judge) (before rec : List ℕ) → Ready j before rec → (role : ℕ) (fs : List (List ℕ))
@@ -39,6 +44,45 @@ stands-start =
       long = refl;
       placed = omega arith;
     }
+
+-- ---- the bytes before a record, and the numbers that stand for what may be looked back at there
+
+pub record Stood (before : List ℕ) (j : Judge) : Type 0 where
+  pub stands : Stands (j .track) (j .ranges) before
+  pub joins : Joins (j .phase) (j .track) (j .ranges)
+
+pub stood-start : Stood [] startJudge
+stood-start =
+    record {
+      stands = stands-start;
+      joins = record { bib = λ e. refl; under = λ e. refl; table = λ e h. refl };
+    }
+
+-- one record without fault
+module _ (before rec : List ℕ) (j : Judge) (joins : Joins (j .phase) (j .track) (j .ranges)) (h : Ready j before rec)
+  where
+    abbrev role : ℕ
+    role = roleOf (contextOf before j) rec
+
+    pub stood-next : Stood (before ++ rec) (judgeAfter j (roleOf (contextOf before j) rec) (fieldsOf rec) rec)
+    unfolding judgeAfter
+    stood-next =
+        let f = track-follows (j .track) (h .stands .bounded) (h .few) role (fieldsOf rec) rec in
+        record {
+          stands = stands-after j before rec h role (fieldsOf rec);
+          joins = joins-next (j .track) (j .ranges) role (fieldsOf rec) rec (f .records);
+        }
+
+    pub context-next : let role = roleOf (contextOf before j) rec in
+        contextOf (before ++ rec) (judgeAfter j role (fieldsOf rec) rec)
+        ≡ contextAfter (contextOf before j) role (fieldsOf rec) rec
+    unfolding contextAfter judgeAfter
+    context-next =
+        let fs = fieldsOf rec in
+        rw (seen-next (j .track) (j .ranges) role fs before rec (h .stands .long) (h .whole .long) (h .stands .placed)
+        (reaches (j .phase) (j .track) (j .ranges) (identifierOf (getD fs 0 [])) (getD fs 0 []) joins))
+
+-- ---- the loop
 
 -- the loop at its start
 pub run-start : (s : List ℕ) → lengthGood (length s) ≡ true

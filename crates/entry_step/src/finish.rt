@@ -27,6 +27,7 @@ impl Judge {
                 record: RecordNo(0),
                 column: 0,
                 totals,
+                ordinal: 0,
             };
         }
         let at = record_of(past);

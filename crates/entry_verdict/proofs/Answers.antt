@@ -12,7 +12,7 @@ pub answer-number : (v : Verdict) (number : ℕ) → answerFor v number .number 
 answer-number v number = by-test (eqb number 31) refl
   where
     by-test : (b : Bool) → eqb number 31 ≡ b
-        → cond b (record { number = 31; refusal = v .refusal; «record» = v .«record»; column = v .column })
+        → cond b (record { number = 31; refusal = v .refusal; «record» = v .«record»; column = v .column; ordinal = v .ordinal })
         (answerOf number) .number ≡ number
     by-test true e = sym (eqb-true number 31 e)
     by-test false e = refl

@@ -2,6 +2,7 @@
 --
 --   "31 entry refused (its refusal, record and column beside it, zeros with any other answer)"
 --
+-- Of a file the ordinal of the entry stands there too (document 02, M-100: "The verdict gains the entry's ordinal").
 -- Its number is the first that is given, in the call's own order; 0 where none is.
 use Prim.Native.Nat.{ℕ}
 use mathlib.Core.Bool.{Bool, cond, not}
@@ -33,11 +34,11 @@ isRefused v = not (eqb (v .refusal) 0)
 
 -- zeros
 abbrev pub answerOf : ℕ → Answer
-answerOf number = record { number = number; refusal = 0; «record» = record { 0 = 0 }; column = 0 }
+answerOf number = record { number = number; refusal = 0; «record» = record { 0 = 0 }; column = 0; ordinal = 0 }
 
 -- beside 31 "its refusal, record and column", by the verdict on the entry
 abbrev pub answerFor : Verdict → ℕ → Answer
 answerFor v number =
     cond (eqb number 31)
-    (record { number = 31; refusal = v .refusal; «record» = v .«record»; column = v .column })
+    (record { number = 31; refusal = v .refusal; «record» = v .«record»; column = v .column; ordinal = v .ordinal })
     (answerOf number)

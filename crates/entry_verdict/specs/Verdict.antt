@@ -2,6 +2,11 @@
 --
 --   "Accepted is 0 0 0 with four totals: subentries (NOSUBENT included), keywords, DATA lines, non-blank numbers. On
 --   refusal the totals are 0."
+--
+-- and on a file of entries (document 02, M-100):
+--
+--   "The verdict gains the entry's ordinal (0 on acceptance, for 1 and 16, outside ENTRY to ENDENTRY and for single
+--   entries)"
 use Prim.Native.Nat.{ℕ, _*_, _%_}
 use mathlib.Core.Bool.{Bool, true, false, not, _&&_}
 use lib.Dec.{eqb, leb}
@@ -16,11 +21,17 @@ use Rattle.entry_verdict.specs.declared.verdict.Verdict.{Verdict}
 
 -- ---- what a verdict says
 
+-- a refusal inside the entry that has the ordinal
+abbrev pub refusedWithin : ℕ → ℕ → RecordNo → ℕ → Verdict
+refusedWithin ordinal refusal at column =
+    record { refusal = refusal; «record» = at; column = column; totals = noTotals; ordinal = ordinal }
+
+-- a refusal in no entry of a file, or of a single entry
 abbrev pub refused : ℕ → RecordNo → ℕ → Verdict
-refused refusal at column = record { refusal = refusal; «record» = at; column = column; totals = noTotals }
+refused refusal at column = refusedWithin 0 refusal at column
 
 abbrev pub accepted : Totals → Verdict
-accepted totals = record { refusal = 0; «record» = record { 0 = 0 }; column = 0; totals = totals }
+accepted totals = record { refusal = 0; «record» = record { 0 = 0 }; column = 0; totals = totals; ordinal = 0 }
 
 -- ---- where an entry ends, and how long it may be
 

@@ -1,21 +1,23 @@
 // The judge: all records, one after the other, and the verdict.
 ghost use mathlib.Core.Path.{_≡_};
 ghost use Prim.Native.Nat.{_-_, _<_};
-ghost use Rattle.entry_verdict.specs.Verdict.{refused, isDone, lengthGood};
+ghost use Rattle.entry_verdict.specs.Verdict.{refused, refusedWithin, isDone, lengthGood};
 use columns_places::places::RecordNo;
 use rules_state::state::Phase;
 use rules_state::state::Totals;
 
-// Refusal 0, record 0 and column 0 with the totals, or the refusal with zeros.
+// Refusal 0, record 0 and column 0 with the totals, or the refusal with zeros; in a file also the ordinal of the entry.
 pub struct Verdict {
     pub refusal: u8,
     pub record: RecordNo,
     pub column: u8,
     pub totals: Totals,
+    pub ordinal: u32,
 }
 
-pub fn refused(refusal: u8, at: RecordNo, column: u8) -> Verdict
-    ensures { λ r. ⌜ r ≡ refused refusal at column ⌝ }
+// A refusal inside the entry that has the ordinal, 0 for none.
+pub fn refused_within(ordinal: u32, refusal: u8, at: RecordNo, column: u8) -> Verdict
+    ensures { λ r. ⌜ r ≡ refusedWithin ordinal refusal at column ⌝ }
 {
     Verdict {
         refusal,
@@ -27,7 +29,14 @@ pub fn refused(refusal: u8, at: RecordNo, column: u8) -> Verdict
             lines: 0,
             numbers: 0,
         },
+        ordinal,
     }
+}
+
+pub fn refused(refusal: u8, at: RecordNo, column: u8) -> Verdict
+    ensures { λ r. ⌜ r ≡ refused refusal at column ⌝ }
+{
+    refused_within(0, refusal, at, column)
 }
 
 const MOST_BYTES: usize = 1620000;

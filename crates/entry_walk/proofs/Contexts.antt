@@ -20,7 +20,7 @@ use Rattle.entry_next.specs.Next.{contextAfter}
 use Rattle.entry_judging.specs.Judging.{roleOf}
 use Rattle.entry_judging.specs.Contexts.{behind, contextAt}
 
-count-next : (t : Track) (role : ℕ) (fs : List (List ℕ)) (r : List ℕ)
+pub count-next : (t : Track) (role : ℕ) (fs : List (List ℕ)) (r : List ℕ)
     → trackAfter t role fs r .records .0 ≡ t .records .0 + 1
 unfolding trackAfter afterSystem afterInside textRead
 count-next t role fs r =

@@ -7,5 +7,5 @@ ghost use Rattle.exports_words.specs.Words.{VERSION};
 pub extern "C" fn x4_version() -> u32
     ensures { λ r. ⌜ r ≡ VERSION ⌝ }
 {
-    3
+    4
 }

@@ -25,7 +25,7 @@ use Rattle.rules_state.proofs.EitherWay.{either-way}
 use Rattle.entry_verdict.specs.declared.answer.Answer.{Answer}
 use Rattle.entry_verdict.specs.declared.verdict.Verdict.{Verdict}
 use Rattle.entry_verdict.specs.Answer.{answerOf, answerFor}
-use Rattle.entry_verdict.specs.Verdict.{refused, accepted}
+use Rattle.entry_verdict.specs.Verdict.{refusedWithin, accepted}
 use Rattle.entry_judging.specs.Judging.{judgeOf}
 use Rattle.exports_words.specs.Words.{answerWord, answerIn, lentAfter}
 use Rattle.exports_words.specs.Values.{bit, twos, valueNumbers, readingAnswer, readingStored, readingIn}
@@ -39,12 +39,12 @@ use Rattle.exports_words.proofs.Twos.{twos-back}
 -- an answer that fits its rooms
 pub record Fits (a : Answer) : Type 0 where
   pub number : a .number < 2 ^ 8
-  pub beside : NearRefusal (a .refusal) (a .«record») (a .column)
+  pub beside : NearRefusal (a .ordinal) (a .refusal) (a .«record») (a .column)
 
 -- the numbers in the rooms
-module _ (a b c d : ℕ) (h : a < 256) (i : b < 256) (j : c < 256) (k : d < 16777216) where
+module _ (a b c d e : ℕ) (h : a < 256) (i : b < 256) (j : c < 256) (k : d < 16777216) (l : e < 65536) where
   abbrev full : ℕ
-  full = a + 256 * (b + 256 * (c + 256 * d))
+  full = a + 256 * (b + 256 * (c + 256 * (d + 16777216 * e)))
 
   room-1 : full % 256 ≡ a
   room-1 = omega arith
@@ -58,8 +58,15 @@ module _ (a b c d : ℕ) (h : a < 256) (i : b < 256) (j : c < 256) (k : d < 1677
   room-4 : full / 16777216 % 16777216 ≡ d
   room-4 = omega arith
 
-  room-5 : full < 281474976710656
+  room-5 : full / 281474976710656 % 65536 ≡ e
   room-5 = omega arith
+
+  room-six : e ≡ 0 → full < 281474976710656
+  room-six z = omega arith
+
+-- what fits is what its room holds
+held-in : (d e : ℕ) → d < 16777216 → e < 65536 → (d % 16777216 ≡ d) × (e % 65536 ≡ e)
+held-in d e k l = (omega arith, omega arith)
 
 pub word-back : (a : Answer) → Fits a → answerIn (answerWord a) ≡ a
 unfolding answerIn answerWord
@@ -72,28 +79,48 @@ word-back a h =
     let y = h .beside .number in
     let z = h .beside .column in
     let u = h .beside .«record» in
-    rw (room-1 n r k m x y z u, room-2 n r k m x y z u, room-3 n r k m x y z u, room-4 n r k m x y z u) refl
+    let o = a .ordinal in
+    let w = h .beside .whose in
+    let held = held-in m o u w in
+    rw (
+      held .0,
+      held .1,
+      room-1 n r k m o x y z u w,
+      room-2 n r k m o x y z u w,
+      room-3 n r k m o x y z u w,
+      room-4 n r k m o x y z u w,
+      room-5 n r k m o x y z u w,
+    ) refl
 
--- the bits from 48 on are 0
-pub word-room : (a : Answer) → Fits a → answerWord a < 2 ^ 48
+-- about a single entry the bits from 48 on are 0
+pub word-room : (a : Answer) → Fits a → a .ordinal ≡ 0 → answerWord a < 2 ^ 48
 unfolding answerWord
-word-room a h =
-    room-5 (a .number) (a .refusal) (a .column) (a .«record» .0) (h .number) (h .beside .number) (h .beside .column)
-    (h .beside .«record»)
+word-room a h none =
+    let held = held-in (a .«record» .0) (a .ordinal) (h .beside .«record») (h .beside .whose) in
+    rw (held .0, held .1)
+    (room-six (a .number) (a .refusal) (a .column) (a .«record» .0) (a .ordinal) (h .number) (h .beside .number)
+    (h .beside .column) (h .beside .«record») (h .beside .whose) none)
 
 pub plain-fits : (n : ℕ) → n < 2 ^ 8 → Fits (answerOf n)
 plain-fits n h =
-    record { number = h; beside = record { number = omega arith; «record» = omega arith; column = omega arith } }
+    record {
+      number = h;
+      beside = record { number = omega arith; «record» = omega arith; column = omega arith; whose = omega arith };
+    }
 
 -- what stands beside a number, by the verdict on an entry
-near-of : {v : Verdict} → Fitting v → NearRefusal (v .refusal) (v .«record») (v .column)
-near-of (accepting t) = record { number = omega arith; «record» = omega arith; column = omega arith }
-near-of (refusing n at k z h) = h
+near-of : {v : Verdict} → Fitting v → NearRefusal (v .ordinal) (v .refusal) (v .«record») (v .column)
+near-of (accepting t) =
+    record { number = omega arith; «record» = omega arith; column = omega arith; whose = omega arith }
+near-of (refusing o n at k z h) = h
+
+-- whatever verdict fits
+pub beside-fits : (v : Verdict) → Fitting v → (n : ℕ) → n < 2 ^ 8 → Fits (answerFor v n)
+beside-fits v f n h =
+    either-way Fits (eqb n 31) _ _ (record { number = omega arith; beside = near-of f }) (plain-fits n h)
 
 pub answer-fits : (s : List ℕ) (n : ℕ) → n < 2 ^ 8 → Fits (answerFor (judgeOf s) n)
-answer-fits s n h =
-    either-way Fits (eqb n 31) _ _ (record { number = omega arith; beside = near-of (judge-fits s) })
-    (plain-fits n h)
+answer-fits s n h = beside-fits (judgeOf s) (judge-fits s) n h
 
 -- ---- readings
 
@@ -153,19 +180,20 @@ reading-back l before = by-length (eqb (length l) 11) refl
 -- ---- verdicts
 
 -- the answer of a refused verdict
-abbrev refusedAnswer : ℕ → RecordNo → ℕ → Answer
-refusedAnswer n at k = record { number = n; refusal = n; «record» = at; column = k }
+abbrev refusedAnswer : ℕ → ℕ → RecordNo → ℕ → Answer
+refusedAnswer o n at k = record { number = n; refusal = n; «record» = at; column = k; ordinal = o }
 
-answer-refused : (n : ℕ) (at : RecordNo) (k : ℕ) → 0 < n → verdictAnswer (refused n at k) ≡ refusedAnswer n at k
+answer-refused : (o n : ℕ) (at : RecordNo) (k : ℕ) → 0 < n
+    → verdictAnswer (refusedWithin o n at k) ≡ refusedAnswer o n at k
 unfolding verdictAnswer
-answer-refused n at k z = rw (ne-eqb n 0 (λ e. omega arith)) refl
+answer-refused o n at k z = rw (ne-eqb n 0 (λ e. omega arith)) refl
 
-refused-in : (n : ℕ) (at : RecordNo) (k : ℕ) → 0 < n → NearRefusal n at k → (xs : List ℕ)
-    → verdictIn (answerWord (refusedAnswer n at k)) xs ≡ refused n at k
+refused-in : (o n : ℕ) (at : RecordNo) (k : ℕ) → 0 < n → NearRefusal o n at k → (xs : List ℕ)
+    → verdictIn (answerWord (refusedAnswer o n at k)) xs ≡ refusedWithin o n at k
 unfolding verdictIn
-refused-in n at k z h xs =
+refused-in o n at k z h xs =
     rw (
-      word-back (refusedAnswer n at k) (record { number = h .number; beside = h }),
+      word-back (refusedAnswer o n at k) (record { number = h .number; beside = h }),
       ne-eqb n 0 (λ e. omega arith),
     ) refl
 
@@ -174,10 +202,10 @@ accepted-back : (before : List ℕ) (t : Totals)
 unfolding verdictIn verdictAnswer answerIn answerWord lentAfter totalsNumbers
 accepted-back before t = refl
 
-fitting-back : (before : List ℕ) {v : Verdict} → Fitting v
+pub fitting-back : (before : List ℕ) {v : Verdict} → Fitting v
     → verdictIn (answerWord (verdictAnswer v)) (lentAfter (v .refusal) before (totalsNumbers (v .totals))) ≡ v
 fitting-back before (accepting t) = accepted-back before t
-fitting-back before (refusing n at k z h) = rw (answer-refused n at k z) (refused-in n at k z h _)
+fitting-back before (refusing o n at k z h) = rw (answer-refused o n at k z) (refused-in o n at k z h _)
 
 -- the verdict on an entry comes back
 pub verdict-back : VerdictBack

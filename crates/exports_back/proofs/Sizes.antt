@@ -24,28 +24,30 @@ use Rattle.rules.specs.Order.{faultOf}
 use Rattle.rules_state.proofs.EitherWay.{either-way}
 use Rattle.entry_next.specs.Next.{contextAfter}
 use Rattle.entry_verdict.specs.declared.verdict.Verdict.{Verdict}
-use Rattle.entry_verdict.specs.Verdict.{refused, accepted, isDone, lengthGood}
+use Rattle.entry_verdict.specs.Verdict.{refused, refusedWithin, accepted, isDone, lengthGood}
 use Rattle.entry_judging.specs.Judging.{roleOf, onFault, turnAs, turnOf, endOf, judgeOf}
 use Rattle.entry_counted.proofs.Counting.{Follows, track-follows}
 use Rattle.entry_step.proofs.Numbered.{whole-records}
 use Rattle.exports_back.proofs.NearFaults.{Near, near-fault}
 
 -- what a word can hold
-pub record NearRefusal (n : ℕ) (at : RecordNo) (k : ℕ) : Type 0 where
+pub record NearRefusal (ordinal n : ℕ) (at : RecordNo) (k : ℕ) : Type 0 where
   pub number : n < 2 ^ 8
   pub «record» : at .0 < 2 ^ 24
   pub column : k < 2 ^ 8
+  pub whose : ordinal < 2 ^ 16
 
 pub data Fitting : Verdict → Type 0 where
   accepting : (t : Totals) → Fitting (accepted t)
-  refusing : (n : ℕ) (at : RecordNo) (k : ℕ) → 0 < n → NearRefusal n at k → Fitting (refused n at k)
+  refusing : (ordinal n : ℕ) (at : RecordNo) (k : ℕ) → 0 < n → NearRefusal ordinal n at k
+      → Fitting (refusedWithin ordinal n at k)
 
 fits : (n k : ℕ) → Near n k → (t : Track) → t .records .0 ≤ MOST-RECORDS → Fitting (refused n (recordOf (t .records)) k)
 fits n k h t few =
     let x = h .number in
     let y = h .column in
-    refusing n (recordOf (t .records)) k (h .some)
-    (record { number = omega arith; «record» = omega arith; column = omega arith })
+    refusing 0 n (recordOf (t .records)) k (h .some)
+    (record { number = omega arith; «record» = omega arith; column = omega arith; whose = omega arith })
 
 end-fits : (c : Context) → Bounded (c .track) → Fitting (endOf c)
 unfolding endOf
@@ -91,5 +93,5 @@ judge-fits s = by-test (lengthGood (length s)) refl
         walk-fits (blocks 81 (length s / 81) s) startContext 0 (omega arith)
         (rw (length-blocks 81 (length s / 81) s) (omega arith))
     by-test false e =
-        refusing 1 (record { 0 = 0 }) 0 (omega arith)
-        (record { number = omega arith; «record» = omega arith; column = omega arith })
+        refusing 0 1 (record { 0 = 0 }) 0 (omega arith)
+        (record { number = omega arith; «record» = omega arith; column = omega arith; whose = omega arith })

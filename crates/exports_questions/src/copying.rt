@@ -18,10 +18,12 @@ pub extern "C" fn x4_copy(entry: &[u8], out: &mut [u8]) -> u64
     let refusal = c.refusal;
     let record = c.record;
     let column = c.column;
+    let ordinal = c.ordinal;
     answer_word(Answer {
         number,
         refusal,
         record,
         column,
+        ordinal,
     })
 }

@@ -9,14 +9,20 @@ use Rattle.rules_state.specs.declared.state.Totals.{Totals}
 use Rattle.entry_verdict.specs.declared.answer.Answer.{Answer}
 use Rattle.entry_verdict.specs.declared.verdict.Verdict.{Verdict}
 use Rattle.entry_verdict.specs.Answer.{answerOf}
-use Rattle.entry_verdict.specs.Verdict.{refused, accepted}
+use Rattle.entry_verdict.specs.Verdict.{refusedWithin, accepted}
 use Rattle.exports_words.specs.Words.{answerIn}
 
 -- of a refused entry its refusal stands twice: as the call's number, and beside it as the entry's
 unfoldable pub verdictAnswer : Verdict → Answer
 verdictAnswer v =
     cond (eqb (v .refusal) 0) (answerOf 0)
-    (record { number = v .refusal; refusal = v .refusal; «record» = v .«record»; column = v .column })
+    (record {
+      number = v .refusal;
+      refusal = v .refusal;
+      «record» = v .«record»;
+      column = v .column;
+      ordinal = v .ordinal;
+    })
 
 -- the four numbers, in the paper's order
 unfoldable pub totalsNumbers : Totals → List ℕ
@@ -31,4 +37,4 @@ totalsIn xs =
 unfoldable pub verdictIn : ℕ → List ℕ → Verdict
 verdictIn w xs =
     let a = answerIn w in
-    cond (eqb (a .refusal) 0) (accepted (totalsIn xs)) (refused (a .refusal) (a .«record») (a .column))
+    cond (eqb (a .refusal) 0) (accepted (totalsIn xs)) (refusedWithin (a .ordinal) (a .refusal) (a .«record») (a .column))

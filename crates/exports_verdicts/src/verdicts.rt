@@ -14,6 +14,7 @@ pub fn put_verdict(v: Verdict, out: &mut [u64; 4]) -> u64
     let refusal = v.refusal;
     let record = v.record;
     let column = v.column;
+    let ordinal = v.ordinal;
     let totals = v.totals;
     if refusal != 0 {
         return answer_word(Answer {
@@ -21,6 +22,7 @@ pub fn put_verdict(v: Verdict, out: &mut [u64; 4]) -> u64
             refusal,
             record,
             column,
+            ordinal,
         });
     }
     let subentries = totals.subentries;

@@ -9,13 +9,16 @@ use Rattle.entry_verdict.specs.declared.answer.Answer.{Answer}
 
 -- of this interface: a header says its own
 abbrev pub VERSION : ℕ
-VERSION = 3
+VERSION = 4
 
 -- ---- the word: in bits 0 to 7 the call's number, 0 where it is answered; in 8 to 15 the entry's refusal, in 16 to 23
--- its column, in 24 to 47 its record. The bits above are 0 (the law `word-room`).
+-- its column, in 24 to 47 its record, in 48 to 63 the ordinal of the entry in a file, 0 for a single entry. A room holds
+-- what its bits can say; that no answer of a call is larger is the law `word-back`, where it is cited.
 
 unfoldable pub answerWord : Answer → ℕ
-answerWord a = a .number + 2 ^ 8 * (a .refusal + 2 ^ 8 * (a .column + 2 ^ 8 * a .«record» .0))
+answerWord a =
+    a .number
+    + 2 ^ 8 * (a .refusal + 2 ^ 8 * (a .column + 2 ^ 8 * (a .«record» .0 % 2 ^ 24 + 2 ^ 24 * (a .ordinal % 2 ^ 16))))
 
 -- the answer that a word says: what a host does with it
 unfoldable pub answerIn : ℕ → Answer
@@ -25,6 +28,7 @@ answerIn w =
       refusal = w / 2 ^ 8 % 2 ^ 8;
       «record» = record { 0 = w / 2 ^ 24 % 2 ^ 24 };
       column = w / 2 ^ 16 % 2 ^ 8;
+      ordinal = w / 2 ^ 48 % 2 ^ 16;
     }
 
 -- ---- the lent array after a call with this number: what it answers, or what stood there before

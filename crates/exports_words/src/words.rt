@@ -10,6 +10,9 @@ pub fn answer_word(a: Answer) -> u64
     let refusal = a.refusal;
     let column = a.column;
     let at = a.record;
-    let place = (column as u64) + 256 * (at.0 as u64);
+    let ordinal = a.ordinal;
+    let row = (at.0 % 16777216) as u64;
+    let whose = (ordinal % 65536) as u64;
+    let place = (column as u64) + 256 * (row + 16777216 * whose);
     (number as u64) + 256 * ((refusal as u64) + 256 * place)
 }

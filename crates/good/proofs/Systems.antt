@@ -9,7 +9,7 @@ use lib.Dec.{eqb}
 use borrow.Author.Tests.{eqb-true, eq-eqb, ne-eqb, ltb-true, not-false}
 use Rattle.laws.proofs.Booleans.{differ, and-left, and-right}
 use Rattle.columns.specs.Fields.{fieldsOf, n1, n2}
-use Rattle.record_names.specs.Identifier.{OTHER, isEnd}
+use Rattle.record_names.specs.Identifier.{TRANS, isEnd}
 use Rattle.record_expected.specs.Expected.{identificationFor}
 use Rattle.rules_state.specs.declared.state.Track.{Track}
 use Rattle.rules_state.specs.State.{Context}
@@ -89,7 +89,7 @@ rules-takes c role r system m b = (
 )
   where
     due : eqb role NOT-DUE ≡ false
-    due = let l = ltb-true role OTHER system in ne-eqb role NOT-DUE (λ e. omega arith)
+    due = let l = ltb-true role TRANS system in ne-eqb role NOT-DUE (λ e. omega arith)
 
 -- ---- a record inside a subentry
 

@@ -29,6 +29,14 @@ use Rattle.exports_questions.proofs.asking.x4_heading.Reads as x4-heading
 use Rattle.exports_questions.proofs.asking.x4_unit.Reads as x4-unit
 use Rattle.exports_questions.proofs.asking.x4_passage.Reads as x4-passage
 use Rattle.exports_questions.proofs.copying.x4_copy.Reads as x4-copy
+use Rattle.files.proofs.judge_file.judge_file.Reads as judge-file
+use Rattle.files_parts.proofs.parts.entry_records.Reads as entry-records
+use Rattle.files_parts.proofs.parts.entry_length.Reads as entry-length
+use Rattle.files_parts.proofs.parts.entry_from.Reads as entry-from
+use Rattle.files_copy.proofs.copy_file.copy_file.Reads as copy-file
+use Rattle.exports_files.proofs.transmissions.x4_judge_file.Reads as x4-judge-file
+use Rattle.exports_file_copies.proofs.copying.x4_entry_length.Reads as x4-entry-length
+use Rattle.exports_file_copies.proofs.copying.x4_copy_file.Reads as x4-copy-file
 use Rattle.one_answer.specs.Determined.{Determined, DeterminedWith, DeterminedPart}
 
 pub record OneAnswer : Type 0 where
@@ -46,6 +54,11 @@ pub record OneAnswer : Type 0 where
   pub unit-part : DeterminedPart unit-part.Post
   pub passage-part : DeterminedPart passage-part.Post
   pub copy : DeterminedWith copy.Post (λ κs s. now (s .1 .0))
+  pub judge-file : Determined judge-file.Post
+  pub entry-records : Determined entry-records.Post
+  pub entry-length : Determined entry-length.Post
+  pub entry-from : DeterminedPart entry-from.Post
+  pub copy-file : DeterminedWith copy-file.Post (λ κs s. now (s .1 .0))
   -- for host programs
   pub x4-version : Determined x4-version.Post
   pub x4-judge : DeterminedWith x4-judge.Post (λ κs s. now (s .1 .0))
@@ -56,3 +69,6 @@ pub record OneAnswer : Type 0 where
   pub x4-unit : DeterminedWith x4-unit.Post (λ κs s. now (s .1 .1 .1 .1 .0))
   pub x4-passage : DeterminedWith x4-passage.Post (λ κs s. now (s .1 .1 .1 .1 .0))
   pub x4-copy : DeterminedWith x4-copy.Post (λ κs s. now (s .1 .0))
+  pub x4-judge-file : DeterminedWith x4-judge-file.Post (λ κs s. now (s .1 .0))
+  pub x4-entry-length : Determined x4-entry-length.Post
+  pub x4-copy-file : DeterminedWith x4-copy-file.Post (λ κs s. now (s .1 .0))

@@ -1,9 +1,10 @@
 // A verdict as programs write it.
 use entry_verdict::verdict::Verdict;
 use program_text::say_line;
+use program_text::say_numbers;
 
-// A word, and behind it refusal, record, column, subentries, keywords, lines and numbers: a line.
-pub fn say_verdict(word: &[u8], v: Verdict) {
+// A word, and behind it refusal, record, column, subentries, keywords, lines and numbers.
+fn say_seven(word: &[u8], v: Verdict) {
     let at = v.record;
     let totals = v.totals;
     let all = [
@@ -15,5 +16,17 @@ pub fn say_verdict(word: &[u8], v: Verdict) {
         totals.lines as u64,
         totals.numbers as u64,
     ];
-    say_line(word, &all);
+    say_numbers(word, &all);
+}
+
+// These, as a line.
+pub fn say_verdict(word: &[u8], v: Verdict) {
+    say_seven(word, v);
+    io::write_all(1, b"\n");
+}
+
+// These and the ordinal of the entry, as a line.
+pub fn say_file_verdict(word: &[u8], v: Verdict) {
+    say_seven(word, v);
+    say_line(b" ", &[v.ordinal as u64]);
 }

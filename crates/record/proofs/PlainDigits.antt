@@ -23,7 +23,8 @@ use Rattle.record_words.specs.Word.{blankAt, filledAt, blankTo}
 use Rattle.record.specs.System.{noDigitAt, digitsIn, digitOf, numberIn, startOf, integerOf, isDate}
 use Rattle.record.specs.System.{isAccession, isEntryN1, isSubentN1, subentryOf}
 use Rattle.record.specs.Plain.{DigitsSay, CountSays, Date, CapitalOrDigit, a-capital, a-digit, Accession, EntryN1}
-use Rattle.record.specs.Plain.{SubentN1, DigitsExactly, CountExactly, DateExactly, EntryExactly, SubentExactly}
+use Rattle.record.specs.Plain.{SubentN1, DigitsExactly, CountExactly, DateExactly, MarkExactly, EntryExactly}
+use Rattle.record.specs.Plain.{SubentExactly}
 use Rattle.record.proofs.PlainColumns.{there, columns-blank, blank-columns}
 use Rattle.record.proofs.PlainColumns.{blank-exactly}
 
@@ -294,6 +295,9 @@ first-said b false q e =
 said-first : (b : ℕ) → CapitalOrDigit b → (isCapital b || isDigit b) ≡ true
 said-first b (a-capital p q) = or-first (isCapital b) (isDigit b) (in-range 65 90 b b refl p q)
 said-first b (a-digit p q) = or-second (isCapital b) (isDigit b) (in-range 48 57 b b refl p q)
+
+pub mark-exactly : MarkExactly
+mark-exactly b = (first-said b (isCapital b) refl, said-first b)
 
 accession-said : (f : List ℕ) (i : ℕ) → isAccession f i ≡ true → Accession f i
 unfolding isAccession

@@ -6,7 +6,7 @@
 -- identifiers are said so in PlainNames of record_names.
 use Prim.Native.Nat.{ℕ, _+_, _<_, _≤_}
 use mathlib.Core.Path.{_≡_}
-use mathlib.Core.Bool.{Bool, true, false}
+use mathlib.Core.Bool.{Bool, true, false, _||_}
 use mathlib.Core.Logic.{_↔_}
 use mathlib.Core.List.{List, _++_}
 use lib.ListN.{length, getD, take}
@@ -15,6 +15,7 @@ use Rattle.number.specs.declared.form.Form.the-variants as Form
 use Rattle.number.specs.Grammar.{blanks, Digits, digitsText, num}
 use Rattle.number.specs.Value.{Reads}
 use Rattle.columns.specs.Columns.{columnsAt}
+use Rattle.columns.specs.Text.{isCapital, isDigit}
 use Rattle.record.specs.declared.system.Count.the-variants.{Number}
 use Rattle.record_words.specs.Word.{blankTo, equalTo, isWord, pointerOf}
 use Rattle.record_words.specs.Same.{SameColumns}
@@ -163,6 +164,9 @@ CountAnswerExactly =
 
 abbrev pub DateExactly : Type 0
 DateExactly = (f : List ℕ) → (isDate f ≡ true) ↔ Date f
+
+abbrev pub MarkExactly : Type 0
+MarkExactly = (b : ℕ) → ((isCapital b || isDigit b) ≡ true) ↔ CapitalOrDigit b
 
 abbrev pub EntryExactly : Type 0
 EntryExactly = (f : List ℕ) → (isEntryN1 f ≡ true) ↔ EntryN1 f

@@ -140,7 +140,7 @@ fn is_accession(f: [u8; 11], at: usize) -> bool
 }
 
 // Whether a byte is a capital or a digit.
-fn is_capital_or_digit(b: u8) -> bool
+pub fn is_capital_or_digit(b: u8) -> bool
     ensures { λ r. ⌜ r ≡ isCapital b || isDigit b ⌝ }
 {
     if is_from(b'A', b'Z', b) {

@@ -1,4 +1,4 @@
--- The fourteen system identifiers: what is computed is what is said plainly.
+-- The sixteen system identifiers: what is computed is what is said plainly.
 -- Assumes nothing.
 use Prim.Native.Nat.{ℕ, _+_, _<_}
 use mathlib.Core.Path.{_≡_, refl, _∙_, subst}

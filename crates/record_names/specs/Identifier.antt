@@ -1,7 +1,9 @@
--- The fourteen system identifiers (document 01, "Nesting and counts"):
+-- The sixteen system identifiers (document 01, "Nesting and counts"; document 02, M-100):
 --
 --   "The fourteen system identifiers are the names above with ENDBIB, ENDCOMMON and ENDDATA; one fills columns 1-11,
 --   blanks behind."
+--
+--   "A file is TRANS, one or more entries, ENDTRANS (document 004, 2.2), both now system identifiers everywhere."
 use Prim.Native.Nat.{ℕ, _+_, _-_}
 use mathlib.Core.Path.{_≡_}
 use mathlib.Core.Bool.{Bool}
@@ -21,7 +23,7 @@ abbrev pub names : List (List ℕ)
 names =
     text "ENTRY" ∷ text "SUBENT" ∷ text "NOSUBENT" ∷ text "BIB" ∷ text "NOBIB" ∷ text "ENDBIB" ∷ text "COMMON"
     ∷ text "NOCOMMON" ∷ text "ENDCOMMON" ∷ text "DATA" ∷ text "NODATA" ∷ text "ENDDATA" ∷ text "ENDSUBENT"
-    ∷ text "ENDENTRY" ∷ []
+    ∷ text "ENDENTRY" ∷ text "TRANS" ∷ text "ENDTRANS" ∷ []
 
 abbrev pub ENTRY : Identifier
 ENTRY = 0
@@ -65,9 +67,15 @@ ENDSUBENT = 12
 abbrev pub ENDENTRY : Identifier
 ENDENTRY = 13
 
+abbrev pub TRANS : Identifier
+TRANS = 14
+
+abbrev pub ENDTRANS : Identifier
+ENDTRANS = 15
+
 -- none of them
 abbrev pub OTHER : Identifier
-OTHER = 14
+OTHER = 16
 
 -- "one fills columns 1-11, blanks behind"
 abbrev pub nameAt : Identifier → List ℕ

@@ -1,4 +1,4 @@
--- The fourteen system identifiers in document 01's own words: of columns only, with no search.
+-- The sixteen system identifiers in the papers' own words: of columns only, with no search.
 --
 -- The code follows the definitions of Identifier, which compute. That they say the same is stated here (`NameExactly`
 -- ..), and proved in proofs/PlainNames.
@@ -19,6 +19,6 @@ Named f k = SameColumns 11 f (nameAt k)
 abbrev pub NameExactly : Type 0
 NameExactly = (f : List ℕ) (k : ℕ) → k < OTHER → (identifierOf f ≡ k) ↔ Named f k
 
--- it is none of the fourteen
+-- it is none of the sixteen
 abbrev pub OtherExactly : Type 0
 OtherExactly = (f : List ℕ) → (identifierOf f ≡ OTHER) ↔ ((k : ℕ) → k < OTHER → Named f k → ⊥)

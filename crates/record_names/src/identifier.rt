@@ -1,4 +1,4 @@
-// The fourteen system identifiers.
+// The sixteen system identifiers.
 ghost use mathlib.Core.Path.{_≡_};
 ghost use Prim.Native.Nat.{ℕ, _<_};
 ghost use Rattle.record_names.specs.Identifier.{OTHER, nameTable, NamesLent, isName, identifierOf, isEnd};
@@ -31,7 +31,11 @@ pub const ENDSUBENT: usize = 12;
 
 pub const ENDENTRY: usize = 13;
 
-pub const OTHER: usize = 14;
+pub const TRANS: usize = 14;
+
+pub const ENDTRANS: usize = 15;
+
+pub const OTHER: usize = 16;
 
 // Eleven columns for each name.
 pub type Names = [u8; 11 * OTHER];
@@ -50,7 +54,9 @@ const NAMES: Names = *b"\
     NODATA     \
     ENDDATA    \
     ENDSUBENT  \
-    ENDENTRY   ";
+    ENDENTRY   \
+    TRANS      \
+    ENDTRANS   ";
 
 // The names, eleven columns each. They are written out at each use, so a caller takes them once and lends them.
 pub fn names() -> Names

@@ -12,7 +12,7 @@ use Rattle.laws.proofs.Search.{either}
 use Rattle.laws.proofs.Booleans.{either-as}
 use Rattle.columns_places.specs.Places.{recordsFor}
 use Rattle.record_names.specs.Identifier.{ENTRY, SUBENT, NOSUBENT, BIB, NOBIB, ENDBIB, COMMON, NOCOMMON, DATA, NODATA}
-use Rattle.record_names.specs.Identifier.{ENDSUBENT, ENDENTRY, OTHER, isEnd}
+use Rattle.record_names.specs.Identifier.{ENDSUBENT, ENDENTRY, TRANS, OTHER, isEnd}
 use Rattle.rules_state.specs.declared.state.Phase.{Phase}
 use Rattle.rules_state.specs.declared.state.Phase.the-variants.{Start, Opened, InSubentry, InBib, AfterBib, InCommon}
 use Rattle.rules_state.specs.declared.state.Phase.the-variants.{AfterCommon, InData, AfterData, Between, Done}
@@ -46,10 +46,10 @@ module _ (s : List ℕ) (i : ℕ) where
   abbrev Kind : ℕ → Type 0
   Kind kind = KindOf s i kind
 
-  only-kind : (a : ℕ) → a < OTHER → Kind (only a name)
+  only-kind : (a : ℕ) → a < TRANS → Kind (only a name)
   only-kind a h = either-as Kind (eqb name a) a NOT-DUE (λ e. of-system a h (eqb-true name a e)) (λ e. not-due)
 
-  either-kind : (a b : ℕ) → a < OTHER → b < OTHER → Kind (eitherOf a b name)
+  either-kind : (a b : ℕ) → a < TRANS → b < TRANS → Kind (eitherOf a b name)
   either-kind a b h g =
       either-as Kind (eqb name a) a (only b name) (λ e. of-system a h (eqb-true name a e)) (λ e. only-kind b g)
 
@@ -93,7 +93,7 @@ module _ (s : List ℕ) (i : ℕ) where
       let z : suc (suc n) ≤ 1 = l in
       absurd (omega arith)
 
-  end-below : (b : Bool) → sectionEnd b < OTHER
+  end-below : (b : Bool) → sectionEnd b < TRANS
   end-below true = omega arith
   end-below false = omega arith
 

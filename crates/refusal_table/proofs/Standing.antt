@@ -19,7 +19,7 @@ use Rattle.columns.specs.Columns.{hasLineFeed}
 use Rattle.columns.specs.Fields.{n1, n2}
 use Rattle.columns.specs.Text.{within}
 use Rattle.record_expected.specs.Expected.{identificationOf, sequenceOf, inDigits}
-use Rattle.record_names.specs.Identifier.{SUBENT, NOSUBENT, OTHER, isEnd}
+use Rattle.record_names.specs.Identifier.{SUBENT, NOSUBENT, TRANS, isEnd}
 use Rattle.record.specs.System.{subentryOf}
 use Rattle.record_words.specs.Word.{equalTo}
 use Rattle.record_faults.specs.Faults.{badPointer}
@@ -47,8 +47,8 @@ use Rattle.refusal_table.proofs.Columns.{computed, brought}
 
 -- ---- kinds and columns of the table, each by one computed test
 
-system-below : (role : ℕ) → isSystem role ≡ true → role < OTHER
-system-below role h = ltb-true role OTHER h
+system-below : (role : ℕ) → isSystem role ≡ true → role < TRANS
+system-below role h = ltb-true role TRANS h
 
 -- a form that is asked for
 asked : (form : ℕ) (f : List ℕ) (b : Bool) → (eqb form FREE || b) ≡ true → not (inForm form f) ≡ true → b ≡ true
@@ -62,30 +62,30 @@ asked form f b e h = by-test (eqb form FREE) refl e
 n1-kinds : (role : ℕ) → isSystem role ≡ true → (eqb (formN1 role) FREE || withN1 role) ≡ true
 unfolding formN1 isEnd equalTo first anyOf
 n1-kinds role h =
-    computed (λ k. eqb (formN1 k) FREE || withN1 k) OTHER tt refl role (system-below role h)
+    computed (λ k. eqb (formN1 k) FREE || withN1 k) TRANS tt refl role (system-below role h)
 
 n2-kinds : (role : ℕ) → isSystem role ≡ true → (eqb (formN2 role) FREE || withN2 role) ≡ true
 unfolding formN2 isEnd equalTo first anyOf
 n2-kinds role h =
-    computed (λ k. eqb (formN2 k) FREE || withN2 k) OTHER tt refl role (system-below role h)
+    computed (λ k. eqb (formN2 k) FREE || withN2 k) TRANS tt refl role (system-below role h)
 
 section-kinds : (role : ℕ) → isSystem role ≡ true → opensSection role ≡ true → countedN2 role ≡ true
 unfolding anyOf
 section-kinds role h o =
     brought (opensSection role) (countedN2 role)
-    (computed (λ k. not (opensSection k) || countedN2 k) OTHER tt refl role (system-below role h)) o
+    (computed (λ k. not (opensSection k) || countedN2 k) TRANS tt refl role (system-below role h)) o
 
 section-kinds-too : (role : ℕ) → isSystem role ≡ true → opensSection role ≡ true → countedN1 role ≡ true
 unfolding anyOf
 section-kinds-too role h o =
     brought (opensSection role) (countedN1 role)
-    (computed (λ k. not (opensSection k) || countedN1 k) OTHER tt refl role (system-below role h)) o
+    (computed (λ k. not (opensSection k) || countedN1 k) TRANS tt refl role (system-below role h)) o
 
 end-kinds : (role : ℕ) → isSystem role ≡ true → isEnd role ≡ true → countedN1 role ≡ true
 unfolding isEnd equalTo first anyOf
 end-kinds role h o =
     brought (isEnd role) (countedN1 role)
-    (computed (λ k. not (isEnd k) || countedN1 k) OTHER tt refl role (system-below role h)) o
+    (computed (λ k. not (isEnd k) || countedN1 k) TRANS tt refl role (system-below role h)) o
 
 subentry-kinds : (role : ℕ) → opensSubentry role ≡ true → among (SUBENT ∷ NOSUBENT ∷ []) role ≡ true
 unfolding anyOf

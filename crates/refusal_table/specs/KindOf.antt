@@ -7,7 +7,7 @@ use lib.ListN.{getD}
 use Rattle.laws.specs.Blocks.{blockAt}
 use Rattle.columns_places.specs.Places.{recordsFor}
 use Rattle.columns.specs.Fields.{fieldsOf}
-use Rattle.record_names.specs.Identifier.{BIB, COMMON, DATA, OTHER, identifierOf}
+use Rattle.record_names.specs.Identifier.{BIB, COMMON, DATA, TRANS, OTHER, identifierOf}
 use Rattle.rules_roles.specs.Roles.{TEXT, COMMON-HEADING, COMMON-UNIT, COMMON-VALUE, DATA-HEADING, DATA-UNIT}
 use Rattle.rules_roles.specs.Roles.{DATA-VALUE, NOT-DUE}
 use Rattle.rules_counts.specs.Counts.{countN1, countN2}
@@ -50,7 +50,7 @@ pub record InRow (s : List ℕ) (opener j q i : ℕ) : Type 0 where
 
 pub data KindOf (s : List ℕ) (i : ℕ) : ℕ → Type 0 where
   -- "one fills columns 1-11, blanks behind"
-  of-system : (kind : ℕ) → kind < OTHER → nameIn s i ≡ kind → KindOf s i kind
+  of-system : (kind : ℕ) → kind < TRANS → nameIn s i ≡ kind → KindOf s i kind
   of-text : (j : ℕ) → BehindBib s j i → KindOf s i TEXT
   -- "COMMON has line 1 only"
   common-heading : (j : ℕ) → InRow s COMMON j 0 i → KindOf s i COMMON-HEADING

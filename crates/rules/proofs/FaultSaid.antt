@@ -7,14 +7,17 @@ use mathlib.Core.List.{List, [], _∷_}
 use mathlib.Core.Logic.{inl, inr}
 use native.Mathlib.Omega.{arith}
 use lib.ListN.{length, getD}
+use Rattle.laws.proofs.Walk.{all-at}
 use Rattle.rules_roles.specs.declared.fault.Fault.{Fault}
 use Rattle.rules_roles.specs.declared.fault.Fault.the-variants.{Fine, At}
 use Rattle.rules_state.specs.declared.state.Track.{Track}
 use Rattle.rules_state.specs.State.{Seen}
-use Rattle.rules_roles.specs.Fault.{leftmost, FaultAnswer, faultAnswer, Finding}
+use Rattle.rules_roles.specs.Fault.{leftmost, FaultAnswer, faultAnswer, Finding, firstFault}
 use Rattle.rules.specs.Order.{findings, faultOf, Before, noFinding, Least, Nothing, FaultSaid, no-fault, a-fault}
 use Rattle.rules.specs.Order.{FaultExactly}
-use Rattle.rules.proofs.Least.{fault-least, fault-none}
+use Rattle.rules.specs.Rising.{Sorted}
+use Rattle.rules.proofs.Rising.{findings-rise}
+use Rattle.rules.proofs.Least.{first-least, first-none, Empty, fault-least, fault-none}
 
 -- where something is the least, something is found
 pub some-found : (fs : List Finding) (n k : ℕ) → Least fs n k → Nothing fs → ⊥
@@ -41,32 +44,50 @@ both-before n k m j (inr a) (inr b) = let z = a .1 in let w = b .1 in (a .0, ome
 pub one-least : (fs : List Finding) (n k m j : ℕ) → Least fs n k → Least fs m j → (n ≡ m) × (k ≡ j)
 one-least fs n k m j a b = both-before n k m j (least-before fs n k m j a b) (least-before fs m j n k b a)
 
+-- ---- of a table by rising numbers
+
+module _ (fs : List Finding) (rising : Sorted 1 fs) where
+  -- where there is no fault, no rule finds anything
+  pub first-nothing : firstFault fs ≡ Fine → Nothing fs
+  first-nothing e = all-at Empty noFinding fs (first-none 1 fs rising e)
+
+  -- and the other way round
+  pub nothing-first : Nothing fs → firstFault fs ≡ Fine
+  nothing-first none = by-fault (firstFault fs) refl
+    where
+      by-fault : (x : Fault) → firstFault fs ≡ x → firstFault fs ≡ Fine
+      by-fault Fine e = e
+      by-fault (At n k) e = absurd (some-found fs n k (first-least 1 fs rising n k e) none)
+
+  -- the least that is found is the fault
+  pub least-first : (n k : ℕ) → Least fs n k → firstFault fs ≡ At n k
+  least-first n k l = by-fault (firstFault fs) refl
+    where
+      by-fault : (x : Fault) → firstFault fs ≡ x → firstFault fs ≡ At n k
+      by-fault Fine e = absurd (some-found fs n k l (first-nothing e))
+      by-fault (At m j) e = let (p, q) = one-least fs m j n k (first-least 1 fs rising m j e) l in rw (← p, ← q) e
+
+-- ---- of a record
+
 module _ (t : Track) (s : Seen) (role : ℕ) (fs : List (List ℕ)) (r : List ℕ) where
   abbrev found : List Finding
   found = findings t s role fs r
 
-  -- where no rule finds anything, there is no fault
   pub nothing-fine : Nothing (findings t s role fs r) → faultOf t s role fs r ≡ Fine
-  nothing-fine none = by-fault (faultOf t s role fs r) refl
-    where
-      by-fault : (x : Fault) → faultOf t s role fs r ≡ x → faultOf t s role fs r ≡ Fine
-      by-fault Fine e = e
-      by-fault (At n k) e = absurd (some-found found n k (fault-least t s role fs r n k e) none)
+  unfolding faultOf
+  nothing-fine none = nothing-first found (findings-rise t s role fs r) none
+
+  pub least-fault : (n k : ℕ) → Least (findings t s role fs r) n k → faultOf t s role fs r ≡ At n k
+  unfolding faultOf
+  least-fault n k l = least-first found (findings-rise t s role fs r) n k l
 
   answered : (x : Fault) → faultOf t s role fs r ≡ x → FaultSaid found (faultAnswer x)
   answered Fine e = no-fault (fault-none t s role fs r e)
   answered (At n k) e = a-fault n k (fault-least t s role fs r n k e)
 
-  at-least : (n k : ℕ) → Least found n k → (x : Fault) → faultOf t s role fs r ≡ x
-      → faultAnswer x ≡ record { number = n; column = k }
-  at-least n k l Fine e = absurd (some-found found n k l (fault-none t s role fs r e))
-  at-least n k l (At m j) e =
-      let (p, q) = one-least found m j n k (fault-least t s role fs r m j e) l in
-      rw (p, q) refl
-
   said : {a : FaultAnswer} → FaultSaid found a → faultAnswer (faultOf t s role fs r) ≡ a
   said (no-fault none) = ap faultAnswer (nothing-fine none)
-  said (a-fault n k l) = at-least n k l (faultOf t s role fs r) refl
+  said (a-fault n k l) = ap faultAnswer (least-fault n k l)
 
 pub fault-exactly : FaultExactly
 fault-exactly t s role fs r a =

@@ -66,7 +66,8 @@ from-one : (a k : ℕ) → (a ≡ 0 → ⊥) → a ≡ k → 1 ≤ k
 from-one zero k h e = absurd (h refl)
 from-one (suc a) k h e = omega arith
 
-first-least : (a : ℕ) (fs : List Finding) → Sorted a fs → (n k : ℕ) → firstFault fs ≡ At n k → Least fs n k
+-- the first fault of such a table is the least
+pub first-least : (a : ℕ) (fs : List Finding) → Sorted a fs → (n k : ℕ) → firstFault fs ≡ At n k → Least fs n k
 unfolding firstFault
 first-least a [] s n k e = let z : _≡_ {A = ℕ} 0 1 = cc in absurd (omega arith)
 first-least a (f ∷ fs) (also low rising s) n k e =
@@ -109,7 +110,7 @@ first-least a (f ∷ fs) (also low rising s) n k e =
           least = λ i j l m. first i j l m same-number same-column;
         }
 
-first-bounds : (fs : List Finding) → Sorted 1 fs → (n k : ℕ) → Least fs n k → FaultBounds n k
+pub first-bounds : (fs : List Finding) → Sorted 1 fs → (n k : ℕ) → Least fs n k → FaultBounds n k
 first-bounds fs s n k l =
     let p = sorted-at 1 fs s (l .at) (l .there) in
     record {
@@ -123,7 +124,7 @@ first-bounds fs s n k l =
 abbrev pub Empty : Finding → Type 0
 Empty f = f .columns ≡ []
 
-first-none : (a : ℕ) (fs : List Finding) → Sorted a fs → firstFault fs ≡ Fine → All Empty fs
+pub first-none : (a : ℕ) (fs : List Finding) → Sorted a fs → firstFault fs ≡ Fine → All Empty fs
 unfolding firstFault
 first-none a [] s e = tt
 first-none a (f ∷ fs) (also low rising s) e =

@@ -40,16 +40,17 @@ lower : (a b : ℕ) (ks : List ℕ) → a ≤ b → Rising b ks → Rising a ks
 lower a b [] h no-column = no-column
 lower a b (k ∷ ks) h (column l m r) = let n : a ≤ k = omega arith in column n m r
 
-when-rising : (t : Bool) (a k : ℕ) → a ≤ k → k ≤ LAST-COLUMN → Rising a (when t k)
+pub when-rising : (t : Bool) (a k : ℕ) → a ≤ k → k ≤ LAST-COLUMN → Rising a (when t k)
 when-rising true a k h l = column h l no-column
 when-rising false a k h l = no-column
 
-on-rising : (t : Bool) (ks : List ℕ) → Rising 1 ks → Rising 1 (on t ks)
+pub on-rising : (t : Bool) (ks : List ℕ) → Rising 1 ks → Rising 1 (on t ks)
 on-rising true ks r = r
 on-rising false ks r = no-column
 
 -- one column, then others that stand no further left
-before-rising : (t : Bool) (a k : ℕ) (ks : List ℕ) → a ≤ k → k ≤ LAST-COLUMN → Rising k ks → Rising a (when t k ++ ks)
+pub before-rising : (t : Bool) (a k : ℕ) (ks : List ℕ) → a ≤ k → k ≤ LAST-COLUMN → Rising k ks
+    → Rising a (when t k ++ ks)
 before-rising true a k ks h l r = column h l r
 before-rising false a k ks h l r = lower a k ks h r
 
@@ -83,19 +84,19 @@ pointers-rising test =
 
 -- ---- the rules
 
+pub rising2 : (r : List ℕ) → Rising 1 (rule2 r)
+unfolding rule2
+rising2 r = when-rising (not (hasLineFeed r)) 1 81 (omega arith) (omega arith)
+
+pub rising3 : (r : List ℕ) → Rising 1 (rule3 r)
+unfolding rule3
+rising3 r = where-rising (notPermitted r) (λ i. i + 1) (λ k. omega arith) 80 (omega arith) (λ k l. omega arith)
+
+pub rising4 : (role : ℕ) → Rising 1 (rule4 role)
+unfolding rule4
+rising4 role = when-rising (eqb role NOT-DUE) 1 1 (omega arith) (omega arith)
+
 module _ (t : Track) (s : Seen) (role : ℕ) (fs : List (List ℕ)) (r : List ℕ) where
-  rising2 : Rising 1 (rule2 r)
-  unfolding rule2
-  rising2 = when-rising (not (hasLineFeed r)) 1 81 (omega arith) (omega arith)
-
-  rising3 : Rising 1 (rule3 r)
-  unfolding rule3
-  rising3 = where-rising (notPermitted r) (λ i. i + 1) (λ k. omega arith) 80 (omega arith) (λ k l. omega arith)
-
-  rising4 : Rising 1 (rule4 role)
-  unfolding rule4
-  rising4 = when-rising (eqb role NOT-DUE) 1 1 (omega arith) (omega arith)
-
   rising5 : Rising 1 (rule5 t role fs r)
   unfolding rule5
   rising5 =
@@ -191,9 +192,9 @@ module _ (t : Track) (s : Seen) (role : ℕ) (fs : List (List ℕ)) (r : List �
 
   rows : Sorted 1 (findings t s role fs r)
   rows =
-      also (next 1) rising2
-      (also (next 2) rising3
-      (also (next 3) rising4
+      also (next 1) (rising2 r)
+      (also (next 2) (rising3 r)
+      (also (next 3) (rising4 role)
       (also (next 4) rising5
       (also (next 5) rising6
       (also (next 6) (on-rising (isSystem role) _ rising7)

@@ -2,7 +2,7 @@
 use Prim.Native.Nat.{ℕ, _+_}
 use mathlib.Core.Bool.{Bool, _||_}
 use lib.Dec.{eqb, ltb}
-use Rattle.record_names.specs.Identifier.{SUBENT, NOSUBENT, BIB, COMMON, DATA, OTHER}
+use Rattle.record_names.specs.Identifier.{SUBENT, NOSUBENT, BIB, COMMON, DATA, TRANS, OTHER}
 
 -- ---- the roles: a system record has its identifier's number; the records inside sections have these
 
@@ -35,9 +35,9 @@ NOT-DUE = OTHER + 8
 
 -- ---- kinds of roles
 
--- one of the fourteen system identifiers
+-- one of the fourteen system identifiers that stand in an entry; TRANS and ENDTRANS are the role of no record of it
 abbrev pub isSystem : Role → Bool
-isSystem role = ltb role OTHER
+isSystem role = ltb role TRANS
 
 -- SUBENT or NOSUBENT
 abbrev pub opensSubentry : Role → Bool

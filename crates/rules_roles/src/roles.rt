@@ -8,6 +8,7 @@ use record_names::identifier::DATA;
 use record_names::identifier::NOSUBENT;
 use record_names::identifier::OTHER;
 use record_names::identifier::SUBENT;
+use record_names::identifier::TRANS;
 
 // The roles of the records inside sections; a system record has its identifier's number.
 pub const TEXT: usize = OTHER + 1;
@@ -26,11 +27,11 @@ pub const DATA_VALUE: usize = OTHER + 7;
 
 pub const NOT_DUE: usize = OTHER + 8;
 
-// One of the fourteen system identifiers.
+// One of the fourteen system identifiers that stand in an entry.
 pub fn is_system(role: usize) -> bool
     ensures { λ r. ⌜ r ≡ isSystem role ⌝ }
 {
-    role < OTHER
+    role < TRANS
 }
 
 // SUBENT or NOSUBENT.

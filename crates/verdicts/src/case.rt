@@ -52,11 +52,11 @@ fn put_text(line: &[u8], from: usize, space: &mut [u8], at: usize) {
     }
 }
 
-// The case begins again from the whole entry.
-pub(crate) fn begin(whole: &[u8], length: usize, case: &mut [u8]) {
+// Puts the whole entry into the case, from the byte `at` on.
+pub(crate) fn begin(whole: &[u8], length: usize, case: &mut [u8], at: usize) {
     let mut i: usize = 0;
     while i < length {
-        put(case, i, byte_at(whole, i));
+        put(case, wrapping_add_usize(at, i), byte_at(whole, i));
         i += 1;
     }
 }
@@ -72,15 +72,30 @@ fn leave_out(case: &mut [u8], start: usize, length: usize) -> usize {
     wrapping_sub_usize(length, RECORD)
 }
 
-// Moves what stands from one record on to the right, by a record.
-fn make_room(case: &mut [u8], start: usize, length: usize) -> usize {
+// Moves what stands from one record on to the right, by so many bytes.
+fn make_room(case: &mut [u8], start: usize, length: usize, by: usize) -> usize {
     let mut i = length;
     while i > start {
         i -= 1;
         let byte = byte_at(case, i);
-        put(case, wrapping_add_usize(i, RECORD), byte);
+        put(case, wrapping_add_usize(i, by), byte);
     }
-    wrapping_add_usize(length, RECORD)
+    wrapping_add_usize(length, by)
+}
+
+// Puts the whole entry before the record that the line names, and hands back the case's length.
+pub(crate) fn insert(
+    line: &[u8],
+    whole: &[u8],
+    entry: usize,
+    case: &mut [u8],
+    length: usize,
+) -> usize {
+    let record = number_in(line, 1, 6) as usize;
+    let start = place(record, 1);
+    let grown = make_room(case, start, length, entry);
+    begin(whole, entry, case, start);
+    grown
 }
 
 // Line feeds stand where a case is made longer.
@@ -112,7 +127,7 @@ pub(crate) fn change(kind: u8, line: &[u8], case: &mut [u8], length: usize) -> u
             return leave_out(case, start, length);
         }
         b'+' => {
-            let grown = make_room(case, start, length);
+            let grown = make_room(case, start, length, RECORD);
             put_record(line, 7, case, start);
             return grown;
         }

@@ -1,4 +1,4 @@
-// Judges changed copies of one entry, and writes each verdict under the title of its case.
+// Judges changed copies of one entry, or of a file of such entries, and writes each verdict under the title of its case.
 //
 // Standard input is lines of text, and the first character says what a line is. Numbers have leading zeros; records are
 // counted as they stand when the line is met.
@@ -8,8 +8,10 @@
 //     @RRRRR CCC BBB       puts the byte of value BBB into record RRRRR at column CCC
 //     -RRRRR               leaves record RRRRR out
 //     +RRRRR COLUMNS       puts a record before record RRRRR
+//     &RRRRR               puts the whole entry before record RRRRR
 //     <LLLLLLL             makes the case LLLLLLL bytes long: cut, or with line feeds behind it
 //     ! TITLE              judges the case, writes TITLE and the seven numbers, and begins again from the whole entry
+//     % TITLE              the same, but judges it as a file, and writes the ordinal as the eighth number
 //     # ..                 a comment
 mod case;
 
@@ -19,9 +21,12 @@ ghost use lib.ListN.{length};
 use bytes::scan::find;
 use case::begin;
 use case::change;
+use case::insert;
 use case::put_record;
 use entry::judge::judge;
+use files::judge_file::judge_file;
 use program_text::byte_at;
+use program_verdict::say_file_verdict;
 use program_verdict::say_verdict;
 
 // How many bytes the whole entry has, and the case.
@@ -37,12 +42,23 @@ fn least(a: usize, b: usize) -> usize
     if a < b { a } else { b }
 }
 
-// Writes the title, which follows `! ` in the line, and the verdict on the first `used` bytes.
-fn show(line: &[u8], case: &[u8], used: usize) {
+// Writes the title, which follows `! ` or `% ` in the line, and the verdict on the first `used` bytes.
+fn show(kind: u8, line: &[u8], case: &[u8], used: usize) {
     let from = least(2, line.len());
     let length = least(used, case.len());
     io::write_all(1, &line[from..]);
-    say_verdict(b": ", judge(&case[0..length]));
+    if kind == b'!' {
+        say_verdict(b": ", judge(&case[0..length]));
+    } else {
+        say_file_verdict(b": ", judge_file(&case[0..length]));
+    }
+}
+
+fn is_title(kind: u8) -> bool {
+    if kind == b'!' {
+        return true;
+    }
+    kind == b'%'
 }
 
 impl Lengths {
@@ -53,15 +69,22 @@ impl Lengths {
         let kind = byte_at(line, 0);
         if kind == b'*' {
             let grown = put_record(line, 1, whole, entry);
-            begin(whole, grown, case);
+            begin(whole, grown, case, 0);
             return Lengths {
                 whole: grown,
                 case: grown,
             };
         }
-        if kind == b'!' {
-            show(line, case, used);
-            begin(whole, entry, case);
+        if kind == b'&' {
+            let length = insert(line, whole, entry, case, used);
+            return Lengths {
+                whole: entry,
+                case: length,
+            };
+        }
+        if is_title(kind) {
+            show(kind, line, case, used);
+            begin(whole, entry, case, 0);
             return Lengths {
                 whole: entry,
                 case: entry,

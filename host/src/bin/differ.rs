@@ -1,12 +1,13 @@
 //! Holds the library against the reference: on the sample and the sample with flags with every byte changed to every
-//! other, and on generated entries, number fields and decimals.
+//! other, on a transmission with every byte of TRANS and ENDTRANS changed so, and on generated entries, transmissions,
+//! number fields and decimals.
 //!
-//!     cargo run --release --bin differ -- [--seed N] [--entries N] [--numbers N]
+//!     cargo run --release --bin differ -- [--seed N] [--entries N] [--files N] [--numbers N]
 
 #![forbid(unsafe_code)]
 
 use glockenbeacon::differ::{Library, Pair, Reference};
-use glockenbeacon::library;
+use glockenbeacon::{generate, library};
 use std::process::ExitCode;
 
 /// The number behind an option, or what stands for it.
@@ -21,14 +22,18 @@ fn run() -> Result<ExitCode, String> {
     let arguments: Vec<String> = std::env::args().skip(1).collect();
     let seed = option(&arguments, "--seed", 1)?;
     let entries = option(&arguments, "--entries", 20_000)?;
+    let files = option(&arguments, "--files", 5_000)?;
     let numbers = option(&arguments, "--numbers", 1_000_000)?;
-    println!("seed {seed}: {entries} entries, {numbers} number fields, {numbers} decimals");
+    println!("seed {seed}: {entries} entries, {files} transmissions, {numbers} number fields, {numbers} decimals");
     println!("answered {}", library::who_answers());
     let mut pair = Pair::new(&Library, &Reference);
     let every: Vec<u8> = (0..=255).collect();
     let outcome = pair
         .bytes(include_bytes!("../../data/sample.x4"), &every)
         .and_then(|()| pair.bytes(include_bytes!("../../data/flags.x4"), &every))
+        .and_then(|()| pair.file_bytes(&generate::transmission(&mut generate::Random::seeded(seed)).bytes(), &every))
+        .and_then(|()| pair.given_files(&generate::file_limits()))
+        .and_then(|()| pair.files(seed, files))
         .and_then(|()| pair.entries(seed, entries))
         .and_then(|()| pair.fields(seed, numbers))
         .and_then(|()| pair.decimals(seed, numbers));

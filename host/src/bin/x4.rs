@@ -1,23 +1,25 @@
-//! x4: judges EXFOR entries, prints and compares their tables, and copies them canonically.
+//! x4: judges EXFOR entries and transmissions, prints and compares their tables, and copies them canonically.
 
 #![forbid(unsafe_code)]
 
 use glockenbeacon::json::{object, text};
-use glockenbeacon::tables::{from_csv, tables, to_csv, to_json, Row, Table};
+use glockenbeacon::tables::{file_tables, from_csv, tables, to_csv, to_json, Row, Table};
+use glockenbeacon::transmission::{accession, entries_in_words, is_transmission, Place};
 use glockenbeacon::{compare, explain, library, NoAnswer, Refusal, Verdict};
 use std::ffi::{OsStr, OsString};
 use std::io::{self, IsTerminal, Read, Write};
 use std::process::ExitCode;
 
 const HELP: &str = "\
-x4 reads EXFOR entries: one entry in each file, from ENTRY to ENDENTRY.
+x4 reads EXFOR entries and transmissions. A file is one entry, from ENTRY to ENDENTRY, or, where its first record is
+TRANS, one transmission: TRANS, one or more entries, ENDTRANS.
 
-  x4 judge [--json] [FILE..]       is the entry good, and if not, where is its first fault
+  x4 judge [--json] [FILE..]       is it good, and if not, where is its first fault
   x4 tables [--json] [--digits] [FILE]
                                    every COMMON and DATA table, as comma-separated values
   x4 canon [FILE]                  the canonical copy: every number but flags in its shortest spelling
   x4 compare [--exact] [--digits] A B
-                                   the first difference between two entries' tables
+                                   the first difference between the tables of two
   x4 help COMMAND                  more about a command
 
 Without FILE, or where FILE is -, standard input is read.
@@ -29,10 +31,15 @@ x4 judge [--json] [FILE..]
 
 Prints seven numbers: refusal, record, column, subentries, keywords, DATA lines, numbers. A good entry has refusal 0.
 A refused one has the number, record and column of its first fault, and zeros; then come what was expected there, what
-stands there, and the record with a mark under the column. With several files each line of numbers begins with the
-file's name. With --json each file is one line, an object.
+stands there, and the record with a mark under the column. With --json each file is one line, an object.
 
-Entries are mended from the top: a refusal other than 1 and 16 depends on nothing below its record. Without --json its
+Of a transmission there are eight numbers. The record is counted from TRANS, the totals are those of all entries, and
+the eighth is the ordinal of the entry that is refused: 0 where it is good, with refusals 1 and 16, and outside ENTRY to
+ENDENTRY. Below stand the entry's ordinal and accession and the record counted from its ENTRY.
+
+With several files there is one line for each: its name, the numbers, and what a refusal stands for.
+
+Files are mended from the top: a refusal other than 1 and 16 depends on nothing below its record. Without --json its
 last line says how many records stand below, if any do.
 
 A heading with its pointer stands once in the COMMON of 001, a subentry's COMMON and its DATA together. E-LVL, EN-RES,
@@ -42,17 +49,18 @@ all equal ones side by side, in one of these sections.
 A number under the heading FLAG or DECAY-FLAG has no exponent. A number under FLAG equals a code: 2. equals (2.) on a
 record of BIB under the keyword FLAG, from column 12 on, in the same subentry or in 001.
 
-Exit status: 0 if every entry is good, 1 if one is refused, 2 if a file cannot be read.
+Exit status: 0 if every file is good, 1 if one is refused, 2 if a file cannot be read.
 ";
 
 const HELP_TABLES: &str = "\
 x4 tables [--json] [--digits] [FILE]
 
-Prints every table of a good entry. Each row begins with the subentry, COMMON or DATA, and 'heading', 'pointer', 'unit'
-or the number of the line; then comes a field for each column. Numbers are exact decimals as text: 1.45-1 is 0.145.
-A blank field is empty, and zero is 0. With --json the tables are an array of objects; numbers are texts, blank is null.
-Some headings may stand on several columns side by side, such as HL in seconds, days and years: a column goes by its
-place, not by its heading.
+Prints every table of a good entry, or of all entries of a good transmission. Each row begins with the subentry, COMMON
+or DATA, and 'heading', 'pointer', 'unit' or the number of the line; then comes a field for each column. Numbers are
+exact decimals as text: 1.45-1 is 0.145. A blank field is empty, and zero is 0. With --json the tables are an array of
+objects; numbers are texts, blank is null; of a transmission each table has the ordinal of its entry. Some headings may
+stand on several columns side by side, such as HL in seconds, days and years: a column goes by its place, not by its
+heading.
 
 With --digits a count stands beside each value: the digits that were written, from the first that is not zero to the
 last, before and behind the point. 0.140 has 3, 0.14 has 2, 100. has 3, zero and a blank have 0. As comma-separated
@@ -64,24 +72,26 @@ x4 canon [FILE]
 
 Writes the canonical copy of a good entry: each number of COMMON and DATA in its shortest spelling, right-adjusted, and
 every other byte as it was. Columns under FLAG and DECAY-FLAG stay as they were, too. The copy is again a good entry,
-with the same values, and its own canonical copy.
+with the same values, and its own canonical copy. That of a transmission is TRANS and ENDTRANS as they were, and between
+them the copies of its entries.
 ";
 
 const HELP_COMPARE: &str = "\
 x4 compare [--exact] [--digits] A B
 
 Compares the tables of A and B: headings, pointers, units and values, and names the first difference by subentry,
-section, line and column. A and B are entries, or tables as x4 tables writes them; a file whose first word is ENTRY is
-an entry. Numbers are compared by value. As most programs write doubles, a number of a table that was written by another
-program is also the same where its nearest double is; with --exact it is not. BIB is not compared.
+section, line and column. A and B are entries or transmissions, or tables as x4 tables writes them; a file whose first
+word is ENTRY is an entry, one whose first word is TRANS a transmission. In a transmission the difference is named with
+its entry, too. Numbers are compared by value. As most programs write doubles, a number of a table that was written by
+another program is also the same where its nearest double is; with --exact it is not. BIB is not compared.
 
-With --digits the counts of digits are compared too: 0.140 and 0.14 then differ. A and B are entries, or tables as
-x4 tables --digits writes them.
+With --digits the counts of digits are compared too: 0.140 and 0.14 then differ. Tables are then such as
+x4 tables --digits writes.
 ";
 
 /// What stopped a command.
 enum Trouble {
-    /// An entry is refused, or two differ: the message, and status 1.
+    /// An entry or transmission is refused, or two differ: the message, and status 1.
     Refused(String),
     /// Files, arguments: the message, and status 2.
     Failed(String),
@@ -198,16 +208,17 @@ fn judge(arguments: &[OsString]) -> Done {
         if watched {
             eprint!("\r\x1b[K{} of {}: {}", index + 1, files.len(), called(file));
         }
-        let entry = read(file);
+        let input = read(file);
         if watched {
             eprint!("\r\x1b[K");
         }
-        match entry {
-            Ok(entry) => {
-                let verdict = library::judge(&entry);
-                let report = match json {
-                    true => judged_json(file, &entry, &verdict),
-                    false => judged_words(several.then(|| called(file)), &entry, &verdict),
+        match input {
+            Ok(input) => {
+                let verdict = judge_input(&input);
+                let report = match (json, several) {
+                    (true, _) => judged_json(file, &input, &verdict),
+                    (false, true) => judged_line(file, &input, &verdict),
+                    (false, false) => judged_words(&input, &verdict),
                 };
                 say(report.as_bytes())?;
                 status = status.max(u8::from(verdict.refusal().is_some()));
@@ -221,31 +232,70 @@ fn judge(arguments: &[OsString]) -> Done {
     Ok(ExitCode::from(status))
 }
 
-/// The seven numbers.
-fn numbers(verdict: &Verdict) -> String {
-    verdict.numbers().map(|number| number.to_string()).join(" ")
+/// The verdict on an input, by its first record that on an entry or on a transmission.
+fn judge_input(input: &[u8]) -> Verdict {
+    match is_transmission(input) {
+        true => library::judge_file(input),
+        false => library::judge(input),
+    }
 }
 
-fn judged_words(name: Option<String>, entry: &[u8], verdict: &Verdict) -> String {
-    let line = match name {
-        Some(name) => format!("{name}: {}\n", numbers(verdict)),
-        None => format!("{}\n", numbers(verdict)),
+/// The seven numbers, and of a transmission the ordinal.
+fn numbers(input: &[u8], verdict: &Verdict) -> String {
+    let ordinal = is_transmission(input).then(|| verdict.ordinal());
+    let numbers = verdict.numbers().into_iter().chain(ordinal);
+    numbers.map(|number| number.to_string()).collect::<Vec<_>>().join(" ")
+}
+
+/// One of several files: its name, the numbers, and what a refusal stands for.
+fn judged_line(file: &OsStr, input: &[u8], verdict: &Verdict) -> String {
+    let meaning = verdict.refusal().map_or(String::new(), |refusal| format!(", {}", refusal.meaning()));
+    format!("{}: {}{meaning}\n", called(file), numbers(input, verdict))
+}
+
+fn judged_words(input: &[u8], verdict: &Verdict) -> String {
+    let words = match verdict {
+        Verdict::Refused(refusal) => refused_words(input, refusal),
+        Verdict::Accepted(totals) if is_transmission(input) => {
+            format!("accepted: {}, {totals}\n", entries_in_words(input))
+        }
+        Verdict::Accepted(_) => format!("{verdict}\n"),
     };
-    match verdict {
-        Verdict::Accepted(_) => format!("{line}{verdict}\n"),
-        Verdict::Refused(refusal) => line + &refused_words(entry, refusal),
-    }
+    format!("{}\n{words}", numbers(input, verdict))
+}
+
+/// Where in a transmission a refusal is, if it names a record of one.
+fn place<'i>(input: &'i [u8], refusal: &Refusal) -> Option<Place<'i>> {
+    (is_transmission(input) && refusal.record > 0).then(|| Place::of(input, refusal))
+}
+
+/// What was expected, what was found, and the note.
+fn explained(input: &[u8], refusal: &Refusal) -> (String, String, Option<String>) {
+    let words = match is_transmission(input) {
+        true => explain::explain_file(input, refusal),
+        false => explain::explain(input, refusal),
+    };
+    let note = match is_transmission(input) {
+        true => words.note,
+        false => explain::note_on(input, refusal, &words),
+    };
+    (words.expected, words.found, note)
 }
 
 /// A refusal in words, and its record.
-fn refused_words(entry: &[u8], refusal: &Refusal) -> String {
-    let words = explain::explain(entry, refusal);
-    let mut said = format!("{refusal}\n{}", explain::shown(entry, refusal).unwrap_or_default());
-    said += &format!("  expected: {}\n  found:    {}\n", words.expected, words.found);
-    if let Some(note) = explain::note_on(entry, refusal, &words) {
+fn refused_words(input: &[u8], refusal: &Refusal) -> String {
+    let (expected, found, note) = explained(input, refusal);
+    let mut said = format!("{refusal}\n{}", explain::shown(input, refusal).unwrap_or_default());
+    let place = place(input, refusal).filter(|_| refusal.ordinal > 0);
+    if let Some((place, entry)) = place.and_then(|place| Some((place, place.entry_in_words()?))) {
+        let (own, all) = (place.record, refusal.record);
+        said += &format!("  where:    {entry}, record {own} of the entry, {all} of the transmission\n");
+    }
+    said += &format!("  expected: {expected}\n  found:    {found}\n");
+    if let Some(note) = note {
         said += &format!("  note:     {note}\n");
     }
-    if let Some(below) = explain::below(entry, refusal) {
+    if let Some(below) = explain::below(input, refusal) {
         said += &format!("  below:    {below}\n");
     }
     said
@@ -254,31 +304,44 @@ fn refused_words(entry: &[u8], refusal: &Refusal) -> String {
 /// The names of the seven numbers.
 const NAMES: [&str; 7] = ["refusal", "record", "column", "subentries", "keywords", "lines", "numbers"];
 
-fn judged_json(file: &OsStr, entry: &[u8], verdict: &Verdict) -> String {
+fn judged_json(file: &OsStr, input: &[u8], verdict: &Verdict) -> String {
+    let or_null = |words: Option<String>| words.map_or("null".into(), |words| text(&words));
     let mut members =
         vec![("file", text(&file.to_string_lossy())), ("accepted", verdict.refusal().is_none().to_string())];
     members.extend(NAMES.into_iter().zip(verdict.numbers().map(|number| number.to_string())));
-    if let Verdict::Refused(refusal) = verdict {
-        let words = explain::explain(entry, refusal);
-        members.push(("meaning", text(refusal.meaning())));
-        members.push(("expected", text(&words.expected)));
-        members.push(("found", text(&words.found)));
-        let note = explain::note_on(entry, refusal, &words);
-        members.push(("note", note.map_or("null".into(), |note| text(&note))));
+    if is_transmission(input) {
+        members.push(("ordinal", verdict.ordinal().to_string()));
     }
+    let Verdict::Refused(refusal) = verdict else {
+        let entries = is_transmission(input).then(|| ("entries", library::entries(input).count().to_string()));
+        members.extend(entries);
+        return object(&members) + "\n";
+    };
+    if is_transmission(input) {
+        let place = place(input, refusal).filter(|_| refusal.ordinal > 0);
+        let named = place.and_then(|place| accession(place.entry?)).map(String::from);
+        members.push(("accession", or_null(named)));
+        members.push(("entry_record", place.map_or("null".into(), |place| place.record.to_string())));
+    }
+    let (expected, found, note) = explained(input, refusal);
+    members.push(("meaning", text(refusal.meaning())));
+    members.push(("expected", text(&expected)));
+    members.push(("found", text(&found)));
+    members.push(("note", or_null(note)));
     object(&members) + "\n"
 }
 
-/// The message for an entry that is refused where a good one is needed.
-fn refused(file: &OsStr, entry: &[u8], answer: &NoAnswer) -> Trouble {
+/// The message for an input that is refused where a good one is needed.
+fn refused(file: &OsStr, input: &[u8], answer: &NoAnswer) -> Trouble {
     Trouble::Refused(match answer.entry {
-        Some(refusal) => format!("{}: {}", called(file), refused_words(entry, &refusal)),
+        Some(refusal) => format!("{}: {}", called(file), refused_words(input, &refusal)),
         None => format!("{}: {answer}", called(file)),
     })
 }
 
-fn tables_of(file: &OsStr, entry: &[u8]) -> Result<Vec<Table>, Trouble> {
-    tables(entry).map_err(|answer| refused(file, entry, &answer))
+fn tables_of(file: &OsStr, input: &[u8]) -> Result<Vec<Table>, Trouble> {
+    let tables = if is_transmission(input) { file_tables(input) } else { tables(input) };
+    tables.map_err(|answer| refused(file, input, &answer))
 }
 
 fn print_tables(arguments: &[OsString]) -> Done {
@@ -293,23 +356,28 @@ fn print_tables(arguments: &[OsString]) -> Done {
 fn canon(arguments: &[OsString]) -> Done {
     let ([], files) = options(arguments, [])?;
     let file = only(files)?;
-    let entry = read(&file)?;
-    let mut copy = vec![0; entry.len()];
-    library::canonical_copy(&entry, &mut copy).map_err(|answer| refused(&file, &entry, &answer))?;
+    let input = read(&file)?;
+    let mut copy = vec![0; input.len()];
+    let copied = match is_transmission(&input) {
+        true => library::copy_file(&input, &mut copy),
+        false => library::canonical_copy(&input, &mut copy),
+    };
+    copied.map_err(|answer| refused(&file, &input, &answer))?;
     say(&copy)?;
     Ok(ExitCode::SUCCESS)
 }
 
-/// The rows of an entry's tables, with digits where they are asked for, or of tables that a program wrote; and whether
-/// it is an entry.
+/// The rows of the tables of an entry or a transmission, with digits where they are asked for, or of tables that a
+/// program wrote; and whether it is one of the first two.
 fn rows(file: &OsStr, digits: bool) -> Result<(Vec<Row>, bool), Trouble> {
     let bytes = read(file)?;
-    if bytes.starts_with(b"ENTRY ") {
+    if bytes.starts_with(b"ENTRY ") || is_transmission(&bytes) {
         let rows = tables_of(file, &bytes)?.iter().flat_map(|table| table.rows(digits)).collect();
         return Ok((rows, true));
     }
     let text = String::from_utf8_lossy(&bytes);
-    let rows = from_csv(&text).map_err(|why| format!("{}: neither an entry nor tables: {why}", called(file)));
+    let rows =
+        from_csv(&text).map_err(|why| format!("{}: neither an entry, a transmission nor tables: {why}", called(file)));
     Ok((rows.map_err(Trouble::Failed)?, false))
 }
 

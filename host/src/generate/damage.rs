@@ -35,6 +35,8 @@ pub const CAUSES: &[(&str, Act)] = &[
     ("4 DATA lines too few", lines_small),
     ("4 identifier inside BIB", identifier_in_bib),
     ("4 END identifier inside a table", end_in_table),
+    ("4 TRANS or ENDTRANS inside BIB", transmission_in_bib),
+    ("4 ENDTRANS inside a table", end_trans_in_table),
     ("4 NOSUBENT or ENDENTRY before a SUBENT", early_end),
     ("4 record after ENDENTRY", after_end),
     ("4 identifier misspelled", misspelled),
@@ -100,7 +102,7 @@ pub fn damage(random: &mut Random, sheet: &mut Sheet, cause: usize) -> Option<Da
     let (cause, act) = CAUSES[cause];
     let (number, record, column) = act(random, sheet)?;
     let record = if number == 1 { 0 } else { record as u32 + 1 };
-    Some(Damage { cause, due: Refusal { number, record, column: column as u32 } })
+    Some(Damage { cause, due: Refusal::new(number, record, column as u32) })
 }
 
 /// An entry damaged by one cause: the first of at most twenty that has a place for it. If none has, the last as it is.
@@ -310,6 +312,18 @@ fn end_in_table(random: &mut Random, sheet: &mut Sheet) -> Option<Fault> {
     let at = pick(random, &sheet.find(|kind| !matches!(kind, Kind::System(_) | Kind::Text { .. })))?;
     let name = random.one(&["ENDBIB", "ENDCOMMON", "ENDDATA", "ENDSUBENT", "ENDENTRY"]);
     sheet.put(at, 1, format!("{name:11}").as_bytes());
+    Some((4, at, 1))
+}
+
+fn transmission_in_bib(random: &mut Random, sheet: &mut Sheet) -> Option<Fault> {
+    let at = pick(random, &sheet.find(|kind| matches!(kind, Kind::Text { .. })))?;
+    sheet.put(at, 1, format!("{:11}", random.one(&["TRANS", "ENDTRANS"])).as_bytes());
+    Some((4, at, 1))
+}
+
+fn end_trans_in_table(random: &mut Random, sheet: &mut Sheet) -> Option<Fault> {
+    let at = pick(random, &sheet.find(|kind| !matches!(kind, Kind::System(_) | Kind::Text { .. })))?;
+    sheet.put(at, 1, b"ENDTRANS   ");
     Some((4, at, 1))
 }
 

@@ -88,8 +88,8 @@ impl Sheet {
     }
 }
 
-/// The identifiers of system records.
-pub(super) const IDENTIFIERS: [&str; 14] = [
+/// The identifiers of system records, those of a transmission among them.
+pub(super) const IDENTIFIERS: [&str; 16] = [
     "ENTRY",
     "SUBENT",
     "BIB",
@@ -104,6 +104,8 @@ pub(super) const IDENTIFIERS: [&str; 14] = [
     "ENDDATA",
     "ENDSUBENT",
     "ENDENTRY",
+    "TRANS",
+    "ENDTRANS",
 ];
 
 /// All characters that may stand in a record but blank.
@@ -113,7 +115,7 @@ pub(super) const FILLED: &[u8] = b"ABCDEFGHIJKLMNOPQRSTUVWXYZabcdefghijklmnopqrs
 pub(super) const POINTERS: &[u8] = b"123456789ABCDEFGHIJKLMNOPQRSTUVWXYZ";
 
 /// Words as compilers use them, and some that look like identifiers.
-const WORDS: [&str; 20] = [
+const WORDS: [&str; 21] = [
     "TITLE",
     "AUTHOR",
     "REFERENCE",
@@ -132,6 +134,7 @@ const WORDS: [&str; 20] = [
     "NO-DIM",
     "MEV",
     "TRANS",
+    "ENDTRANS",
     "SUBENT",
     "ENDX",
 ];

@@ -5,8 +5,10 @@
 //! walks the tree by itself and notes all its faults, with sets and maps for what may not occur twice and runs of equal
 //! neighbours for headings that may (M-101); the verdict is the least of the noted faults. A number field is taken
 //! apart as text, its digits are counted by its characters, a flag is its code (M-105) by its digits, and the canonical
-//! field is found by trying the shapes of fields in the paper's order of preference.
+//! field is found by trying the shapes of fields in the paper's order of preference. A transmission (M-100) is cut
+//! behind each ENDENTRY, and every piece is judged as an entry of its own.
 
+mod files;
 pub mod flags;
 pub mod number;
 pub mod questions;
@@ -15,31 +17,29 @@ mod rules;
 pub mod tree;
 
 use crate::{Refusal, Verdict};
+pub use files::{copy_file, entry_length, judge_file};
 pub use number::{read_number, write_number};
 pub use questions::{canonical_copy, heading, passage, unit, value};
 pub use rules::{identification_due, keyword_total, may_repeat};
 use tree::Tree;
 
 /// "An entry is 1 to 20,000 records."
-const MOST_BYTES: usize = 20_000 * crate::RECORD;
+const MOST_RECORDS: usize = 20_000;
 
-/// Whether the length alone is refused: "length 0, not a multiple of 81, or over 1,620,000".
-fn wrong_length(bytes: &[u8]) -> bool {
-    bytes.is_empty() || bytes.len() > MOST_BYTES || bytes.len() % crate::RECORD != 0
+/// Whether the length alone is refused: "length 0, not a multiple of 81, or over 1,620,000", where so many records are
+/// the most.
+fn wrong_length(bytes: &[u8], most: usize) -> bool {
+    bytes.is_empty() || bytes.len() > most * crate::RECORD || bytes.len() % crate::RECORD != 0
 }
 
 /// Judges one entry.
 pub fn judge(bytes: &[u8]) -> Verdict {
-    if wrong_length(bytes) {
-        return Verdict::Refused(Refusal { number: 1, record: 0, column: 0 });
+    if wrong_length(bytes, MOST_RECORDS) {
+        return Verdict::Refused(Refusal::new(1, 0, 0));
     }
     let tree = Tree::of(bytes);
     match rules::faults(&tree).iter().min() {
         None => Verdict::Accepted(rules::totals(&tree)),
-        Some(fault) => Verdict::Refused(Refusal {
-            number: fault.number,
-            record: fault.record as u32 + 1,
-            column: fault.column as u32,
-        }),
+        Some(fault) => Verdict::Refused(Refusal::new(fault.number, fault.record as u32 + 1, fault.column as u32)),
     }
 }

@@ -43,7 +43,8 @@ pub fn records(bytes: &[u8]) -> Vec<Record<'_>> {
     bytes.chunks_exact(RECORD).map(Record).collect()
 }
 
-/// "The fourteen system identifiers."
+/// The system identifiers: document 01's fourteen, and TRANS and ENDTRANS, "both now system identifiers everywhere"
+/// (M-100).
 #[derive(Clone, Copy, Debug, PartialEq, Eq, PartialOrd, Ord)]
 #[allow(missing_docs)]
 pub enum Name {
@@ -61,10 +62,12 @@ pub enum Name {
     Data,
     NoData,
     EndData,
+    Trans,
+    EndTrans,
 }
 
 /// Each identifier beside its spelling.
-const NAMES: [(&str, Name); 14] = [
+const NAMES: [(&str, Name); 16] = [
     ("ENTRY", Name::Entry),
     ("ENDENTRY", Name::EndEntry),
     ("SUBENT", Name::Subent),
@@ -79,6 +82,8 @@ const NAMES: [(&str, Name); 14] = [
     ("DATA", Name::Data),
     ("NODATA", Name::NoData),
     ("ENDDATA", Name::EndData),
+    ("TRANS", Name::Trans),
+    ("ENDTRANS", Name::EndTrans),
 ];
 
 impl Name {

@@ -10,7 +10,7 @@ use std::ops::Range;
 /// What a record is by its place in the entry.
 #[derive(Clone, Copy, Debug, PartialEq, Eq)]
 pub enum Role {
-    /// One of the fourteen system records.
+    /// One of the fourteen system records of an entry.
     System(Name),
     /// A record of a BIB section.
     Text,

@@ -1,4 +1,5 @@
-/* Asks every call about mutated entries, and checks what holds of every answer: fuzz SEED ROUNDS FILE..
+/* Asks every call about mutated entries and transmissions of them, and checks what holds of every answer:
+ * fuzz SEED ROUNDS FILE..
  *
  * Each buffer ends where a page begins that may not be touched (in every other round it begins behind one), so that a
  * byte read or written outside it ends the program, although the archive itself is not compiled with sanitizers. Every
@@ -64,12 +65,14 @@ static void fill(Buffer *b, const uint8_t *bytes, size_t length) {
 
 static uint8_t work[ROOM];
 
+/* changes the first n bytes of it, up to three times */
 static size_t mutate(size_t n) {
     static const char *names[] = {"ENTRY      ", "ENDENTRY   ", "SUBENT     ", "NOSUBENT   ", "ENDSUBENT  ",
                                   "BIB        ", "NOBIB      ", "ENDBIB     ", "COMMON     ", "NOCOMMON   ",
                                   "ENDCOMMON  ", "DATA       ", "NODATA     ", "ENDDATA    ", "           ",
                                   "     1.45-1", "   1.+99999", "          2", "FLAG       ", "DECAY-FLAG1",
-                                  "(2.) TEXT  ", "2.         ", "     2.E 00"};
+                                  "(2.) TEXT  ", "2.         ", "     2.E 00", "TRANS      ",
+                                  "ENDTRANS   "};
     static const char likely[] = " 0123456789+-.EA\n";
     for (size_t times = below(4); times > 0 && n > RECORD; times--) {
         size_t records = n / RECORD, at = below(n), a = below(records) * RECORD, b = below(records) * RECORD;
@@ -91,6 +94,38 @@ static size_t mutate(size_t n) {
         }
     }
     return n;
+}
+
+/* a record with a text, blanks behind it */
+static size_t add_record(size_t n, const char *text) {
+    memset(work + n, ' ', RECORD - 1);
+    memcpy(work + n, text, strlen(text));
+    work[n + RECORD - 1] = '\n';
+    return n + RECORD;
+}
+
+/* one of the files behind n bytes, its length at most `most` */
+static size_t add_file(size_t n, size_t most, size_t count, char **names) {
+    FILE *file = fopen(names[below(count)], "rb");
+    check(file != NULL, "no such file");
+    n += fread(work + n, 1, most, file);
+    fclose(file);
+    return n;
+}
+
+/* TRANS, one to four entries, ENDTRANS; then changes in any place, and in half of the rounds in these two records */
+static size_t transmission(size_t count, char **names) {
+    char end[32];
+    size_t entries = 1 + below(4), n = add_record(0, "TRANS             X001   20240105");
+    for (size_t i = 0; i < entries; i++) {
+        n = add_file(n, ROOM / 8, count, names);
+    }
+    snprintf(end, sizeof end, "ENDTRANS   %11zu", below(8) ? entries : below(5));
+    n = add_record(n, end);
+    if (below(2)) {
+        work[below(2) ? below(RECORD) : n - 1 - below(RECORD)] = (uint8_t) " 01AZa.-#\n"[below(10)];
+    }
+    return below(3) ? mutate(n) : n;
 }
 
 /* ---- what holds of every answer */
@@ -269,6 +304,117 @@ static void fields(Buffer *field) {
     }
 }
 
+/* ---- transmissions */
+
+/* an entry that begins with a byte: it lies in the file, from ENTRY to the first ENDENTRY */
+static size_t entry_at(const Buffer *file, size_t at) {
+    size_t n = x4_entry_length(file->bytes, file->length, at);
+    if (n == 0) {
+        return 0;
+    }
+    check(at < file->length && n <= file->length - at, "an entry lies in the file");
+    check(n % RECORD == 0 && n <= MOST, "whole records, 20,000 at the most");
+    check(!memcmp(file->bytes + at, "ENTRY      ", 11), "it begins with ENTRY");
+    for (size_t past = RECORD; past <= n; past += RECORD) {
+        int ends = !memcmp(file->bytes + at + past - RECORD, "ENDENTRY   ", 11);
+        check(ends == (past == n), "it ends with the first ENDENTRY");
+    }
+    return n;
+}
+
+/* the verdict on a file; its totals are no more than its records allow, and 1 and 16 have no ordinal */
+static uint64_t judged_file(const uint8_t *file, size_t n, uint64_t totals[4]) {
+    uint64_t word = x4_judge_file(file, n, lend(4)), records = n / RECORD;
+    memcpy(totals, lent.bytes, 4 * sizeof *totals);
+    untouched(word);
+    check(x4_refusal(word) <= 17 && x4_refusal(word) == x4_entry_refusal(word), "1 to 17, twice");
+    check(x4_entry_record(word) <= records + 1 && x4_entry_column(word) <= 81, "where it is refused");
+    check(x4_entry_ordinal(word) <= records, "an entry has a record");
+    check(!x4_entry_ordinal(word) || (x4_refusal(word) != 1 && x4_refusal(word) != 16), "1 and 16 are in no entry");
+    check(word || (totals[0] <= records && totals[1] <= records && totals[2] <= records && totals[3] <= 6 * records),
+          "totals");
+    return word;
+}
+
+/* of an accepted file all entries are accepted, and their totals are the file's; of one that is refused in an entry
+ * that entry is, up to that record, by the same number and in the same column, and all before it are accepted */
+static void entries_of(const Buffer *file, uint64_t verdict, const uint64_t totals[4]) {
+    uint64_t sums[4] = {0, 0, 0, 0}, own[4];
+    size_t at = RECORD, met = 0, ordinal = x4_entry_ordinal(verdict);
+    while (verdict == 0 || met + 1 < ordinal) {
+        size_t n = entry_at(file, at);
+        if (n == 0) {
+            break;
+        }
+        check(x4_judge(file->bytes + at, n, own) == 0, "its entries are accepted");
+        for (int i = 0; i < 4; i++) {
+            sums[i] += own[i];
+        }
+        at += n;
+        met++;
+    }
+    if (verdict == 0) {
+        check(met > 0 && at + RECORD == file->length, "entries from TRANS to ENDTRANS");
+        check(!memcmp(sums, totals, sizeof sums), "totals over the file");
+    } else if (ordinal > 0) {
+        size_t past = x4_entry_record(verdict) * (size_t)RECORD;
+        check(met + 1 == ordinal && at < past && past <= file->length, "the entry of that ordinal");
+        uint64_t word = x4_judge(file->bytes + at, past - at, lend(4));
+        check(x4_refusal(word) == x4_refusal(verdict) && x4_entry_column(word) == x4_entry_column(verdict) &&
+                  x4_entry_record(word) == (past - at) / RECORD,
+              "the refusal of that entry");
+    }
+}
+
+static uint64_t file_refusals[64], inside, begun;
+
+static void file_copies(const Buffer *file, Buffer *copy, Buffer *again, uint64_t verdict, const uint64_t totals[4]) {
+    static uint8_t before[ROOM];
+    size_t n = file->length, room = below(2) ? n + below(100) : below(n + 100);
+    lay(copy, room);
+    memset(before, '#', room);
+    memcpy(copy->bytes, before, room);
+    uint64_t word = x4_copy_file(file->bytes, n, copy->bytes, room);
+    told(word, verdict, "\x1f\x25");
+    if (word) {
+        check(x4_refusal(word) == 31 || room < n, "37 where the buffer is shorter");
+        check(!memcmp(copy->bytes, before, room), "a refused call stores nothing");
+        return;
+    }
+    uint64_t copied[4];
+    check(!memcmp(copy->bytes + n, before, room - n), "bytes past the file's length stay");
+    check(judged_file(copy->bytes, n, copied) == 0 && !memcmp(copied, totals, sizeof copied),
+          "the copy has the file's verdict");
+    for (size_t at = RECORD, length; (length = entry_at(file, at)) != 0; at += length) {
+        lay(again, length);
+        check(x4_copy(file->bytes + at, length, again->bytes, length) == 0, "an entry is copied");
+        check(!memcmp(copy->bytes + at, again->bytes, length), "the copies in place");
+    }
+    check(!memcmp(copy->bytes, file->bytes, RECORD), "TRANS as it was");
+    check(!memcmp(copy->bytes + n - RECORD, file->bytes + n - RECORD, RECORD), "ENDTRANS as it was");
+}
+
+/* a mutated transmission: verdict, entries at every record's byte and at any others, copy */
+static void transmissions(Buffer *file, Buffer *copy, Buffer *again, size_t count, char **names) {
+    size_t n = transmission(count, names);
+    fill(file, work, n);
+    uint64_t totals[4], verdict = judged_file(file->bytes, n, totals);
+    file_refusals[x4_refusal(verdict)]++;
+    inside += x4_entry_ordinal(verdict) > 0;
+    entries_of(file, verdict, totals);
+    for (size_t at = 0; at < n; at += RECORD) {
+        begun += entry_at(file, at) > 0;
+    }
+    for (int i = 0; i < 8; i++) {
+        entry_at(file, below(n + 200));
+        entry_at(file, (size_t)bits());
+    }
+    entry_at(file, n);
+    entry_at(file, SIZE_MAX);
+    file_copies(file, copy, again, verdict, totals);
+    check(!memcmp(file->bytes, work, n), "the file is only read");
+}
+
 int main(int count, char **words) {
     if (count < 4) {
         fputs("fuzz SEED ROUNDS FILE..\n", stderr);
@@ -279,10 +425,7 @@ int main(int count, char **words) {
     Buffer entry = fenced(), copy = fenced(), again = fenced(), keyword = fenced(), field = fenced();
     for (seed = first; seed < first + rounds; seed++) {
         state = seed;
-        FILE *file = fopen(words[3 + below((size_t)count - 3)], "rb");
-        check(file != NULL, "no such file");
-        size_t n = mutate(fread(work, 1, MOST, file));
-        fclose(file);
+        size_t n = mutate(add_file(0, MOST, (size_t)count - 3, words + 3));
         fill(&entry, work, n);
         uint64_t totals[4], verdict = judged(entry.bytes, n, totals);
         accepted += verdict == 0;
@@ -294,6 +437,7 @@ int main(int count, char **words) {
             fields(&field);
         }
         check(!memcmp(entry.bytes, work, n), "the entry is only read");
+        transmissions(&entry, &copy, &again, (size_t)count - 3, words + 3);
     }
     printf("seeds %" PRIu64 " to %" PRIu64 ": %" PRIu64 " entries accepted, ", first, first + rounds - 1, accepted);
     printf("%" PRIu64 " questions and copies, by refusal", asked);
@@ -302,6 +446,12 @@ int main(int count, char **words) {
             printf(" %d:%" PRIu64, i, refusals[i]);
         }
     }
-    puts("");
+    printf("; transmissions by refusal");
+    for (int i = 0; i < 64; i++) {
+        if (file_refusals[i]) {
+            printf(" %d:%" PRIu64, i, file_refusals[i]);
+        }
+    }
+    printf(", %" PRIu64 " of them refused in an entry, %" PRIu64 " entries begun\n", inside, begun);
     return 0;
 }

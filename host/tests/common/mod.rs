@@ -148,6 +148,79 @@ pub fn wide(columns: usize) -> Vec<u8> {
     entry(&format!("{}{table}{}", &SAMPLE[..start], &SAMPLE[end..]))
 }
 
+/// A line as a record: columns 1-80 and a line feed.
+pub fn record(text: &str) -> Vec<u8> {
+    format!("{text:80}\n").into_bytes()
+}
+
+/// A good TRANS record.
+pub fn trans() -> Vec<u8> {
+    record("TRANS             X001   20240105")
+}
+
+/// An ENDTRANS record with this count.
+pub fn end_trans(count: usize) -> Vec<u8> {
+    record(&format!("ENDTRANS   {count:>11}"))
+}
+
+/// TRANS, these entries, ENDTRANS with their number.
+pub fn transmission(entries: &[&[u8]]) -> Vec<u8> {
+    [trans(), entries.concat(), end_trans(entries.len())].concat()
+}
+
+/// The canonical copy of a transmission that is accepted.
+pub fn copied(by: &dyn Implementation, file: &[u8]) -> Vec<u8> {
+    let mut copy = vec![b'#'; file.len()];
+    assert_eq!(by.copy_file(file, &mut copy), Ok(()));
+    copy
+}
+
+/// The SHA-256 of some bytes, as hexadecimal digits (FIPS 180-4).
+pub fn sha256(bytes: &[u8]) -> String {
+    let primes = || (2u64..).filter(|&n| (2..n).take_while(|d| d * d <= n).all(|d| n % d != 0));
+    // The first 32 bits of the fraction of a prime's root: by the root of the prime moved up by 32 times its degree.
+    let fraction = |prime: u64, degree: u32| -> u32 {
+        let moved = u128::from(prime) << (32 * degree);
+        let mut root = 0u64;
+        for bit in (0..36).rev() {
+            let tried = root | 1 << bit;
+            if u128::from(tried).pow(degree) <= moved {
+                root = tried;
+            }
+        }
+        root as u32
+    };
+    let keys: Vec<u32> = primes().take(64).map(|prime| fraction(prime, 3)).collect();
+    let mut state: Vec<u32> = primes().take(8).map(|prime| fraction(prime, 2)).collect();
+    let mut padded = [bytes, &[0x80]].concat();
+    padded.resize((padded.len() + 8).next_multiple_of(64) - 8, 0);
+    padded.extend((bytes.len() as u64 * 8).to_be_bytes());
+    for block in padded.chunks_exact(64) {
+        let mut words: Vec<u32> =
+            block.chunks_exact(4).map(|word| u32::from_be_bytes(word.try_into().expect("four bytes"))).collect();
+        for at in 16..64 {
+            let (early, late) = (words[at - 15], words[at - 2]);
+            let first = early.rotate_right(7) ^ early.rotate_right(18) ^ early >> 3;
+            let second = late.rotate_right(17) ^ late.rotate_right(19) ^ late >> 10;
+            words.push(words[at - 16].wrapping_add(first).wrapping_add(words[at - 7]).wrapping_add(second));
+        }
+        let mut turned = state.clone();
+        for (word, key) in words.iter().zip(&keys) {
+            let (a, e) = (turned[0], turned[4]);
+            let choice = e & turned[5] ^ !e & turned[6];
+            let majority = a & turned[1] ^ a & turned[2] ^ turned[1] & turned[2];
+            let upper = a.rotate_right(2) ^ a.rotate_right(13) ^ a.rotate_right(22);
+            let lower = e.rotate_right(6) ^ e.rotate_right(11) ^ e.rotate_right(25);
+            let added = [lower, choice, *key, *word].into_iter().fold(turned[7], u32::wrapping_add);
+            turned.rotate_right(1);
+            turned[4] = turned[4].wrapping_add(added);
+            turned[0] = added.wrapping_add(upper).wrapping_add(majority);
+        }
+        state.iter_mut().zip(turned).for_each(|(old, new)| *old = old.wrapping_add(new));
+    }
+    state.iter().map(|word| format!("{word:08x}")).collect()
+}
+
 /// How C is compiled.
 pub const C: [&str; 7] = ["-std=c11", "-O2", "-Wall", "-Wextra", "-Werror", "-pedantic", "-Iinclude"];
 

@@ -14,7 +14,7 @@ mod peer;
 #[cfg(test)]
 mod ratios;
 
-use glockenbeacon::generate::{self, Random, SHAPES};
+use glockenbeacon::generate::{self, Random, Shape, SHAPES};
 use glockenbeacon::plot::{Line, Plot};
 use glockenbeacon::{boundary, library, reference, Decimal, FieldRead, Value, DATA, RECORD};
 use std::ffi::CString;
@@ -256,6 +256,38 @@ fn judging() -> Plot {
     Plot { across: "records of the entry".into(), up: "nanoseconds a record".into(), lines }
 }
 
+/// How many records the entries of a transmission have, nearly.
+const ENTRY_SIZES: [usize; 3] = [100, 2_000, 19_999];
+
+/// A transmission of entries of one size, as many as 200,000 records hold.
+fn full_transmission(entry: &[u8]) -> Vec<u8> {
+    let record = |text: String| format!("{text:80}\n").into_bytes();
+    let count = (200_000 - 2) * RECORD / entry.len();
+    let first = record("TRANS             X001   20240105".into());
+    [first, entry.repeat(count), record(format!("ENDTRANS   {count:>11}"))].concat()
+}
+
+/// Times a transmission judged at once beside its entries judged one by one, which are found in it, too; and its copy.
+fn transmissions() {
+    for shape in [Shape::Text, Shape::Table] {
+        for records in ENTRY_SIZES {
+            let file = full_transmission(&generate::large(&mut Random::seeded(1), shape, records));
+            let (n, count) = (file.len() / RECORD, library::entries(&file).count());
+            assert_eq!((library::judge_file(&file).numbers()[0], count > 0), (0, true));
+            let one_by_one = |file: &Vec<u8>| library::entries(file).map(|(_, entry)| library::judge(entry)).last();
+            let found = |file: &Vec<u8>| library::entries(file).count();
+            let mut out = vec![0; file.len()];
+            let rows = [
+                ("its entries one by one", timed(&[&file], |file| one_by_one(file)).part(n)),
+                ("library::judge_file", timed(&[&file], |file| library::judge_file(file)).part(n)),
+                ("library::entries, found alone", timed(&[&file], |file| found(file)).part(n)),
+                ("library::copy_file", timed(&[&file], |file| library::copy_file(file, black_box(&mut out))).part(n)),
+            ];
+            table(&format!("A transmission of {count} entries, {shape:?}, {n} records: time of a record"), &rows);
+        }
+    }
+}
+
 /// Times a value asked for in the last line of a table, and the copy of the whole entry. A question judges its entry.
 fn asking() {
     for records in SIZES {
@@ -314,6 +346,7 @@ fn times(plot_file: Option<&str>) -> std::io::Result<()> {
     }
     let plot = judging();
     asking();
+    transmissions();
     plot_file.map_or(Ok(()), |file| std::fs::write(file, plot.svg()))
 }
 

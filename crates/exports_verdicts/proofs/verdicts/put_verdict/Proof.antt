@@ -15,9 +15,6 @@ returns c =
     let e = ne-eqb _ _ (c .before .if1 .taken) in
     (rw e (c .answer-word .ensures), rw e refl)
 
-cast-t13 : tie.Need-cast-t13
-cast-t13 c = search needs
-
 cast-t14 : tie.Need-cast-t14
 cast-t14 c = search needs
 
@@ -27,6 +24,9 @@ cast-t15 c = search needs
 cast-t16 : tie.Need-cast-t16
 cast-t16 c = search needs
 
+cast-t17 : tie.Need-cast-t17
+cast-t17 c = search needs
+
 returns-2 : tie.Need-returns-2
 unfolding answerWord verdictAnswer lentAfter totalsNumbers
 returns-2 c =
@@ -35,4 +35,4 @@ returns-2 c =
 
 pub put-verdict-spec : {M : Type 1} → statement M
 put-verdict-spec =
-    tie.close (tie.spec answer-word-requires returns cast-t13 cast-t14 cast-t15 cast-t16 returns-2)
+    tie.close (tie.spec answer-word-requires returns cast-t14 cast-t15 cast-t16 cast-t17 returns-2)

@@ -2,18 +2,29 @@ use Rattle.exports_words.specs.Words.{answerWord}
 use borrow.Author.Needs.{needs}
 use Rattle.exports_words.proofs.words.answer_word.Statement.{statement}
 use Rattle.exports_words.proofs.words.answer_word.Tie as tie
+use Rattle.exports_words.proofs.words.answer_word.Reads as reads
+use Rattle.exports_words.proofs.words.answer_word.Lts as lts
+
+cast-row : tie.Need-cast-row
+cast-row c = search needs
+
+cast-whose : tie.Need-cast-whose
+cast-whose c = search needs
 
 cast-place : tie.Need-cast-place
 cast-place c = search needs
-
-cast-place-2 : tie.Need-cast-place-2
-cast-place-2 c = search needs
 
 mul-place : tie.Need-mul-place
 mul-place c = search needs
 
 add-place : tie.Need-add-place
 add-place c = search needs
+
+mul-place-2 : tie.Need-mul-place-2
+mul-place-2 c = search needs
+
+add-place-2 : tie.Need-add-place-2
+add-place-2 c = search needs
 
 cast-result : tie.Need-cast-result
 cast-result c = search needs
@@ -41,10 +52,13 @@ pub answer-word-spec : {M : Type 1} → statement M
 answer-word-spec =
     tie.close
     (tie.spec
+    cast-row
+    cast-whose
     cast-place
-    cast-place-2
     mul-place
     add-place
+    mul-place-2
+    add-place-2
     cast-result
     cast-result-2
     mul-result

@@ -7,13 +7,16 @@ use Rattle.verdicts.proofs.case.begin.Statement.{statement}
 use Rattle.verdicts.proofs.case.begin.Tie as tie
 
 abbrev Inv-loop : tie.InvT-loop
-Inv-loop whole size case₀ i₀ case i = length case ≡ length case₀
+Inv-loop whole size case₀ at i₀ case i = length case ≡ length case₀
 
 abbrev μ-loop : tie.MeasureT-loop
-μ-loop whole size case₀ i₀ case i = size - i
+μ-loop whole size case₀ at i₀ case i = size - i
 
 loop-holds : tie.Need-loop-holds Inv-loop μ-loop
 loop-holds c = search needs
+
+wrapping-add-usize-requires : tie.Need-wrapping-add-usize-requires Inv-loop μ-loop
+wrapping-add-usize-requires c κs = search needs
 
 byte-at-requires : tie.Need-byte-at-requires Inv-loop μ-loop
 byte-at-requires c κs = search needs
@@ -43,6 +46,7 @@ begin-spec =
     Inv-loop
     μ-loop
     loop-holds
+    wrapping-add-usize-requires
     byte-at-requires
     put-requires
     add-i

@@ -6,10 +6,10 @@ use Rattle.verdicts.proofs.case.make_room.Statement.{statement}
 use Rattle.verdicts.proofs.case.make_room.Tie as tie
 
 abbrev Inv-loop : tie.InvT-loop
-Inv-loop case₀ start size i₀ case i = length case ≡ length case₀
+Inv-loop case₀ start size by i₀ case i = length case ≡ length case₀
 
 abbrev μ-loop : tie.MeasureT-loop
-μ-loop case₀ start size i₀ case i = i
+μ-loop case₀ start size by i₀ case i = i
 
 loop-holds : tie.Need-loop-holds Inv-loop μ-loop
 loop-holds c = search needs

@@ -1,0 +1,2 @@
+// The canonical copy of a file.
+pub mod copy_file;

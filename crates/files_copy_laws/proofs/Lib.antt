@@ -1,0 +1,4 @@
+pub mod InPlace
+pub mod Demand
+pub mod OneCopy
+pub mod Made

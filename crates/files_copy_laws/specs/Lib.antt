@@ -1,0 +1,3 @@
+pub mod CopyFile
+pub mod Demand
+pub mod Storing

@@ -1,0 +1,2 @@
+// The copy of a file, stored entry by entry.
+pub mod walk;

@@ -1,0 +1,3 @@
+pub mod EndRoles
+pub mod AcceptedBegins
+pub mod EntriesMet

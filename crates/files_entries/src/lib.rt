@@ -1,0 +1,1 @@
+// The entries of a file are met as its parts. There is no code here.

@@ -1,0 +1,122 @@
+// The two records of a file that belong to no entry. Each rule gives the leftmost column at fault, 0 where there is none.
+ghost use mathlib.Core.Path.{_≡_};
+ghost use Prim.Native.Nat.{ℕ, _+_, _≤_};
+ghost use Rattle.columns.specs.Columns.{Whole};
+ghost use Rattle.columns.specs.Fields.{fieldsOf};
+ghost use Rattle.classes.specs.Class.{ClassesLent};
+ghost use Rattle.rules_roles.specs.Fault.{leftmost};
+ghost use Rattle.files_outside.specs.Outside.{marksIn, isTransN1, transForm, rule7Outside, rule8Outside, outsideFault};
+use columns::fields::fields;
+use record::system::count_of;
+use record::system::is_capital_or_digit;
+use record::system::is_count;
+use record::system::is_date;
+use record::system::number_of;
+use record_names::identifier::ENDTRANS;
+use record_names::identifier::TRANS;
+use record_words::word::blank_to;
+use rules_every::every::rule2;
+use rules_every::every::rule3;
+use rules_every::every::rule4;
+use rules_roles::fault::Fault;
+
+// Whether the `n` columns from `from` are capitals or digits.
+fn marks_in(f: [u8; 11], from: usize, n: usize) -> bool
+    requires { ⌜ from + n ≤ 11 ⌝ }
+    ensures { λ r. ⌜ r ≡ marksIn f from n ⌝ }
+{
+    let end = from + n;
+    let mut i = from;
+    while i < end {
+        if !is_capital_or_digit(f[i]) {
+            return false;
+        }
+        i += 1;
+    }
+    true
+}
+
+// Whether a field is the N1 of TRANS.
+fn is_trans_n1(f: [u8; 11]) -> bool
+    ensures { λ r. ⌜ r ≡ isTransN1 f ⌝ }
+{
+    if !blank_to(f, 7) {
+        return false;
+    }
+    marks_in(f, 7, 4)
+}
+
+// The fields N1 and N2 of TRANS.
+fn trans_form(fs: [[u8; 11]; 6]) -> u8
+    ensures { λ r. ⌜ r ≡ leftmost (transForm fs) ⌝ }
+{
+    let f = fs[1];
+    if !is_trans_n1(f) {
+        return 12;
+    }
+    let g = fs[2];
+    if !is_date(g) {
+        return 23;
+    }
+    0
+}
+
+fn rule7_outside(role: usize, fs: [[u8; 11]; 6]) -> u8
+    ensures { λ r. ⌜ r ≡ leftmost (rule7Outside role fs) ⌝ }
+{
+    if role == TRANS {
+        return trans_form(fs);
+    }
+    if role != ENDTRANS {
+        return 0;
+    }
+    let f = fs[1];
+    if !is_count(count_of(f)) {
+        return 12;
+    }
+    0
+}
+
+fn rule8_outside(entries: u32, role: usize, fs: [[u8; 11]; 6]) -> u8
+    ensures { λ r. ⌜ r ≡ leftmost (rule8Outside entries role fs) ⌝ }
+{
+    if role != ENDTRANS {
+        return 0;
+    }
+    let announced = fs[1];
+    let said = number_of(count_of(announced));
+    if said != entries as u64 {
+        return 12;
+    }
+    0
+}
+
+// The fault of a record that belongs to no entry, with so many entries before it.
+pub fn outside_fault(entries: u32, classes: &[u8; 256], role: usize, rec: &[u8]) -> Fault
+    requires { ⌜ ClassesLent (now classes) ⌝ }
+    requires { ⌜ Whole (now rec) ⌝ }
+    ensures { λ r. ⌜ r ≡ outsideFault entries role (fieldsOf (now (rec .entry))) (now (rec .entry)) ⌝ }
+{
+    let a = rule2(rec);
+    if a != 0 {
+        return Fault::At(2, a);
+    }
+    let b = rule3(classes, rec);
+    if b != 0 {
+        return Fault::At(3, b);
+    }
+    let c = rule4(role);
+    if c != 0 {
+        return Fault::At(4, c);
+    }
+    let fs = fields(rec);
+    let d = rule7_outside(role, fs);
+    if d != 0 {
+        return Fault::At(7, d);
+    }
+    let e = rule8_outside(entries, role, fs);
+    if e != 0 {
+        return Fault::At(8, e);
+    }
+    Fault::Fine
+}

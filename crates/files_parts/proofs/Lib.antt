@@ -1,0 +1,2 @@
+pub mod EntryRecords
+pub mod PlainParts

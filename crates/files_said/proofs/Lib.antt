@@ -1,0 +1,10 @@
+pub mod Outside
+pub mod Onward
+pub mod Turns
+pub mod Inside
+pub mod Through
+pub mod Cuts
+pub mod Alone
+pub mod EntryTold
+pub mod Says
+pub mod AcceptedFiles

@@ -1,0 +1,1 @@
+// What a file's verdict says, in plain words. There is no code here.

@@ -1,0 +1,1 @@
+// What a file is: TRANS, accepted entries, ENDTRANS. There is no code here.

@@ -1,0 +1,5 @@
+pub mod Along
+pub mod Onward
+pub mod Steps
+pub mod Sums
+pub mod Over

@@ -1,0 +1,2 @@
+pub mod ByNumbers
+pub mod Along
