@@ -144,7 +144,7 @@ mod measured {
         slice.as_mut_ptr() as u64
     }
 
-    /// Which way the layout of a number goes, as `crates/canonical_layout/specs/Closed.antt` says: by the count of the
+    /// Which way the layout of a number goes, as `crates/paper_canonical/specs/Closed.antt` says: by the count of the
     /// coefficient's digits and by the power.
     fn branch(digits: i64, power: i64) -> &'static str {
         let down = -power;

@@ -12,28 +12,28 @@ use native.Mathlib.Omega.{arith}
 use lib.ListN.{length, getD, take}
 use Rattle.laws.specs.Walk.{All}
 use Rattle.laws.specs.Blocks.{blockAt}
-use Rattle.number_digits.specs.Digits.{fieldRead}
-use Rattle.columns_places.specs.Places.{recordsFor, placeOf}
-use Rattle.columns.specs.Fields.{fieldsOf, fieldAt, n2}
-use Rattle.columns_places.specs.declared.places.LineNo.{LineNo}
-use Rattle.columns_places.specs.declared.places.RecordNo.{RecordNo}
-use Rattle.record_words.specs.Word.{pointerOf}
-use Rattle.record.specs.System.{countOf}
-use Rattle.record.specs.declared.system.Count.the-variants.{Number}
-use Rattle.record.proofs.PlainDigits.{count-exactly}
-use Rattle.rules_counts.specs.Counts.{countN1}
-use Rattle.entry_judging.specs.Judging.{judgeOf}
-use Rattle.entry_verdict.specs.Answer.{answerOf}
-use Rattle.entry_judging.specs.Contexts.{contextAt}
-use Rattle.questions_parts.specs.declared.answers.PartAnswer.{PartAnswer}
-use Rattle.questions_rows.specs.Row.{rowOf}
-use Rattle.questions_places.specs.declared.place.Shape.{Shape}
-use Rattle.questions_places.specs.Place.{shapeOf, headingPlace, unitPlace, fieldOf, byteOf}
-use Rattle.questions_refusals.specs.Refused.{sectionIn, valueRefusal, columnRefusal}
-use Rattle.questions_values.specs.Answers.{valueBy}
-use Rattle.questions_parts.specs.Answers.{headingBy, unitBy}
-use Rattle.questions.specs.Ask.{valueAsked, headingAsked, unitAsked}
-use Rattle.questions_rows.proofs.RowChanges.{opener}
+use Rattle.paper_number.specs.Digits.{fieldRead}
+use Rattle.paper_record.specs.Places.{recordsFor, placeOf}
+use Rattle.paper_record.specs.Fields.{fieldsOf, fieldAt, n2}
+use Rattle.paper_record.specs.declared.types.LineNo.{LineNo}
+use Rattle.paper_record.specs.declared.types.RecordNo.{RecordNo}
+use Rattle.paper_record.specs.Word.{pointerOf}
+use Rattle.paper_record.specs.System.{countOf}
+use Rattle.paper_record.specs.declared.types.Count.the-variants.{Number}
+use Rattle.paper_record.proofs.PlainDigits.{count-exactly}
+use Rattle.paper_rules.specs.Counts.{countN1}
+use Rattle.paper_entry.specs.Judging.{judgeOf}
+use Rattle.paper_entry.specs.Answer.{answerOf}
+use Rattle.paper_entry.specs.Contexts.{contextAt}
+use Rattle.paper_questions.specs.declared.types.PartAnswer.{PartAnswer}
+use Rattle.paper_questions.specs.Located.{rowOf}
+use Rattle.paper_questions.specs.declared.types.Shape.{Shape}
+use Rattle.paper_questions.specs.Place.{shapeOf, headingPlace, unitPlace, fieldOf, byteOf}
+use Rattle.paper_questions.specs.Refused.{sectionIn, valueRefusal, columnRefusal}
+use Rattle.paper_questions.specs.ValueAnswers.{valueBy}
+use Rattle.paper_questions.specs.PartAnswers.{headingBy, unitBy}
+use Rattle.paper_questions.specs.Ask.{valueAsked, headingAsked, unitAsked}
+use Rattle.paper_questions.proofs.RowChanges.{opener}
 use Rattle.inside.specs.Inside.{OpensSection, InsideValue, InsideColumn, linesAnnounced}
 use Rattle.entry_walk.proofs.TableLaid.{sectionRole, linesOf}
 use Rattle.inside.proofs.RowFound.{Opening}

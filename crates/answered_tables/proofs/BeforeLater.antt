@@ -7,9 +7,9 @@ use mathlib.Core.Bool.{true}
 use mathlib.Core.List.{List, [], _∷_, _++_, append-assoc}
 use native.Mathlib.Omega.{arith}
 use Rattle.laws.specs.Walk.{All}
-use Rattle.record_names.specs.Identifier.{SUBENT, NOSUBENT, ENDENTRY}
-use Rattle.rules_state.specs.State.{Context}
-use Rattle.rules_state.specs.Limits.{LAST-SUBENTRY}
+use Rattle.paper_record.specs.Identifier.{SUBENT, NOSUBENT, ENDENTRY}
+use Rattle.paper_rules.specs.State.{Context}
+use Rattle.paper_rules.specs.Limits.{LAST-SUBENTRY}
 use Rattle.good.specs.Parts.{Record, Subentry001, Later, Subentry, nosubent, subent, laterRecords, subentriesRecords}
 use Rattle.good.specs.Marks.{nameOf}
 use Rattle.good.specs.Subentries.{ownNumber, GoodLater, GoodSubentry, NumbersRise}

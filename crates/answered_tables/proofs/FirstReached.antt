@@ -4,9 +4,9 @@ use Prim.Native.Nat.{_+_}
 use mathlib.Core.Path.{_≡_, _∙_}
 use mathlib.Core.Bool.{false}
 use mathlib.Core.List.{List, [], _∷_, _++_, append-assoc, append-nil}
-use Rattle.record_names.specs.Identifier.{ENTRY, SUBENT, BIB, NOBIB, COMMON, NOCOMMON}
-use Rattle.record_expected.specs.Expected.{accessionOf}
-use Rattle.rules_state.specs.State.{Context, startContext}
+use Rattle.paper_record.specs.Identifier.{ENTRY, SUBENT, BIB, NOBIB, COMMON, NOCOMMON}
+use Rattle.paper_record.specs.Expected.{accessionOf}
+use Rattle.paper_rules.specs.State.{Context, startContext}
 use Rattle.good.specs.Parts.{Record, Bib, Table, present, bibRecords, tableRecords, rowsOf, Entry, subentriesRecords}
 use Rattle.good.specs.Parts.{textsOf}
 use Rattle.good.specs.Marks.{nameOf}

@@ -9,10 +9,10 @@ use lib.Seq.{getD-append-seam}
 use Rattle.laws.specs.Walk.{All}
 use Rattle.laws.specs.Blocks.{blocks, blockAt}
 use Rattle.laws.proofs.Blocks.{blocks-joined, length-joined, block-at}
-use Rattle.rules_state.specs.State.{Context, startContext}
-use Rattle.entry_verdict.specs.declared.verdict.Verdict.{Verdict}
-use Rattle.entry_judging.specs.Judging.{roleOf, Accepted}
-use Rattle.entry_judging.specs.Contexts.{contextAt}
+use Rattle.paper_rules.specs.State.{Context, startContext}
+use Rattle.paper_entry.specs.declared.types.Verdict.{Verdict}
+use Rattle.paper_entry.specs.Judging.{roleOf, Accepted}
+use Rattle.paper_entry.specs.Contexts.{contextAt}
 use Rattle.entry_walk.proofs.Contexts.{context-start}
 use Rattle.rules_plain.specs.Places.{Long}
 use Rattle.good.specs.Parts.{Record, recordsOf}

@@ -6,9 +6,9 @@ use mathlib.Core.Path.{_≡_, refl, sym, _∙_, ap}
 use mathlib.Core.Bool.{false}
 use mathlib.Core.List.{List, [], _∷_, _++_, append-assoc, append-nil}
 use native.Mathlib.Omega.{arith}
-use Rattle.record_names.specs.Identifier.{ENTRY, SUBENT, BIB, NOBIB, COMMON, NOCOMMON, DATA, NODATA}
-use Rattle.record_expected.specs.Expected.{accessionOf}
-use Rattle.rules_state.specs.State.{Context, startContext}
+use Rattle.paper_record.specs.Identifier.{ENTRY, SUBENT, BIB, NOBIB, COMMON, NOCOMMON, DATA, NODATA}
+use Rattle.paper_record.specs.Expected.{accessionOf}
+use Rattle.paper_rules.specs.State.{Context, startContext}
 use Rattle.good.specs.Parts.{Record, Bib, Table, present, bibRecords, tableRecords, rowsOf, Later, Subentry, subent}
 use Rattle.good.specs.Parts.{Entry, firstRecords, laterRecords, subentriesRecords, recordsOf, textsOf}
 use Rattle.good.specs.Marks.{nameOf}

@@ -9,9 +9,9 @@ use native.Mathlib.Omega.{arith}
 use lib.ListN.{length, getD, length-append}
 use Rattle.laws.specs.Walk.{All}
 use Rattle.laws.proofs.Listing.{all-right}
-use Rattle.record_words.proofs.WordsAndBlanks.{word-blank}
-use Rattle.record.proofs.PlainColumns.{word-exactly}
-use Rattle.questions_passages.specs.Passage.{hasKeyword}
+use Rattle.paper_record.proofs.WordsAndBlanks.{word-blank}
+use Rattle.paper_record.proofs.PlainColumns.{word-exactly}
+use Rattle.paper_questions.specs.Passage.{hasKeyword}
 use Rattle.rules_plain.specs.Places.{bibPlace}
 use Rattle.good.specs.Parts.{Record, Keyword, Bib, textsOf}
 use Rattle.good.specs.Bib.{GoodKeyword, GoodBib}

@@ -12,15 +12,15 @@ use lib.Seq.{getD-append-add, getD-append-seam}
 use Rattle.laws.proofs.Booleans.{differ, and-both, or-first, or-second}
 use Rattle.laws.proofs.Search.{either}
 use Rattle.laws.proofs.Walk.{all-at}
-use Rattle.columns.specs.Text.{isBlank}
-use Rattle.record_words.specs.Word.{blankTo, equalTo, pointerOf}
-use Rattle.record_words.proofs.EqualColumns.{equal-taken}
-use Rattle.record_words.proofs.WordsAndBlanks.{word-blank}
-use Rattle.record.specs.Plain.{BlankColumns}
-use Rattle.record.proofs.PlainColumns.{blank-exactly, word-exactly}
-use Rattle.rules_text.specs.Text.{placeInPart}
-use Rattle.questions_passages.specs.Passage.{hasKeyword, begins, beginsWith}
-use Rattle.questions.specs.Ask.{passageAsked}
+use Rattle.paper_record.specs.Text.{isBlank}
+use Rattle.paper_record.specs.Word.{blankTo, equalTo, pointerOf}
+use Rattle.paper_record.proofs.EqualColumns.{equal-taken}
+use Rattle.paper_record.proofs.WordsAndBlanks.{word-blank}
+use Rattle.paper_record.specs.Plain.{BlankColumns}
+use Rattle.paper_record.proofs.PlainColumns.{blank-exactly, word-exactly}
+use Rattle.paper_rules.specs.Text.{placeInPart}
+use Rattle.paper_questions.specs.Passage.{hasKeyword, begins, beginsWith}
+use Rattle.paper_questions.specs.Ask.{passageAsked}
 use Rattle.inside.specs.Inside.{TextOf, Under, InsidePassage, RunFrom}
 use Rattle.inside.proofs.PassageAnswered.{passage-answered}
 use Rattle.inside.proofs.TextPlaced.{text-behind}

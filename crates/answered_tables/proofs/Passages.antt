@@ -11,17 +11,17 @@ use Rattle.laws.specs.Blocks.{joined}
 use Rattle.laws.specs.Walk.{All}
 use Rattle.laws.proofs.Blocks.{length-joined}
 use Rattle.laws.proofs.Listing.{all-left, all-right, joined-append}
-use Rattle.entry_verdict.specs.Answer.{answerOf}
-use Rattle.entry_judging.specs.Judging.{judgeOf}
-use Rattle.questions_parts.specs.declared.answers.PartAnswer.{PartAnswer}
-use Rattle.questions_passages.specs.declared.passage.Passage.{Passage}
-use Rattle.questions_places.specs.Place.{firstByte}
-use Rattle.questions_passages.specs.Passage.{passageOf}
-use Rattle.questions_rows.specs.Row.{rowOf}
-use Rattle.questions_refusals.specs.Refused.{passageRefusal}
-use Rattle.questions_parts.specs.Answers.{passageBy, bytesIn}
-use Rattle.questions.specs.Ask.{passageAsked}
-use Rattle.questions_rows.proofs.RowChanges.{bib}
+use Rattle.paper_entry.specs.Answer.{answerOf}
+use Rattle.paper_entry.specs.Judging.{judgeOf}
+use Rattle.paper_questions.specs.declared.types.PartAnswer.{PartAnswer}
+use Rattle.paper_questions.specs.declared.types.Passage.{Passage}
+use Rattle.paper_questions.specs.Place.{firstByte}
+use Rattle.paper_questions.specs.Passage.{passageOf}
+use Rattle.paper_questions.specs.Located.{rowOf}
+use Rattle.paper_questions.specs.Refused.{passageRefusal}
+use Rattle.paper_questions.specs.PartAnswers.{passageBy, bytesIn}
+use Rattle.paper_questions.specs.Ask.{passageAsked}
+use Rattle.paper_questions.proofs.RowChanges.{bib}
 use Rattle.inside.proofs.NotRefused.{part-zeros}
 use Rattle.rules_plain.specs.Places.{Long}
 use Rattle.good.specs.Parts.{Record, Bib, textsOf, recordsOf}

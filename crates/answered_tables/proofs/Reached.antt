@@ -5,11 +5,11 @@ use Prim.Native.Nat.{ℕ, _+_}
 use mathlib.Core.Path.{_≡_, _∙_}
 use mathlib.Core.List.{List, [], _∷_, _++_}
 use native.Mathlib.Omega.{arith}
-use Rattle.record_names.specs.Identifier.{BIB}
-use Rattle.record_expected.specs.Expected.{identificationFor}
-use Rattle.rules_state.specs.declared.state.Phase.the-variants.{AfterBib}
-use Rattle.rules_state.specs.State.{Context, startContext}
-use Rattle.entry_judging.specs.Judging.{roleOf}
+use Rattle.paper_record.specs.Identifier.{BIB}
+use Rattle.paper_record.specs.Expected.{identificationFor}
+use Rattle.paper_rules.specs.declared.types.Phase.the-variants.{AfterBib}
+use Rattle.paper_rules.specs.State.{Context, startContext}
+use Rattle.paper_entry.specs.Judging.{roleOf}
 use Rattle.good.specs.Parts.{Record, Bib, Table, Section, bibRecords, tableRecords, rowsOf, Entry, recordsOf, textsOf}
 use Rattle.good.proofs.Steps.{Passes, pass-nothing}
 use Rattle.good.proofs.Marks.{following-as, following-left}

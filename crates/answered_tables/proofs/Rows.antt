@@ -10,7 +10,7 @@ use lib.ListN.{length, getD, take, drop, length-append, length-drop, List·getD-
 use lib.Seq.{getD-append-add, getD-take, getD-drop, length-take-le, ext-getD}
 use Rattle.laws.specs.Walk.{All}
 use Rattle.laws.specs.Blocks.{blockAt}
-use Rattle.columns.specs.Fields.{fieldAt}
+use Rattle.paper_record.specs.Fields.{fieldAt}
 use Rattle.rules_plain.specs.Places.{concat}
 use Rattle.good.specs.Parts.{Record, Table, rowsOf}
 

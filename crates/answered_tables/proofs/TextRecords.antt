@@ -8,14 +8,14 @@ use native.Mathlib.Omega.{arith}
 use lib.ListN.{length, getD, length-append, List·getD-append}
 use lib.Seq.{getD-append-add}
 use Rattle.laws.specs.Blocks.{blockAt}
-use Rattle.columns.specs.Fields.{fieldAt, fieldsOf, n2}
-use Rattle.columns.proofs.ReadColumns.{field-of}
-use Rattle.record.specs.System.{countOf}
-use Rattle.record.specs.declared.system.Count.the-variants.{Number}
-use Rattle.record.proofs.PlainDigits.{count-exactly}
-use Rattle.rules_text.specs.Text.{placeInPart}
-use Rattle.entry_judging.specs.Contexts.{contextAt}
-use Rattle.questions_rows.proofs.RowChanges.{bib}
+use Rattle.paper_record.specs.Fields.{fieldAt, fieldsOf, n2}
+use Rattle.paper_record.proofs.ReadColumns.{field-of}
+use Rattle.paper_record.specs.System.{countOf}
+use Rattle.paper_record.specs.declared.types.Count.the-variants.{Number}
+use Rattle.paper_record.proofs.PlainDigits.{count-exactly}
+use Rattle.paper_rules.specs.Text.{placeInPart}
+use Rattle.paper_entry.specs.Contexts.{contextAt}
+use Rattle.paper_questions.proofs.RowChanges.{bib}
 use Rattle.inside.specs.Inside.{TextOf}
 use Rattle.inside.proofs.RecordsFrom.{place-field}
 use Rattle.inside.proofs.RowFound.{Opening}

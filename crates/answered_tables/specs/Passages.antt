@@ -12,11 +12,11 @@ use mathlib.Core.List.{List, [], _∷_, _++_}
 use lib.ListN.{take}
 use Rattle.laws.specs.Blocks.{joined}
 use Rattle.laws.specs.Walk.{All}
-use Rattle.columns.specs.Text.{isBlank}
-use Rattle.record_words.specs.Word.{pointerOf}
-use Rattle.entry_verdict.specs.Answer.{answerOf}
-use Rattle.questions.specs.Ask.{passageAsked}
-use Rattle.questions_parts.specs.Answers.{bytesIn}
+use Rattle.paper_record.specs.Text.{isBlank}
+use Rattle.paper_record.specs.Word.{pointerOf}
+use Rattle.paper_entry.specs.Answer.{answerOf}
+use Rattle.paper_questions.specs.Ask.{passageAsked}
+use Rattle.paper_questions.specs.PartAnswers.{bytesIn}
 use Rattle.rules_plain.specs.Places.{bibPlace}
 use Rattle.good.specs.Parts.{Record, Keyword, Bib, present, Subentry, subent, Later, Entry}
 use Rattle.good.specs.Subentries.{ownNumber}

@@ -6,16 +6,16 @@ use Prim.Native.Nat.{ℕ, _-_, _≤_}
 use mathlib.Core.Path.{_≡_}
 use mathlib.Core.List.{List, [], _∷_, _++_}
 use lib.ListN.{length, getD, take}
-use Rattle.number.specs.Reading.{readField}
-use Rattle.number_digits.specs.Digits.{digitCount}
-use Rattle.columns_places.specs.declared.places.LineNo.{LineNo}
-use Rattle.record_words.specs.Word.{pointerOf}
-use Rattle.entry_verdict.specs.Answer.{answerOf}
-use Rattle.questions_values.specs.declared.answers.ValueAnswer.{ValueAnswer}
-use Rattle.questions_parts.specs.declared.answers.PartAnswer.{PartAnswer}
-use Rattle.questions_places.specs.Place.{COMMON-SECTION, DATA-SECTION}
-use Rattle.questions.specs.Ask.{valueAsked, headingAsked, unitAsked}
-use Rattle.questions_parts.specs.Answers.{bytesIn}
+use Rattle.paper_number.specs.Reading.{readField}
+use Rattle.paper_number.specs.Digits.{digitCount}
+use Rattle.paper_record.specs.declared.types.LineNo.{LineNo}
+use Rattle.paper_record.specs.Word.{pointerOf}
+use Rattle.paper_entry.specs.Answer.{answerOf}
+use Rattle.paper_questions.specs.declared.types.ValueAnswer.{ValueAnswer}
+use Rattle.paper_questions.specs.declared.types.PartAnswer.{PartAnswer}
+use Rattle.paper_questions.specs.Place.{COMMON-SECTION, DATA-SECTION}
+use Rattle.paper_questions.specs.Ask.{valueAsked, headingAsked, unitAsked}
+use Rattle.paper_questions.specs.PartAnswers.{bytesIn}
 use Rattle.rules_plain.specs.Places.{cell}
 use Rattle.good.specs.Parts.{Table, present, Subentry, subent, Later, Entry}
 use Rattle.good.specs.Tables.{columnsOf}

@@ -4,10 +4,11 @@
 // ten, the pointer in one. Of each question it writes the number, what stands beside it, and the answer: the value and the
 // count of its digits, or the first byte, the length, the pointer and the part.
 use bytes::scan::find;
-use columns_places::places::LineNo;
-use entry_verdict::answer::Answer;
-use number::value::Decimal;
-use number::value::Reading;
+use paper_entry::types::Answer;
+use paper_number::types::Decimal;
+use paper_number::types::Reading;
+use paper_questions::types::PartAnswer;
+use paper_record::types::LineNo;
 use program_text::number_in;
 use program_text::say;
 use program_text::say_numbers;
@@ -19,7 +20,6 @@ use questions::ask::passage_part;
 use questions::ask::unit;
 use questions::ask::unit_part;
 use questions::ask::value;
-use questions_parts::answers::PartAnswer;
 
 fn say_answer(a: Answer) {
     let record = a.record;

@@ -10,16 +10,16 @@ use lib.ListN.{length, take, length-append}
 use lib.Seq.{length-take-le}
 use Rattle.laws.specs.Blocks.{blockAt}
 use Rattle.laws.proofs.Search.{either}
-use Rattle.rules_state.specs.Limits.{MOST-RECORDS}
-use Rattle.rules_state.proofs.EitherWay.{no}
-use Rattle.rules.proofs.FaultSaid.{some-found}
-use Rattle.entry_verdict.specs.declared.verdict.Verdict.{Verdict}
-use Rattle.entry_verdict.specs.Verdict.{refused, isDone, lengthGood}
-use Rattle.entry_judging.specs.Judging.{judgeOf}
-use Rattle.entry_judging.specs.Contexts.{contextAt}
+use Rattle.paper_rules.specs.Limits.{MOST-RECORDS}
+use Rattle.paper_rules.proofs.EitherWay.{no}
+use Rattle.paper_rules.proofs.FaultSaid.{some-found}
+use Rattle.paper_entry.specs.declared.types.Verdict.{Verdict}
+use Rattle.paper_entry.specs.Verdict.{refused, isDone, lengthGood}
+use Rattle.paper_entry.specs.Judging.{judgeOf}
+use Rattle.paper_entry.specs.Contexts.{contextAt}
 use Rattle.entry_walk.specs.First.{foundAt, NothingBefore, FirstAt, First, by-length, by-record, by-end, by-none}
 use Rattle.entry_walk.proofs.FirstRefused.{refused-first}
-use Rattle.entry_step.proofs.Numbered.{whole-records}
+use Rattle.paper_entry.proofs.Lengths.{whole-records}
 use Rattle.below.specs.Above.{CutSaid, unended, ended, CutAbove, EndMoved}
 use Rattle.below.proofs.Agree.{contexts-agree, nothing-agree, cut-agree, length-exactly}
 use Rattle.below.proofs.Below.{from-two, judge-refused, least-numbered}

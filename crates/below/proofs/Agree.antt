@@ -12,15 +12,15 @@ use lib.ListN.{length, take, drop, length-take, length-drop, take-append-drop}
 use lib.Seq.{length-take-le, drop-append-le, take-append-le}
 use Rattle.laws.specs.Blocks.{blockAt}
 use Rattle.laws.proofs.Booleans.{and-left}
-use Rattle.rules_state.specs.State.{Context}
-use Rattle.rules_state.specs.Limits.{MOST-RECORDS}
-use Rattle.rules_roles.specs.Fault.{Finding}
-use Rattle.rules.specs.Order.{Nothing}
-use Rattle.entry_verdict.specs.Verdict.{lengthGood}
-use Rattle.entry_judging.specs.Contexts.{behind, contextAt}
+use Rattle.paper_rules.specs.State.{Context}
+use Rattle.paper_rules.specs.Limits.{MOST-RECORDS}
+use Rattle.paper_rules.specs.Fault.{Finding}
+use Rattle.paper_rules.specs.Order.{Nothing}
+use Rattle.paper_entry.specs.Verdict.{lengthGood}
+use Rattle.paper_entry.specs.Contexts.{behind, contextAt}
 use Rattle.entry_walk.specs.First.{foundIn, NothingBefore}
 use Rattle.entry_walk.proofs.Contexts.{context-start, context-after}
-use Rattle.entry_step.proofs.Numbered.{whole-records, of-whole}
+use Rattle.paper_entry.proofs.Lengths.{whole-records, of-whole}
 use Rattle.below.specs.Below.{Agrees, LengthExactly, ContextsAgree, FoundAgree}
 
 -- ---- contexts and what is found

@@ -10,26 +10,26 @@ use lib.ListN.{length, getD}
 use Rattle.laws.specs.Search.{first}
 use Rattle.laws.proofs.Search.{either}
 use Rattle.laws.proofs.Counting.{first-before, first-holds, first-is, first-past}
-use Rattle.columns.specs.Columns.{hasLineFeed}
-use Rattle.columns.specs.Fields.{fieldsOf}
-use Rattle.classes.specs.Class.{isPermitted, notPermitted}
-use Rattle.record_names.specs.Identifier.{identifierOf}
-use Rattle.rules_roles.specs.declared.fault.Fault.the-variants.{At}
-use Rattle.rules_roles.specs.Fault.{leftmost, Finding, finding, firstFault}
-use Rattle.rules_roles.specs.Roles.{NOT-DUE}
-use Rattle.rules_roles.proofs.Leftmost.{leftmost-where}
-use Rattle.rules_state.specs.declared.state.Phase.{Phase}
-use Rattle.rules_state.specs.declared.state.Phase.the-variants.{Start, Opened, InSubentry, InBib, AfterBib, InCommon}
-use Rattle.rules_state.specs.declared.state.Phase.the-variants.{AfterCommon, InData, AfterData, Between, Done}
-use Rattle.rules_state.specs.declared.state.Track.{Track}
-use Rattle.rules_state.specs.State.{Context}
-use Rattle.rules_state.specs.Role.{roleIn}
-use Rattle.rules_state.proofs.EitherWay.{no}
-use Rattle.rules_every.specs.Every.{rule2, rule3, rule4}
-use Rattle.rules.specs.Order.{faultOf, Least, Nothing}
-use Rattle.rules.proofs.Least.{fault-least}
-use Rattle.entry_verdict.specs.Verdict.{isDone}
-use Rattle.entry_judging.specs.Judging.{roleOf}
+use Rattle.paper_record.specs.Columns.{hasLineFeed}
+use Rattle.paper_record.specs.Fields.{fieldsOf}
+use Rattle.paper_record.specs.Class.{isPermitted, notPermitted}
+use Rattle.paper_record.specs.Identifier.{identifierOf}
+use Rattle.paper_rules.specs.declared.types.Fault.the-variants.{At}
+use Rattle.paper_rules.specs.Fault.{leftmost, Finding, finding, firstFault}
+use Rattle.paper_rules.specs.Roles.{NOT-DUE}
+use Rattle.paper_rules.proofs.Leftmost.{leftmost-where}
+use Rattle.paper_rules.specs.declared.types.Phase.{Phase}
+use Rattle.paper_rules.specs.declared.types.Phase.the-variants.{Start, Opened, InSubentry, InBib, AfterBib, InCommon}
+use Rattle.paper_rules.specs.declared.types.Phase.the-variants.{AfterCommon, InData, AfterData, Between, Done}
+use Rattle.paper_rules.specs.declared.types.Track.{Track}
+use Rattle.paper_rules.specs.State.{Context}
+use Rattle.paper_rules.specs.Role.{roleIn}
+use Rattle.paper_rules.proofs.EitherWay.{no}
+use Rattle.paper_rules.specs.Every.{rule2, rule3, rule4}
+use Rattle.paper_rules.specs.Order.{faultOf, Least, Nothing}
+use Rattle.paper_rules.proofs.Least.{fault-least}
+use Rattle.paper_entry.specs.Verdict.{isDone}
+use Rattle.paper_entry.specs.Judging.{roleOf}
 use Rattle.entry_walk.specs.First.{foundIn}
 use Rattle.below.specs.Added.{FirstPermitted, BehindEnd, no-line-feed, not-permitted, nothing-due, OneBehind}
 

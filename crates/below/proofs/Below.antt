@@ -11,13 +11,13 @@ use lib.Dec.{T, eqb, leb}
 use lib.ListN.{length, getD, replicate}
 use Rattle.laws.specs.Blocks.{blockAt}
 use Rattle.laws.proofs.Table.{at}
-use Rattle.rules_state.specs.State.{Context}
-use Rattle.rules_roles.specs.Fault.{Finding}
-use Rattle.rules.specs.Order.{noFinding, Least}
-use Rattle.entry_verdict.specs.declared.verdict.Verdict.{Verdict}
-use Rattle.entry_verdict.specs.Verdict.{refused}
-use Rattle.entry_judging.specs.Judging.{judgeOf}
-use Rattle.entry_judging.specs.Contexts.{contextAt}
+use Rattle.paper_rules.specs.State.{Context}
+use Rattle.paper_rules.specs.Fault.{Finding}
+use Rattle.paper_rules.specs.Order.{noFinding, Least}
+use Rattle.paper_entry.specs.declared.types.Verdict.{Verdict}
+use Rattle.paper_entry.specs.Verdict.{refused}
+use Rattle.paper_entry.specs.Judging.{judgeOf}
+use Rattle.paper_entry.specs.Contexts.{contextAt}
 use Rattle.entry_walk.specs.First.{foundIn, FirstAt, First, by-length, by-record, by-end, by-none}
 use Rattle.entry_walk.proofs.FirstRefused.{refused-first}
 use Rattle.entry_walk.proofs.FirstAlone.{first-alone}

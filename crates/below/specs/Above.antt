@@ -4,8 +4,8 @@ use Prim.Native.Nat.{ℕ, _+_, _*_, _<_}
 use mathlib.Core.Path.{_≡_}
 use mathlib.Core.List.{List, _++_}
 use lib.ListN.{length, take}
-use Rattle.entry_verdict.specs.Verdict.{refused}
-use Rattle.entry_judging.specs.Judging.{judgeOf, Accepted}
+use Rattle.paper_entry.specs.Verdict.{refused}
+use Rattle.paper_entry.specs.Judging.{judgeOf, Accepted}
 use Rattle.below.specs.Below.{AtRecord}
 
 -- n records, cut from an input that is refused at the record r: refused by 16 behind the last of them, or accepted, and

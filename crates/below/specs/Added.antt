@@ -7,11 +7,11 @@ use mathlib.Core.Path.{_≡_}
 use mathlib.Core.Bool.{true, false}
 use mathlib.Core.List.{List, _++_}
 use lib.ListN.{length, getD, take}
-use Rattle.columns.specs.Columns.{hasLineFeed}
-use Rattle.classes.specs.Class.{isPermitted}
-use Rattle.rules_state.specs.Limits.{MOST-RECORDS}
-use Rattle.entry_verdict.specs.Verdict.{refused}
-use Rattle.entry_judging.specs.Judging.{judgeOf, Accepted}
+use Rattle.paper_record.specs.Columns.{hasLineFeed}
+use Rattle.paper_record.specs.Class.{isPermitted}
+use Rattle.paper_rules.specs.Limits.{MOST-RECORDS}
+use Rattle.paper_entry.specs.Verdict.{refused}
+use Rattle.paper_entry.specs.Judging.{judgeOf, Accepted}
 use Rattle.below.specs.Below.{RecordsWhole}
 
 -- the first n characters of a record are permitted

@@ -11,10 +11,10 @@ use mathlib.Core.List.{List, _++_}
 use mathlib.Core.Logic.{_⊎_, _↔_}
 use lib.ListN.{length}
 use Rattle.laws.specs.Blocks.{blockAt}
-use Rattle.rules_state.specs.Limits.{MOST-RECORDS}
-use Rattle.entry_verdict.specs.Verdict.{lengthGood}
-use Rattle.entry_judging.specs.Judging.{judgeOf, Accepted}
-use Rattle.entry_judging.specs.Contexts.{contextAt}
+use Rattle.paper_rules.specs.Limits.{MOST-RECORDS}
+use Rattle.paper_entry.specs.Verdict.{lengthGood}
+use Rattle.paper_entry.specs.Judging.{judgeOf, Accepted}
+use Rattle.paper_entry.specs.Contexts.{contextAt}
 use Rattle.entry_walk.specs.First.{foundAt}
 
 -- "refusal 2 to 15, or 17": those that are given at a record of the input

@@ -8,18 +8,18 @@ use borrow.Author.Tests.{le-leb, lt-leb, eq-eqb, ne-eqb, eqb-true}
 use lib.Dec.{leb, eqb}
 use lib.ListN.{length}
 use lib.IntN.{ℤ}
-use Rattle.number.specs.declared.value.Decimal.{Decimal}
-use Rattle.number.specs.Grammar.{blanks, write}
-use Rattle.number.specs.Value.{valueOf}
-use Rattle.number.proofs.Laws.{value-found}
-use Rattle.canonical_layout.specs.declared.layout.Prepared.{Prepared}
-use Rattle.canonical.specs.declared.write.Written.{Written}
-use Rattle.canonical.specs.declared.write.Written.the-variants.{Done, Refused}
-use Rattle.canonical_layout.specs.Closed.{laidOut, shortest}
-use Rattle.canonical_layout.specs.Closed.{canonicalText, canonicalField}
-use Rattle.canonical_layout.specs.Storing.{preparedOf, layoutColumns, fieldText}
-use Rattle.canonical.specs.Writing.{answered, storedField, written, bytes, refusalNumber, writingRefusal}
-use Rattle.canonical_layout.proofs.Layouts.{text-layout}
+use Rattle.paper_number.specs.declared.types.Decimal.{Decimal}
+use Rattle.paper_number.specs.Grammar.{blanks, write}
+use Rattle.paper_number.specs.Value.{valueOf}
+use Rattle.paper_number.proofs.Laws.{value-found}
+use Rattle.paper_canonical.specs.declared.types.Prepared.{Prepared}
+use Rattle.paper_canonical.specs.declared.types.Written.{Written}
+use Rattle.paper_canonical.specs.declared.types.Written.the-variants.{Done, Refused}
+use Rattle.paper_canonical.specs.Closed.{laidOut, shortest}
+use Rattle.paper_canonical.specs.Closed.{canonicalText, canonicalField}
+use Rattle.paper_canonical.specs.Storing.{preparedOf, layoutColumns, fieldText}
+use Rattle.paper_canonical.specs.Writing.{answered, storedField, written, bytes, refusalNumber, writingRefusal}
+use Rattle.paper_canonical.proofs.Layouts.{text-layout}
 
 -- ---- what is answered and stored
 

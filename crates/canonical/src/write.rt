@@ -2,17 +2,12 @@
 ghost use mathlib.Core.Path.{_≡_};
 ghost use Prim.Native.Nat.{_≤_};
 ghost use lib.ListN.{length};
-ghost use Rattle.number.specs.Value.{valueOf};
-ghost use Rattle.canonical.specs.Writing.{answered, storedField, written, bytes, refusalNumber, writingRefusal};
+ghost use Rattle.paper_number.specs.Value.{valueOf};
+ghost use Rattle.paper_canonical.specs.Writing.{answered, storedField, written, bytes, refusalNumber, writingRefusal};
 use canonical_layout::layout::prepare;
 use canonical_parts::parts::layout_columns;
 use canonical_store::store::put_field;
-
-// Done, or refused by document 01's number: 40 buffer not eleven bytes, 41 no field reads to the value.
-pub enum Written {
-    Done,
-    Refused(u8),
-}
+use paper_canonical::types::Written;
 
 // The canonical field of a value in a buffer of at most 19 columns.
 fn write_columns(negative: bool, coefficient: u64, power: i32, out: &mut [u8]) -> Written

@@ -2,23 +2,14 @@
 ghost use mathlib.Core.Path.{_≡_};
 ghost use Prim.Native.Nat.{_+_, _-_, _*_, _<_, _≤_, _^_};
 ghost use lib.IntN.{ℤ, pos, _+ℤ_};
-ghost use Rattle.number.specs.Value.{valueOf};
-ghost use Rattle.canonical_layout.specs.Closed.{layoutUp, layoutDown, layoutOf};
-ghost use Rattle.number_digits.specs.Count.{«count» as countOf};
-ghost use Rattle.canonical_layout.specs.Storing.{sizeOf, preparedOf};
+ghost use Rattle.paper_number.specs.Value.{valueOf};
+ghost use Rattle.paper_canonical.specs.Closed.{layoutUp, layoutDown, layoutOf};
+ghost use Rattle.paper_number.specs.Count.{«count» as countOf};
+ghost use Rattle.paper_canonical.specs.Storing.{sizeOf, preparedOf};
 use number::value::without_zeros;
-
-// How many digits stand before the point and behind it, zeros behind the coefficient's own digits included, and the
-// exponent: whether there is one, whether it is below zero, how many digits it has, its size.
-pub struct Layout {
-    pub whole: usize,
-    pub part: usize,
-    pub zeros: usize,
-    pub raised: bool,
-    pub below: bool,
-    pub long: usize,
-    pub exponent: u64,
-}
+use paper_canonical::types::Layout;
+use paper_canonical::types::Prepared;
+use paper_canonical::types::Size;
 
 // How many digits a number has, and the least number that has as many.
 pub struct Measure {
@@ -43,12 +34,6 @@ fn measured(v: u64) -> Measure
         digits: 20,
         least: least,
     }
-}
-
-// The size of a power with zeros added to it, and whether it is below zero. The sum may pass 32 bits.
-pub struct Size {
-    pub down: bool,
-    pub size: u64,
 }
 
 fn size_of(p: i32, zeros: u64) -> Size
@@ -187,13 +172,6 @@ fn layout_of(d: usize, p: i32, zeros: u64) -> Layout
         return layout_down(d, size);
     }
     layout_up(d, size)
-}
-
-// What is to be written, whatever the width.
-pub struct Prepared {
-    pub negative: bool,
-    pub coefficient: u64,
-    pub layout: Layout,
 }
 
 pub fn prepare(negative: bool, coefficient: u64, power: i32) -> Prepared

@@ -10,12 +10,12 @@ use native.Mathlib.Omega.{arith}
 use borrow.Author.Tests.{lt-ltb, le-ltb, le-leb, lt-leb}
 use lib.Dec.{ltb}
 use lib.ListN.{length, length-replicate}
-use Rattle.number.specs.Grammar.{blanks, digitsText, signByte, signText}
-use Rattle.canonical_layout.specs.declared.layout.Layout.{Layout}
-use Rattle.canonical_layout.specs.Closed.{digitsN, shift, signOf}
-use Rattle.canonical_layout.specs.Storing.{put, oneIf, layoutColumns}
-use Rattle.canonical_layout.proofs.Digits.{digits-wide}
-use Rattle.canonical_layout.proofs.Laid.{sign-width}
+use Rattle.paper_number.specs.Grammar.{blanks, digitsText, signByte, signText}
+use Rattle.paper_canonical.specs.declared.types.Layout.{Layout}
+use Rattle.paper_canonical.specs.Closed.{digitsN, shift, signOf}
+use Rattle.paper_canonical.specs.Storing.{put, oneIf, layoutColumns}
+use Rattle.paper_canonical.proofs.Digits.{digits-wide}
+use Rattle.paper_canonical.proofs.Laid.{sign-width}
 use Rattle.canonical_parts.specs.Once.{Piece, piece, exponentPieces, bodyPieces, frontPieces, pieces}
 use Rattle.canonical_parts.specs.Once.{stored, times, StoredOnce}
 use Rattle.canonical_parts.proofs.Filled.{column-parts}

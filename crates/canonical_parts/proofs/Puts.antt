@@ -9,12 +9,12 @@ use native.Mathlib.Omega.{arith}
 use lib.ListN.{length, take, drop, set, length-append, length-take, length-drop, length-set, length-replicate}
 use lib.ListN.{take-append-drop, drop-of-length-le}
 use lib.Seq.{drop-at, take-set-le, set-split, length-take-le, take-append-le, take-take}
-use Rattle.number.specs.Grammar.{blanks, digitsText}
-use Rattle.canonical_layout.specs.Closed.{digitsN, shift}
-use Rattle.canonical_layout.specs.Storing.{put, putDigits}
-use Rattle.number.proofs.Bounds.{text-length}
-use Rattle.number.proofs.Reach.{text-append}
-use Rattle.canonical_layout.proofs.Digits.{digitsN-length}
+use Rattle.paper_number.specs.Grammar.{blanks, digitsText}
+use Rattle.paper_canonical.specs.Closed.{digitsN, shift}
+use Rattle.paper_canonical.specs.Storing.{put, putDigits}
+use Rattle.paper_number.proofs.Bounds.{text-length}
+use Rattle.paper_number.proofs.Reach.{text-append}
+use Rattle.paper_canonical.proofs.Digits.{digitsN-length}
 
 pub put-nothing : (l : List ℕ) (at : ℕ) → put l at [] ≡ l
 unfolding put

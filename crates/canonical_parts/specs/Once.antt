@@ -12,10 +12,10 @@ use mathlib.Core.Path.{_≡_}
 use Prim.Native.Nat.{ℕ, _+_, _-_, _*_, _^_, _≤_}
 use lib.Dec.{leb, ltb}
 use lib.ListN.{length}
-use Rattle.number.specs.Grammar.{blanks, digitsText, signByte, signText}
-use Rattle.canonical_layout.specs.declared.layout.Layout.{Layout}
-use Rattle.canonical_layout.specs.Closed.{digitsN, shift, signOf}
-use Rattle.canonical_layout.specs.Storing.{put, oneIf, layoutColumns}
+use Rattle.paper_number.specs.Grammar.{blanks, digitsText, signByte, signText}
+use Rattle.paper_canonical.specs.declared.types.Layout.{Layout}
+use Rattle.paper_canonical.specs.Closed.{digitsN, shift, signOf}
+use Rattle.paper_canonical.specs.Storing.{put, oneIf, layoutColumns}
 
 -- ---- the pieces
 

@@ -3,11 +3,11 @@ ghost use mathlib.Core.Path.{_≡_};
 ghost use mathlib.Core.List.{[], _∷_};
 ghost use Prim.Native.Nat.{_+_, _-_, _*_, _<_, _≤_, _^_};
 ghost use lib.ListN.{length};
-ghost use Rattle.number.specs.Grammar.{blanks, digitsText, signByte, signText, tailText};
-ghost use Rattle.canonical_layout.specs.Closed.{digitsN, shift, signOf, tailOf};
-ghost use Rattle.canonical_layout.specs.Storing.{put, oneIf, layoutColumns, bodyText};
+ghost use Rattle.paper_number.specs.Grammar.{blanks, digitsText, signByte, signText, tailText};
+ghost use Rattle.paper_canonical.specs.Closed.{digitsN, shift, signOf, tailOf};
+ghost use Rattle.paper_canonical.specs.Storing.{put, oneIf, layoutColumns, bodyText};
 ghost use Rattle.canonical_parts.specs.Once.{exponentPieces, bodyPieces, stored};
-use canonical_layout::layout::Layout;
+use paper_canonical::types::Layout;
 
 fn put_byte(out: &mut [u8], at: usize, b: u8)
     requires { ⌜ at < length (now out) ⌝ }

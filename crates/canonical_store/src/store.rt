@@ -1,9 +1,8 @@
 // The bytes of a canonical field, stored from the right, each once.
 ghost use mathlib.Core.Path.{_≡_};
 ghost use lib.ListN.{length};
-ghost use Rattle.canonical_layout.specs.Storing.{ReadyLayout, fieldText};
+ghost use Rattle.paper_canonical.specs.Storing.{ReadyLayout, fieldText};
 ghost use Rattle.canonical_parts.specs.Once.{pieces, stored};
-use canonical_layout::layout::Layout;
 use canonical_parts::parts::layout_columns;
 use canonical_parts::parts::put_blanks;
 use canonical_parts::parts::put_body;
@@ -11,6 +10,7 @@ use canonical_parts::parts::put_exponent;
 use canonical_parts::parts::put_sign;
 use canonical_parts::parts::sign_columns;
 use canonical_parts::parts::with_zeros;
+use paper_canonical::types::Layout;
 
 // A layout's field, right-adjusted in the whole of a buffer.
 pub fn put_field(out: &mut [u8], negative: bool, c: u64, p: Layout)

@@ -1,7 +1,7 @@
 // The class of each byte, and the first column of a record that is not permitted.
 ghost use mathlib.Core.Path.{_≡_};
-ghost use Rattle.classes.specs.Class.{classOf, classTable, ClassesLent, permittedTo};
-ghost use Rattle.columns.specs.Columns.{Whole};
+ghost use Rattle.paper_record.specs.Class.{classOf, classTable, ClassesLent, permittedTo};
+ghost use Rattle.paper_record.specs.Columns.{Whole};
 
 // 0 not permitted, 1 blank, 2 digit, 3 capital, 4 small, 5 special; beside each the byte.
 const CLASSES: [u8; 256] = [

@@ -1,7 +1,7 @@
 // The columns of a record: its line feed.
 ghost use mathlib.Core.Path.{_≡_};
 ghost use Prim.Native.Nat.{ℕ};
-ghost use Rattle.columns.specs.Columns.{Whole, hasLineFeed};
+ghost use Rattle.paper_record.specs.Columns.{Whole, hasLineFeed};
 
 // Whether byte 81 of a record is a line feed.
 pub fn has_line_feed(rec: &[u8]) -> bool

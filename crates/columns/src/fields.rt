@@ -1,8 +1,8 @@
 // Columns 1 to 66 of a record as six fields of eleven columns.
 ghost use mathlib.Core.Path.{_≡_};
 ghost use Prim.Native.Nat.{ℕ};
-ghost use Rattle.columns.specs.Columns.{Whole, columnsAt};
-ghost use Rattle.columns.specs.Fields.{fieldsOf, Holds};
+ghost use Rattle.paper_record.specs.Columns.{Whole, columnsAt};
+ghost use Rattle.paper_record.specs.Fields.{fieldsOf, Holds};
 
 // The eleven columns of a part from `at` on.
 pub fn field(part: &[u8], at: usize) -> [u8; 11]

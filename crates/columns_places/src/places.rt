@@ -2,19 +2,11 @@
 // a table.
 ghost use mathlib.Core.Path.{_≡_};
 ghost use Prim.Native.Nat.{ℕ};
-ghost use Rattle.columns_places.specs.Places.{recordOf, offsetOf, Counted, recordsFor, placeOf, InTable};
-
-pub struct RecordNo(pub u32);
-
-pub struct LineNo(pub u32);
-
-pub struct Index(pub u32);
-
-// A record, and one of its six fields, 0 to 5.
-pub struct Place {
-    pub at: RecordNo,
-    pub field: u32,
-}
+ghost use Rattle.paper_record.specs.Places.{recordOf, offsetOf, Counted, recordsFor, placeOf, InTable};
+use paper_record::types::Index;
+use paper_record::types::LineNo;
+use paper_record::types::Place;
+use paper_record::types::RecordNo;
 
 // The number of the record that has so many records before it.
 pub fn record_of(i: Index) -> RecordNo

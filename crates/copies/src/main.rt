@@ -5,7 +5,7 @@ ghost use Prim.Native.Nat.{_≤_};
 use check::same;
 use copy::copy::copy;
 use entry::judge::judge;
-use entry_verdict::answer::Answer;
+use paper_entry::types::Answer;
 use program_text::say_line;
 use program_text::say_numbers;
 use program_verdict::say_verdict;

@@ -1,12 +1,12 @@
 // The call.
 ghost use mathlib.Core.Path.{_≡_};
 ghost use lib.ListN.{length};
-ghost use Rattle.copy_laws.specs.Call.{copied, storedCopy};
+ghost use Rattle.paper_copy.specs.Call.{copied, storedCopy};
 use copy_walk::walk::copy_records;
 use entry::judge::judge;
-use entry_verdict::answer::Answer;
 use entry_verdict::answer::answer_for;
 use entry_verdict::answer::answer_of;
+use paper_entry::types::Answer;
 
 // The canonical copy of an entry, stored in a buffer that may be longer. The answer's number is 0, 31 or 37.
 pub fn copy(entry: &[u8], out: &mut [u8]) -> Answer

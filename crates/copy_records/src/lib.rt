@@ -1,3 +1,2 @@
 // The canonical copy of one record.
-mod fields;
 pub mod records;

@@ -3,27 +3,28 @@ ghost use mathlib.Core.Path.{_≡_};
 ghost use Prim.Native.Nat.{_+_, _<_, _≤_};
 ghost use lib.ListN.{length, drop};
 ghost use lib.Seq.{paste};
-ghost use Rattle.copy_records.specs.Replaced.{replaced, mask};
-ghost use Rattle.columns.specs.Columns.{Whole};
+ghost use Rattle.paper_copy.specs.Replaced.{replaced, mask};
+ghost use Rattle.paper_record.specs.Columns.{Whole};
 ghost use Rattle.rules_flags.specs.Lent.{WholeRecords};
-ghost use Rattle.copy_records.specs.CopyField.{valueField, numberIn, copyField};
-use crate::fields::put_field;
+ghost use Rattle.paper_copy.specs.CopyField.{valueField, numberIn, copyField};
 use columns::fields::field;
+use copy_fields::fields::put_field;
+use paper_rules::types::Track;
 use rules_flags::flags::is_flag_column;
 use rules_roles::roles::COMMON_VALUE;
 use rules_roles::roles::DATA_VALUE;
 use rules_roles::roles::is_value;
-use rules_state::state::Track;
+use rules_state::state::used;
 
 // Whether the field k of a record with this role is a value field.
 fn is_value_field(t: Track, role: usize, k: usize) -> bool
     ensures { λ r. ⌜ r ≡ valueField t role k ⌝ }
 {
     if role == COMMON_VALUE {
-        return k < t.used();
+        return k < used(t);
     }
     if role == DATA_VALUE {
-        return k < t.used();
+        return k < used(t);
     }
     false
 }

@@ -7,32 +7,32 @@ use native.Mathlib.Omega.{arith}
 use lib.ListN.{length, take, drop, length-drop, take-append-drop}
 use lib.Seq.{paste, paste-zero, length-take-le, take-all, take-take}
 use Rattle.laws.specs.Blocks.{blockAt}
-use Rattle.copy_records.specs.Replaced.{replaced, mask}
-use Rattle.columns.specs.Columns.{Whole}
-use Rattle.rules_state.specs.Limits.{MOST-RECORDS}
+use Rattle.paper_copy.specs.Replaced.{replaced, mask}
+use Rattle.paper_record.specs.Columns.{Whole}
+use Rattle.paper_rules.specs.Limits.{MOST-RECORDS}
 use Rattle.entry_step.specs.declared.step.Judge.{Judge}
 use Rattle.entry_step.specs.declared.pass.Passed.{Passed}
-use Rattle.entry_judging.specs.Judging.{Accepted}
+use Rattle.paper_entry.specs.Judging.{Accepted}
 use Rattle.entry_step.specs.ByRanges.{startJudge}
-use Rattle.entry_judging.specs.Contexts.{contextAt}
+use Rattle.paper_entry.specs.Contexts.{contextAt}
 use Rattle.entry_step.specs.Pass.{Walking, PassedAt}
 use Rattle.entry_next.proofs.Following.{range-kept}
-use Rattle.entry_step.proofs.Numbered.{whole-records}
+use Rattle.paper_entry.proofs.Lengths.{whole-records}
 use Rattle.entry_step.proofs.Walking.{walking-start, track-stands, context-stands, records-passed, walking-placed}
-use Rattle.rules_state.specs.State.{Context}
-use Rattle.rules_state.specs.Ranging.{Placed}
-use Rattle.rules_roles.specs.declared.ranging.Range.{Range}
-use Rattle.rules_roles.specs.Parts.{bytesOf, Lent}
+use Rattle.paper_rules.specs.State.{Context}
+use Rattle.paper_rules.specs.Ranging.{Placed}
+use Rattle.paper_rules.specs.declared.types.Range.{Range}
+use Rattle.paper_rules.specs.Parts.{bytesOf, Lent}
 use Rattle.rules_flags.specs.Lent.{WholeRecords}
 use Rattle.rules_flags.proofs.Headings.{records-of}
-use Rattle.copy_records.specs.CopyField.{numberIn, copyField}
-use Rattle.copy_laws.specs.Copy.{copyRecord, copyOf}
-use Rattle.copy_laws.specs.Call.{copiedInto}
-use Rattle.copy_laws.specs.Storing.{Room}
-use Rattle.copy_laws.proofs.Demand.{passed, copy-long}
-use Rattle.copy_records.proofs.Pasted.{paste-more}
-use Rattle.copy_laws.proofs.RecordCopied.{record-copied}
-use Rattle.copy_laws.proofs.CopiedBlocks.{copied-block}
+use Rattle.paper_copy.specs.CopyField.{numberIn, copyField}
+use Rattle.paper_copy.specs.Copy.{copyRecord, copyOf}
+use Rattle.paper_copy.specs.Call.{copiedInto}
+use Rattle.paper_copy.specs.Storing.{Room}
+use Rattle.paper_copy.proofs.Demand.{passed, copy-long}
+use Rattle.paper_copy.proofs.Pasted.{paste-more}
+use Rattle.paper_copy.proofs.RecordCopied.{record-copied}
+use Rattle.paper_copy.proofs.CopiedBlocks.{copied-block}
 
 -- the loop over n records has come to the record with the index i
 pub record Copied (s lent : List ℕ) (n : ℕ) (j : Judge) (out : List ℕ) (i : ℕ) : Type 0 where

@@ -1,7 +1,7 @@
 // The second way over an accepted entry: the copy of each record, stored in its place.
 ghost use mathlib.Core.Path.{_≡_};
-ghost use Rattle.copy_laws.specs.Call.{copiedInto};
-ghost use Rattle.copy_laws.specs.Storing.{Room};
+ghost use Rattle.paper_copy.specs.Call.{copiedInto};
+ghost use Rattle.paper_copy.specs.Storing.{Room};
 use copy_records::records::copy_record;
 use entry_step::step::Judge;
 use number::form::kinds;

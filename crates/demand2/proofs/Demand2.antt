@@ -1,9 +1,9 @@
 -- Demand 2 holds.
 -- Assumes nothing.
-use Rattle.number.proofs.Laws as Number
-use Rattle.canonical_laws.specs.Marked as Marked
-use Rattle.canonical_laws.proofs.Laws as Canonical
-use Rattle.record.proofs.PlainValues.{number-exactly}
+use Rattle.paper_number.proofs.Laws as Number
+use Rattle.paper_canonical.specs.Marked as Marked
+use Rattle.paper_canonical.proofs.Laws as Canonical
+use Rattle.paper_record.proofs.PlainValues.{number-exactly}
 use Rattle.entry_walk.proofs.FirstRefused.{refused-first}
 use Rattle.entry_walk.proofs.FirstAlone.{first-alone}
 use Rattle.refusal_table.proofs.Listed.{refusals-listed, length-first}

@@ -9,18 +9,18 @@ use borrow.Author.Tests.{eqb-true, eqb-false, leb-true, leb-false}
 use lib.Dec.{eqb, leb}
 use lib.IntN.{ℤ}
 use lib.ListN.{length}
-use Rattle.number.specs.declared.value.Decimal.{Decimal}
-use Rattle.number.specs.declared.value.Reading.the-variants.{Number}
-use Rattle.number.specs.Value.{Normal, Value, valueOf}
-use Rattle.number.specs.Reading.{readField}
-use Rattle.number.proofs.Laws.{value-found, value-one, reads-exactly}
-use Rattle.canonical.specs.declared.write.Written.{Written}
-use Rattle.canonical.specs.declared.write.Written.the-variants.{Refused}
-use Rattle.canonical_layout.specs.Canonical.{Best}
-use Rattle.canonical_layout.specs.Closed.{canonicalText}
-use Rattle.canonical.specs.Writing.{written, bytes}
-use Rattle.canonical_laws.proofs.Laws.{canonical-one, canonical-best, best-one, none-reads, written-fits, written-wide}
-use Rattle.canonical_laws.proofs.Laws.{written-short}
+use Rattle.paper_number.specs.declared.types.Decimal.{Decimal}
+use Rattle.paper_number.specs.declared.types.Reading.the-variants.{Number}
+use Rattle.paper_number.specs.Value.{Normal, Value, valueOf}
+use Rattle.paper_number.specs.Reading.{readField}
+use Rattle.paper_number.proofs.Laws.{value-found, value-one, reads-exactly}
+use Rattle.paper_canonical.specs.declared.types.Written.{Written}
+use Rattle.paper_canonical.specs.declared.types.Written.the-variants.{Refused}
+use Rattle.paper_canonical.specs.Canonical.{Best}
+use Rattle.paper_canonical.specs.Closed.{canonicalText}
+use Rattle.paper_canonical.specs.Writing.{written, bytes}
+use Rattle.paper_canonical.proofs.Laws.{canonical-one, canonical-best, best-one, none-reads, written-fits, written-wide}
+use Rattle.paper_canonical.proofs.Laws.{written-short}
 use Rattle.demand2.specs.Writing.{NoneReads, Writes, its-field, no-field, no-room, WrittenSo, WrittenAlone}
 use Rattle.demand2.specs.Writing.{OneWins, RefusedExactly}
 

@@ -4,10 +4,10 @@
 -- (specs/Tables, Passages) or this crate (specs/Writing). `judgeOf`, `valueAsked`, `headingAsked`, `unitAsked`,
 -- `passageAsked`, `readField`, `readNumber` and `written` are what the calls promise to answer, and `bytes` is what the
 -- writer leaves in the buffer.
-use Rattle.number.specs.Claims.{SaysExactly, SpeltOnce, ValueFound, ValueOne, ElevenRead, OthersRefused}
-use Rattle.canonical_laws.specs.Claims.{BestOne, ClosedForm, ColumnsSpan}
-use Rattle.canonical_laws.specs.Marked.{MarkedRight}
-use Rattle.record.specs.Plain.{NumberExactly}
+use Rattle.paper_number.specs.Claims.{SaysExactly, SpeltOnce, ValueFound, ValueOne, ElevenRead, OthersRefused}
+use Rattle.paper_canonical.specs.Claims.{BestOne, ClosedForm, ColumnsSpan}
+use Rattle.paper_canonical.specs.Marked.{MarkedRight}
+use Rattle.paper_record.specs.Plain.{NumberExactly}
 use Rattle.entry_walk.specs.First.{RefusedFirst, FirstAlone}
 use Rattle.refusal_table.specs.Listed.{RefusalsListed, LengthFirst}
 use Rattle.refusal_table.specs.TextFaults.{TenSaid, ElevenSaid, TenExactly, ElevenExactly}

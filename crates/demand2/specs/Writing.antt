@@ -8,14 +8,14 @@ use mathlib.Core.Logic.{_↔_}
 use mathlib.Core.List.{List}
 use lib.IntN.{ℤ}
 use lib.ListN.{length}
-use Rattle.number.specs.declared.value.Decimal.{Decimal}
-use Rattle.number.specs.declared.value.Reading.the-variants.{Number}
-use Rattle.number.specs.Value.{Value, Reads, valueOf}
-use Rattle.number.specs.Reading.{readField}
-use Rattle.canonical.specs.declared.write.Written.{Written}
-use Rattle.canonical.specs.declared.write.Written.the-variants.{Done, Refused}
-use Rattle.canonical_layout.specs.Canonical.{Best, ExactlyOne}
-use Rattle.canonical.specs.Writing.{written, bytes}
+use Rattle.paper_number.specs.declared.types.Decimal.{Decimal}
+use Rattle.paper_number.specs.declared.types.Reading.the-variants.{Number}
+use Rattle.paper_number.specs.Value.{Value, Reads, valueOf}
+use Rattle.paper_number.specs.Reading.{readField}
+use Rattle.paper_canonical.specs.declared.types.Written.{Written}
+use Rattle.paper_canonical.specs.declared.types.Written.the-variants.{Done, Refused}
+use Rattle.paper_canonical.specs.Canonical.{Best, ExactlyOne}
+use Rattle.paper_canonical.specs.Writing.{written, bytes}
 
 -- "no such field reads back as that decimal"
 abbrev pub NoneReads : Decimal → Type 0

@@ -10,27 +10,27 @@ use native.Mathlib.Numerals.{add-one}
 use lib.ListN.{length, drop, getD, List·getD-eq-default}
 use Rattle.laws.specs.Blocks.{blocks, blockAt}
 use Rattle.laws.specs.Copies.{marks}
-use Rattle.copy_records.specs.Replaced.{Each}
+use Rattle.paper_copy.specs.Replaced.{Each}
 use Rattle.laws.proofs.Search.{either}
 use Rattle.laws.proofs.Blocks.{next-block, length-blocks}
 use Rattle.laws.proofs.Copies.{length-marks}
-use Rattle.copy_records.proofs.Replaced.{each-at}
-use Rattle.number.specs.declared.value.Reading.the-variants.{Blank, Number}
-use Rattle.canonical_laws.specs.Replacing.{canonical}
-use Rattle.canonical_laws.proofs.Laws.{canonical-best, number-normal, number-fits}
-use Rattle.canonical_laws.proofs.WriteBack.{canonical-read}
-use Rattle.columns.specs.Fields.{fieldAt}
-use Rattle.entry_judging.specs.Judging.{turnOf, Accepted}
-use Rattle.rules_state.specs.State.{startContext}
-use Rattle.entry_judging.specs.Contexts.{contextAt}
+use Rattle.paper_copy.proofs.Replaced.{each-at}
+use Rattle.paper_number.specs.declared.types.Reading.the-variants.{Blank, Number}
+use Rattle.paper_canonical.specs.Replacing.{canonical}
+use Rattle.paper_canonical.proofs.Laws.{canonical-best, number-normal, number-fits}
+use Rattle.paper_canonical.proofs.WriteBack.{canonical-read}
+use Rattle.paper_record.specs.Fields.{fieldAt}
+use Rattle.paper_entry.specs.Judging.{turnOf, Accepted}
+use Rattle.paper_rules.specs.State.{startContext}
+use Rattle.paper_entry.specs.Contexts.{contextAt}
 use Rattle.entry_walk.proofs.AcceptedWalk.{Walked, walked}
 use Rattle.entry_walk.proofs.Contexts.{context-start}
-use Rattle.copy_records.specs.CopyField.{copyField}
-use Rattle.copy_laws.specs.Copy.{maskOf, copyRecord, recordsIn, numberField, fieldIn, copyOf}
-use Rattle.copy_laws.proofs.CanonicalFields.{Fit, copied-field}
-use Rattle.copy_laws.proofs.FaithfulRecords.{length-mask-of, fits}
-use Rattle.copy_laws.proofs.Demand.{passed}
-use Rattle.copy_laws.proofs.CopiedBlocks.{copied-block}
+use Rattle.paper_copy.specs.CopyField.{copyField}
+use Rattle.paper_copy.specs.Copy.{maskOf, copyRecord, recordsIn, numberField, fieldIn, copyOf}
+use Rattle.paper_copy.proofs.CanonicalFields.{Fit, copied-field}
+use Rattle.paper_copy.proofs.FaithfulRecords.{length-mask-of, fits}
+use Rattle.paper_copy.proofs.Demand.{passed}
+use Rattle.paper_copy.proofs.CopiedBlocks.{copied-block}
 use Rattle.demand3.specs.Fields.{CopyCanonical, CopyBlank}
 
 module _ (s : List ℕ) (n : ℕ) (w : Walked s n) where

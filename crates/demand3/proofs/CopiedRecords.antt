@@ -9,27 +9,27 @@ use lib.ListN.{length, getD, replicate}
 use Rattle.laws.specs.Blocks.{blockAt}
 use Rattle.laws.specs.Copies.{Passing}
 use Rattle.laws.proofs.Search.{either}
-use Rattle.number.specs.Reading.{readField}
-use Rattle.columns.specs.Fields.{fieldsOf}
-use Rattle.record_names.specs.Identifier.{identifierOf}
-use Rattle.columns_places.specs.declared.places.RecordNo.{RecordNo}
-use Rattle.columns_places.specs.declared.places.Place.{Place}
-use Rattle.columns.proofs.ReadColumns.{field-of, past-fields}
-use Rattle.rules_state.specs.State.{Context}
-use Rattle.rules_roles.specs.Roles.{isValue}
-use Rattle.entry_judging.specs.Judging.{turnOf, Accepted}
+use Rattle.paper_number.specs.Reading.{readField}
+use Rattle.paper_record.specs.Fields.{fieldsOf}
+use Rattle.paper_record.specs.Identifier.{identifierOf}
+use Rattle.paper_record.specs.declared.types.RecordNo.{RecordNo}
+use Rattle.paper_record.specs.declared.types.Place.{Place}
+use Rattle.paper_record.proofs.ReadColumns.{field-of, past-fields}
+use Rattle.paper_rules.specs.State.{Context}
+use Rattle.paper_rules.specs.Roles.{isValue}
+use Rattle.paper_entry.specs.Judging.{turnOf, Accepted}
 use Rattle.entry_walk.proofs.GoingOn.{go-fine}
 use Rattle.entry_walk.proofs.AcceptedWalk.{walked}
 use Rattle.entry_walk.proofs.Contexts.{context-start, context-after}
-use Rattle.entry_judging.specs.Contexts.{contextAt, roleAt, behind}
-use Rattle.questions_places.specs.Place.{hasRecord, fieldsAt, identifierAt, fieldOf}
-use Rattle.questions_places.proofs.Records.{record-there}
+use Rattle.paper_entry.specs.Contexts.{contextAt, roleAt, behind}
+use Rattle.paper_questions.specs.Place.{hasRecord, fieldsAt, identifierAt, fieldOf}
+use Rattle.paper_questions.proofs.Records.{record-there}
 use Rattle.inside.proofs.RowWalked.{fields-at}
-use Rattle.copy_laws.specs.Copy.{copyRecord, copyOf}
-use Rattle.copy_laws.proofs.FaithfulRecords.{identifier-kept, not-copied, faithful}
-use Rattle.copy_laws.proofs.Demand.{passed, copy-long}
-use Rattle.copy_laws.proofs.CopiedBlocks.{copied-block}
-use Rattle.copy_laws.proofs.Unchanged.{copy-reads}
+use Rattle.paper_copy.specs.Copy.{copyRecord, copyOf}
+use Rattle.paper_copy.proofs.FaithfulRecords.{identifier-kept, not-copied, faithful}
+use Rattle.paper_copy.proofs.Demand.{passed, copy-long}
+use Rattle.paper_copy.proofs.CopiedBlocks.{copied-block}
+use Rattle.paper_copy.proofs.Unchanged.{copy-reads}
 
 behind-kept : Passing turnOf (λ c i r d. behind c (copyRecord c r) ≡ behind c r)
 behind-kept c i r d h = go-fine c i (copyRecord c r) d (faithful .keeps c i r d h) .1 ∙ sym (go-fine c i r d h .1)

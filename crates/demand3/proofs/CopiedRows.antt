@@ -10,27 +10,27 @@ use lib.Dec.{eqb}
 use lib.ListN.{length}
 use Rattle.laws.specs.Blocks.{blockAt}
 use Rattle.laws.specs.Copies.{Passing}
-use Rattle.columns_places.specs.Places.{recordOf}
-use Rattle.columns.specs.Fields.{fieldsOf}
-use Rattle.record_names.specs.Identifier.{BIB, COMMON, DATA}
-use Rattle.columns_places.specs.declared.places.RecordNo.{RecordNo}
-use Rattle.rules_state.specs.declared.state.Track.{Track}
-use Rattle.rules_roles.specs.Roles.{opensSubentry, isValue}
-use Rattle.rules.proofs.ByKind.{of-values}
-use Rattle.entry_judging.specs.Judging.{roleOf, turnOf, Accepted}
-use Rattle.entry_judging.specs.Contexts.{contextAt, roleAt}
+use Rattle.paper_record.specs.Places.{recordOf}
+use Rattle.paper_record.specs.Fields.{fieldsOf}
+use Rattle.paper_record.specs.Identifier.{BIB, COMMON, DATA}
+use Rattle.paper_record.specs.declared.types.RecordNo.{RecordNo}
+use Rattle.paper_rules.specs.declared.types.Track.{Track}
+use Rattle.paper_rules.specs.Roles.{opensSubentry, isValue}
+use Rattle.paper_rules.proofs.ByKind.{of-values}
+use Rattle.paper_entry.specs.Judging.{roleOf, turnOf, Accepted}
+use Rattle.paper_entry.specs.Contexts.{contextAt, roleAt}
 use Rattle.entry_walk.proofs.Contexts.{records-at}
-use Rattle.questions_noted.specs.declared.row.Row.{Row}
-use Rattle.questions_noted.specs.Row.{NONE, withFirstAt, withBibAt, withCommonAt, withDataAt, noted}
-use Rattle.questions_rows.specs.Row.{subentryIn, notedAs, noteOf, rowAt, rowOf}
-use Rattle.questions_places.specs.Place.{COMMON-SECTION, DATA-SECTION, fieldsAt, shapeOf}
-use Rattle.questions_refusals.specs.Refused.{sectionIn}
+use Rattle.paper_questions.specs.declared.types.Row.{Row}
+use Rattle.paper_questions.specs.Row.{NONE, withFirstAt, withBibAt, withCommonAt, withDataAt, noted}
+use Rattle.paper_questions.specs.Located.{subentryIn, notedAs, noteOf, rowAt, rowOf}
+use Rattle.paper_questions.specs.Place.{COMMON-SECTION, DATA-SECTION, fieldsAt, shapeOf}
+use Rattle.paper_questions.specs.Refused.{sectionIn}
 use Rattle.entry_walk.proofs.AcceptedWalk.{walked}
-use Rattle.questions_rows.proofs.RowNoted.{found-row}
-use Rattle.copy_laws.specs.Copy.{copyRecord, copyOf}
-use Rattle.copy_laws.proofs.FaithfulRecords.{role-kept, not-copied}
-use Rattle.copy_laws.proofs.Demand.{passed, copy-long, copy-accepted}
-use Rattle.copy_laws.proofs.CopiedBlocks.{copied-block}
+use Rattle.paper_questions.proofs.FoundRow.{found-row}
+use Rattle.paper_copy.specs.Copy.{copyRecord, copyOf}
+use Rattle.paper_copy.proofs.FaithfulRecords.{role-kept, not-copied}
+use Rattle.paper_copy.proofs.Demand.{passed, copy-long, copy-accepted}
+use Rattle.paper_copy.proofs.CopiedBlocks.{copied-block}
 use Rattle.demand3.proofs.CopiedRecords.{copied-context, fields-kept}
 
 -- a value record leaves nothing in a row

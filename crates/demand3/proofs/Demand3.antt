@@ -4,9 +4,9 @@ use Rattle.inside.proofs.Answered.{value-answered, heading-answered, unit-answe
 use Rattle.inside.proofs.PassageAnswered.{passage-answered, one-passage, begun-inside}
 use Rattle.inside.proofs.Asked.{value-asked, heading-asked, unit-asked}
 use Rattle.inside.proofs.PassageAsked.{passage-asked}
-use Rattle.copy_laws.proofs.Made.{copy-made}
-use Rattle.copy_laws.proofs.Demand.{copy-accepted, copy-again, one-copy}
-use Rattle.copy_laws.proofs.Unchanged.{copy-part}
+use Rattle.paper_copy.proofs.Made.{copy-made}
+use Rattle.paper_copy.proofs.Demand.{copy-accepted, copy-again, one-copy}
+use Rattle.paper_copy.proofs.Unchanged.{copy-part}
 use Rattle.demand3.specs.Demand3.{Demand3}
 use Rattle.demand3.proofs.CopiedFields.{copy-canonical, copy-blank}
 use Rattle.demand3.proofs.Values.{same-values, count-left-out}

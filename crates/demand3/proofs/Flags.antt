@@ -12,22 +12,22 @@ use lib.ListN.{getD, List·getD-eq-default}
 use Rattle.laws.specs.Blocks.{blockAt}
 use Rattle.laws.proofs.Search.{either}
 use Rattle.laws.proofs.Booleans.{differ, and-left, and-right, and-both}
-use Rattle.columns.specs.Fields.{fieldAt}
-use Rattle.rules_state.specs.State.{Context, used}
-use Rattle.rules_roles.specs.Roles.{isValue}
-use Rattle.rules_section.proofs.SomeColumns.{used-few}
-use Rattle.rules_flags.specs.Flags.{headingOver, flagColumn}
+use Rattle.paper_record.specs.Fields.{fieldAt}
+use Rattle.paper_rules.specs.State.{Context, used}
+use Rattle.paper_rules.specs.Roles.{isValue}
+use Rattle.paper_rules.proofs.SomeColumns.{used-few}
+use Rattle.paper_rules.specs.Flags.{headingOver, flagColumn}
 use Rattle.rules_plain.specs.Flags.{FlagHeading}
 use Rattle.rules_plain.proofs.FlagFields.{heading-exactly}
-use Rattle.entry_judging.specs.Judging.{Accepted}
-use Rattle.entry_judging.specs.Contexts.{contextAt, roleAt}
+use Rattle.paper_entry.specs.Judging.{Accepted}
+use Rattle.paper_entry.specs.Contexts.{contextAt, roleAt}
 use Rattle.entry_walk.proofs.AcceptedWalk.{walked}
-use Rattle.copy_records.specs.Replaced.{Each}
-use Rattle.copy_records.specs.CopyField.{valueField, copyField}
-use Rattle.copy_laws.specs.Copy.{isNumberField, maskOf, copyRecord, numberField, fieldIn, copyOf}
-use Rattle.copy_laws.proofs.CanonicalFields.{Fit, copied-field}
-use Rattle.copy_laws.proofs.FaithfulRecords.{length-mask-of, mask-of-at, mask-flags, fits}
-use Rattle.copy_laws.proofs.CopiedBlocks.{copied-block}
+use Rattle.paper_copy.specs.Replaced.{Each}
+use Rattle.paper_copy.specs.CopyField.{valueField, copyField}
+use Rattle.paper_copy.specs.Copy.{isNumberField, maskOf, copyRecord, numberField, fieldIn, copyOf}
+use Rattle.paper_copy.proofs.CanonicalFields.{Fit, copied-field}
+use Rattle.paper_copy.proofs.FaithfulRecords.{length-mask-of, mask-of-at, mask-flags, fits}
+use Rattle.paper_copy.proofs.CopiedBlocks.{copied-block}
 use Rattle.demand3.specs.Flags.{ValueAt, NumberAt, NumberFields, FlagsKept}
 use Rattle.demand3.proofs.CopiedFields.{row-of, mask-is}
 

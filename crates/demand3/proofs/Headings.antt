@@ -9,30 +9,30 @@ use native.Mathlib.Nat.{suc-mul, zero-mul}
 use lib.Dec.{eqb}
 use borrow.Author.Tests.{eqb-false}
 use Rattle.laws.specs.Blocks.{blockAt}
-use Rattle.columns_places.specs.Places.{recordsFor}
-use Rattle.columns.specs.Fields.{fieldsOf}
-use Rattle.record_words.specs.Word.{pointerOf}
-use Rattle.columns_places.specs.declared.places.RecordNo.{RecordNo}
-use Rattle.columns_places.specs.declared.places.Place.{Place}
-use Rattle.rules_roles.specs.Roles.{isValue}
-use Rattle.rules_counts.specs.Counts.{countN1}
-use Rattle.entry_verdict.specs.declared.verdict.Verdict.{Verdict}
-use Rattle.entry_judging.specs.Judging.{Accepted}
-use Rattle.entry_verdict.specs.Answer.{Refusal, refusal, firstOf, isRefused}
-use Rattle.questions_noted.specs.declared.row.Row.{Row}
-use Rattle.questions_places.specs.declared.place.Shape.{Shape}
-use Rattle.questions_rows.specs.Row.{rowOf}
-use Rattle.questions_places.specs.Place.{shapeOf, headingPlace, unitPlace, fieldOf, byteOf}
-use Rattle.questions_refusals.specs.Refused.{isSubent, sectionIn, noSection, sectionRefusals, noColumn, columnRefusal}
-use Rattle.questions_parts.specs.Answers.{headingBy, unitBy}
-use Rattle.questions.specs.Ask.{headingAsked, unitAsked}
-use Rattle.questions_refusals.proofs.InOrder.{column-inside}
+use Rattle.paper_record.specs.Places.{recordsFor}
+use Rattle.paper_record.specs.Fields.{fieldsOf}
+use Rattle.paper_record.specs.Word.{pointerOf}
+use Rattle.paper_record.specs.declared.types.RecordNo.{RecordNo}
+use Rattle.paper_record.specs.declared.types.Place.{Place}
+use Rattle.paper_rules.specs.Roles.{isValue}
+use Rattle.paper_rules.specs.Counts.{countN1}
+use Rattle.paper_entry.specs.declared.types.Verdict.{Verdict}
+use Rattle.paper_entry.specs.Judging.{Accepted}
+use Rattle.paper_entry.specs.Answer.{Refusal, refusal, firstOf, isRefused}
+use Rattle.paper_questions.specs.declared.types.Row.{Row}
+use Rattle.paper_questions.specs.declared.types.Shape.{Shape}
+use Rattle.paper_questions.specs.Located.{rowOf}
+use Rattle.paper_questions.specs.Place.{shapeOf, headingPlace, unitPlace, fieldOf, byteOf}
+use Rattle.paper_questions.specs.Refused.{isSubent, sectionIn, noSection, sectionRefusals, noColumn, columnRefusal}
+use Rattle.paper_questions.specs.PartAnswers.{headingBy, unitBy}
+use Rattle.paper_questions.specs.Ask.{headingAsked, unitAsked}
+use Rattle.paper_questions.proofs.InOrder.{column-inside}
 use Rattle.entry_walk.proofs.Laid.{rowRole}
 use Rattle.inside.proofs.RowFound.{Opening}
 use Rattle.inside.proofs.Answered.{sectionNo, sectionOf, at-record, shape-columns, laid-at}
 use Rattle.inside.proofs.Asked.{section-named}
-use Rattle.copy_laws.specs.Copy.{copyOf}
-use Rattle.copy_laws.proofs.Demand.{copy-accepted}
+use Rattle.paper_copy.specs.Copy.{copyOf}
+use Rattle.paper_copy.proofs.Demand.{copy-accepted}
 use Rattle.demand3.specs.Same.{SamePart, SameHeadings, SameUnits}
 use Rattle.demand3.proofs.CopiedRecords.{copied-identifiers}
 use Rattle.demand3.proofs.CopiedRows.{copied-row, shape-kept}

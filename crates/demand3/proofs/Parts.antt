@@ -8,18 +8,18 @@ use native.Mathlib.Omega.{arith}
 use lib.Dec.{eqb, leb}
 use lib.ListN.{length, take, drop, getD}
 use borrow.Author.Tests.{eqb-true, leb-true}
-use Rattle.rules_roles.specs.Roles.{isValue}
-use Rattle.columns_places.specs.declared.places.RecordNo.{RecordNo}
-use Rattle.entry_verdict.specs.declared.verdict.Verdict.{Verdict}
-use Rattle.entry_judging.specs.Judging.{Accepted}
-use Rattle.entry_judging.specs.Contexts.{roleAt}
-use Rattle.entry_verdict.specs.Answer.{answerOf, answerFor}
-use Rattle.questions_parts.specs.declared.answers.PartAnswer.{PartAnswer}
-use Rattle.questions_places.specs.Place.{fieldsAt}
-use Rattle.questions_parts.specs.Answers.{noPart, partWith}
-use Rattle.copy_laws.specs.Copy.{copyOf}
-use Rattle.copy_laws.proofs.Demand.{passed, copy-long, byte-of}
-use Rattle.copy_laws.proofs.Unchanged.{part-of-bytes}
+use Rattle.paper_rules.specs.Roles.{isValue}
+use Rattle.paper_record.specs.declared.types.RecordNo.{RecordNo}
+use Rattle.paper_entry.specs.declared.types.Verdict.{Verdict}
+use Rattle.paper_entry.specs.Judging.{Accepted}
+use Rattle.paper_entry.specs.Contexts.{roleAt}
+use Rattle.paper_entry.specs.Answer.{answerOf, answerFor}
+use Rattle.paper_questions.specs.declared.types.PartAnswer.{PartAnswer}
+use Rattle.paper_questions.specs.Place.{fieldsAt}
+use Rattle.paper_questions.specs.PartAnswers.{noPart, partWith}
+use Rattle.paper_copy.specs.Copy.{copyOf}
+use Rattle.paper_copy.proofs.Demand.{passed, copy-long, byte-of}
+use Rattle.paper_copy.proofs.Unchanged.{part-of-bytes}
 use Rattle.demand3.specs.Same.{SamePart}
 use Rattle.demand3.proofs.CopiedRecords.{block-kept, fields-kept}
 

@@ -10,22 +10,22 @@ use lib.ListN.{replicate}
 use borrow.Author.Tests.{eq-eqb, ltb-true}
 use Rattle.laws.specs.Search.{first}
 use Rattle.laws.proofs.Search.{first-to, first-same}
-use Rattle.record.proofs.BlankCount.{blank-count}
-use Rattle.columns_places.specs.declared.places.RecordNo.{RecordNo}
-use Rattle.rules_counts.specs.Counts.{countN2}
-use Rattle.entry_verdict.specs.declared.verdict.Verdict.{Verdict}
-use Rattle.entry_judging.specs.Judging.{Accepted}
-use Rattle.questions_passages.specs.declared.passage.Passage.{Passage}
-use Rattle.questions_rows.specs.Row.{rowOf}
-use Rattle.questions_places.specs.Place.{fieldsAt, firstByte}
-use Rattle.questions_passages.specs.Passage.{textRecords, textRecord, textAt, hasKeyword, isKeyword, begins, beginsWith}
-use Rattle.questions_passages.specs.Passage.{firstText, NO-PASSAGE, passageUnder, passageOf}
-use Rattle.questions_refusals.specs.Refused.{passageRefusal}
-use Rattle.questions_parts.specs.Answers.{passageBy}
-use Rattle.questions.specs.Ask.{passageAsked}
+use Rattle.paper_record.proofs.BlankCount.{blank-count}
+use Rattle.paper_record.specs.declared.types.RecordNo.{RecordNo}
+use Rattle.paper_rules.specs.Counts.{countN2}
+use Rattle.paper_entry.specs.declared.types.Verdict.{Verdict}
+use Rattle.paper_entry.specs.Judging.{Accepted}
+use Rattle.paper_questions.specs.declared.types.Passage.{Passage}
+use Rattle.paper_questions.specs.Located.{rowOf}
+use Rattle.paper_questions.specs.Place.{fieldsAt, firstByte}
+use Rattle.paper_questions.specs.Passage.{textRecords, textRecord, textAt, hasKeyword, isKeyword, begins, beginsWith}
+use Rattle.paper_questions.specs.Passage.{firstText, NO-PASSAGE, passageUnder, passageOf}
+use Rattle.paper_questions.specs.Refused.{passageRefusal}
+use Rattle.paper_questions.specs.PartAnswers.{passageBy}
+use Rattle.paper_questions.specs.Ask.{passageAsked}
 use Rattle.inside.proofs.TextLaid.{row-texts}
-use Rattle.copy_laws.specs.Copy.{copyOf}
-use Rattle.copy_laws.proofs.Demand.{copy-accepted}
+use Rattle.paper_copy.specs.Copy.{copyOf}
+use Rattle.paper_copy.proofs.Demand.{copy-accepted}
 use Rattle.demand3.specs.Same.{SamePart, SamePassages}
 use Rattle.demand3.proofs.CopiedRecords.{copied-identifiers}
 use Rattle.demand3.proofs.CopiedRows.{copied-row, row-kept}

@@ -3,27 +3,27 @@
 use Prim.Native.Nat.{ℕ}
 use mathlib.Core.Path.{_≡_, refl}
 use mathlib.Core.List.{List}
-use Rattle.columns_places.specs.Places.{placeOf}
-use Rattle.columns_places.specs.declared.places.LineNo.{LineNo}
-use Rattle.columns_places.specs.declared.places.RecordNo.{RecordNo}
-use Rattle.number.specs.Reading.{readField, finish}
-use Rattle.number.specs.Value.{trimFrom, trim, valueOf}
-use Rattle.number.specs.Grammar.{write}
-use Rattle.number_digits.specs.Count.{countFrom, count}
-use Rattle.number_digits.specs.Digits.{digitCount, fieldRead}
-use Rattle.canonical_laws.specs.Replacing.{canonical}
-use Rattle.canonical_layout.specs.Closed.{digitsN, shift, layoutUp, layoutDown, laidOut, shortest, canonicalText, canonicalField}
-use Rattle.entry_verdict.specs.declared.verdict.Verdict.{Verdict}
-use Rattle.entry_judging.specs.Judging.{Accepted}
-use Rattle.questions_noted.specs.declared.row.Row.{Row}
-use Rattle.questions_places.specs.declared.place.Shape.{Shape}
-use Rattle.questions_rows.specs.Row.{rowOf}
-use Rattle.questions_places.specs.Place.{shapeOf}
-use Rattle.questions_refusals.specs.Refused.{sectionIn, valueRefusal}
-use Rattle.questions_values.specs.Answers.{valueBy}
-use Rattle.questions.specs.Ask.{valueAsked}
-use Rattle.copy_laws.specs.Copy.{copyOf}
-use Rattle.copy_laws.proofs.Demand.{copy-accepted}
+use Rattle.paper_record.specs.Places.{placeOf}
+use Rattle.paper_record.specs.declared.types.LineNo.{LineNo}
+use Rattle.paper_record.specs.declared.types.RecordNo.{RecordNo}
+use Rattle.paper_number.specs.Reading.{readField, finish}
+use Rattle.paper_number.specs.Value.{trimFrom, trim, valueOf}
+use Rattle.paper_number.specs.Grammar.{write}
+use Rattle.paper_number.specs.Count.{countFrom, count}
+use Rattle.paper_number.specs.Digits.{digitCount, fieldRead}
+use Rattle.paper_canonical.specs.Replacing.{canonical}
+use Rattle.paper_canonical.specs.Closed.{digitsN, shift, layoutUp, layoutDown, laidOut, shortest, canonicalText, canonicalField}
+use Rattle.paper_entry.specs.declared.types.Verdict.{Verdict}
+use Rattle.paper_entry.specs.Judging.{Accepted}
+use Rattle.paper_questions.specs.declared.types.Row.{Row}
+use Rattle.paper_questions.specs.declared.types.Shape.{Shape}
+use Rattle.paper_questions.specs.Located.{rowOf}
+use Rattle.paper_questions.specs.Place.{shapeOf}
+use Rattle.paper_questions.specs.Refused.{sectionIn, valueRefusal}
+use Rattle.paper_questions.specs.ValueAnswers.{valueBy}
+use Rattle.paper_questions.specs.Ask.{valueAsked}
+use Rattle.paper_copy.specs.Copy.{copyOf}
+use Rattle.paper_copy.proofs.Demand.{copy-accepted}
 use Rattle.demand3.specs.Same.{AlikeAnswer, SameValues, CountLeftOut}
 use Rattle.demand3.proofs.CopiedRecords.{copied-identifiers, copied-places}
 use Rattle.demand3.proofs.CopiedRows.{copied-row, shape-kept}

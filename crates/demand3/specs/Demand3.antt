@@ -4,7 +4,7 @@
 -- `unitAsked`, `passageAsked`, `copied` and `storedCopy` are what the calls promise to answer and to store.
 use Rattle.inside.specs.Inside.{ValueAnswered, HeadingAnswered, UnitAnswered, PassageAnswered, OnePassage, BegunInside}
 use Rattle.inside.specs.Asked.{ValueInside, HeadingInside, UnitInside, PassageInside}
-use Rattle.copy_laws.specs.Demand.{CopyMade, CopyPart, CopyAccepted, CopyAgain, OneCopy}
+use Rattle.paper_copy.specs.Demand.{CopyMade, CopyPart, CopyAccepted, CopyAgain, OneCopy}
 use Rattle.demand3.specs.Fields.{CopyCanonical, CopyBlank}
 use Rattle.demand3.specs.Same.{SameValues, CountLeftOut, SameHeadings, SameUnits, SamePassages}
 

@@ -14,12 +14,12 @@ use Prim.Native.Nat.{ℕ}
 use mathlib.Core.Path.{_≡_}
 use mathlib.Core.Bool.{true}
 use mathlib.Core.List.{List}
-use Rattle.number.specs.declared.value.Decimal.{Decimal}
-use Rattle.number.specs.declared.value.Reading.the-variants.{Blank, Number}
-use Rattle.number.specs.Reading.{readField}
-use Rattle.canonical_layout.specs.Canonical.{Best}
-use Rattle.entry_judging.specs.Judging.{Accepted}
-use Rattle.copy_laws.specs.Copy.{numberField, fieldIn, copyOf}
+use Rattle.paper_number.specs.declared.types.Decimal.{Decimal}
+use Rattle.paper_number.specs.declared.types.Reading.the-variants.{Blank, Number}
+use Rattle.paper_number.specs.Reading.{readField}
+use Rattle.paper_canonical.specs.Canonical.{Best}
+use Rattle.paper_entry.specs.Judging.{Accepted}
+use Rattle.paper_copy.specs.Copy.{numberField, fieldIn, copyOf}
 
 abbrev pub CopyCanonical : Type 0
 CopyCanonical =

@@ -10,13 +10,13 @@ use mathlib.Core.Bool.{true}
 use mathlib.Core.Logic.{_↔_}
 use mathlib.Core.List.{List}
 use lib.ListN.{length}
-use Rattle.rules_state.specs.State.{used}
-use Rattle.rules_roles.specs.Roles.{isValue}
-use Rattle.rules_flags.specs.Flags.{headingOver}
+use Rattle.paper_rules.specs.State.{used}
+use Rattle.paper_rules.specs.Roles.{isValue}
+use Rattle.paper_rules.specs.Flags.{headingOver}
 use Rattle.rules_plain.specs.Flags.{FlagHeading}
-use Rattle.entry_judging.specs.Judging.{Accepted}
-use Rattle.entry_judging.specs.Contexts.{contextAt, roleAt}
-use Rattle.copy_laws.specs.Copy.{numberField, fieldIn, copyOf}
+use Rattle.paper_entry.specs.Judging.{Accepted}
+use Rattle.paper_entry.specs.Contexts.{contextAt, roleAt}
+use Rattle.paper_copy.specs.Copy.{numberField, fieldIn, copyOf}
 
 -- the heading over the field k of the record with the index i, as judging counts its column; `OverFields`
 -- (refusal_table, FlagFaults) tells it plainly, by the record's place in its line

@@ -3,16 +3,16 @@
 use Prim.Native.Nat.{ℕ}
 use mathlib.Core.Path.{_≡_}
 use mathlib.Core.List.{List, [], _∷_}
-use Rattle.number_digits.specs.Digits.{digitCount}
-use Rattle.canonical_laws.specs.Replacing.{canonical}
-use Rattle.columns_places.specs.declared.places.LineNo.{LineNo}
-use Rattle.entry_judging.specs.Judging.{Accepted}
-use Rattle.questions_values.specs.declared.answers.ValueAnswer.{ValueAnswer}
-use Rattle.questions_parts.specs.declared.answers.PartAnswer.{PartAnswer}
-use Rattle.questions.specs.Ask.{valueAsked, headingAsked, unitAsked, passageAsked}
-use Rattle.questions_parts.specs.Answers.{bytesIn}
-use Rattle.copy_laws.specs.Copy.{copyOf}
-use Rattle.copy_laws.specs.Demand.{Alike}
+use Rattle.paper_number.specs.Digits.{digitCount}
+use Rattle.paper_canonical.specs.Replacing.{canonical}
+use Rattle.paper_record.specs.declared.types.LineNo.{LineNo}
+use Rattle.paper_entry.specs.Judging.{Accepted}
+use Rattle.paper_questions.specs.declared.types.ValueAnswer.{ValueAnswer}
+use Rattle.paper_questions.specs.declared.types.PartAnswer.{PartAnswer}
+use Rattle.paper_questions.specs.Ask.{valueAsked, headingAsked, unitAsked, passageAsked}
+use Rattle.paper_questions.specs.PartAnswers.{bytesIn}
+use Rattle.paper_copy.specs.Copy.{copyOf}
+use Rattle.paper_copy.specs.Demand.{Alike}
 
 -- ---- values
 

@@ -1,19 +1,19 @@
 // The judge: all records, one after the other, and the verdict.
 ghost use mathlib.Core.Path.{_≡_};
 ghost use Prim.Native.Nat.{_+_, _-_, _*_, _<_};
-ghost use Rattle.entry_verdict.specs.Verdict.{refused};
-ghost use Rattle.entry_judging.specs.Judging.{judgeOf};
+ghost use Rattle.paper_entry.specs.Verdict.{refused};
+ghost use Rattle.paper_entry.specs.Judging.{judgeOf};
 use classes::class::classes;
-use columns_places::places::RecordNo;
 use columns_places::places::record_of;
 use entry_step::step::Judge;
-use entry_verdict::verdict::Verdict;
 use entry_verdict::verdict::length_good;
 use entry_verdict::verdict::refused;
 use number::form::kinds;
 use number::form::nexts;
+use paper_entry::types::Verdict;
+use paper_record::types::RecordNo;
+use paper_rules::types::Fault;
 use record_names::identifier::names;
-use rules_roles::fault::Fault;
 
 // Judges an entry.
 pub fn judge(entry: &[u8]) -> Verdict

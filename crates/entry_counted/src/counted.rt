@@ -1,11 +1,11 @@
 // What is counted after a record without fault, by its role.
 ghost use mathlib.Core.Path.{_≡_};
 ghost use Prim.Native.Nat.{_-_, _≤_, _<_};
-ghost use Rattle.columns.specs.Columns.{Whole};
-ghost use Rattle.rules_state.specs.Limits.{MOST-RECORDS};
-ghost use Rattle.rules_state.specs.Ranging.{Bounded};
-ghost use Rattle.rules_values.specs.Values.{valuesFor};
-ghost use Rattle.entry_counted.specs.Counted.{afterSystem, afterInside, trackAfter};
+ghost use Rattle.paper_record.specs.Columns.{Whole};
+ghost use Rattle.paper_rules.specs.Limits.{MOST-RECORDS};
+ghost use Rattle.paper_rules.specs.Ranging.{Bounded};
+ghost use Rattle.paper_rules.specs.Values.{valuesFor};
+ghost use Rattle.paper_entry.specs.Counted.{afterSystem, afterInside, trackAfter};
 use entry_tally::tally::headings_read;
 use entry_tally::tally::numbers_read;
 use entry_tally::tally::open_bib;
@@ -13,6 +13,8 @@ use entry_tally::tally::open_subentry;
 use entry_tally::tally::open_table;
 use entry_tally::tally::text_read;
 use entry_tally::tally::units_read;
+use paper_record::types::Values;
+use paper_rules::types::Track;
 use record::system::count_of;
 use record::system::count_to;
 use record::system::number_of;
@@ -22,16 +24,17 @@ use record_names::identifier::BIB;
 use record_names::identifier::COMMON;
 use record_names::identifier::DATA;
 use record_names::identifier::ENTRY;
-use record_values::numbers::Values;
-use rules_counts::counts::MOST_COLUMNS;
-use rules_counts::counts::MOST_LINES;
+use rules_limits::limits::MOST_COLUMNS;
+use rules_limits::limits::MOST_LINES;
 use rules_roles::roles::TEXT;
 use rules_roles::roles::is_heading;
 use rules_roles::roles::is_system;
 use rules_roles::roles::is_unit;
 use rules_roles::roles::is_value;
 use rules_roles::roles::opens_subentry;
-use rules_state::state::Track;
+use rules_state::state::counted;
+use rules_state::state::with_accession;
+use rules_state::state::with_table;
 
 // What is counted after a system record.
 fn after_system(t: Track, role: usize, fs: [[u8; 11]; 6], rec: &[u8]) -> Track
@@ -42,7 +45,7 @@ fn after_system(t: Track, role: usize, fs: [[u8; 11]; 6], rec: &[u8]) -> Track
     let f = fs[1];
     let g = fs[2];
     if role == ENTRY {
-        return t.with_accession(accession(rec));
+        return with_accession(t, accession(rec));
     }
     if opens_subentry(role) {
         return open_subentry(t, subentry_of(f));
@@ -74,10 +77,10 @@ fn after_inside(t: Track, role: usize, fs: [[u8; 11]; 6], numbers: u32) -> Track
         return text_read(t, f);
     }
     if is_heading(role) {
-        return t.with_table(headings_read(x));
+        return with_table(t, headings_read(x));
     }
     if is_unit(role) {
-        return t.with_table(units_read(x));
+        return with_table(t, units_read(x));
     }
     if is_value(role) {
         return numbers_read(t, role, numbers);
@@ -92,7 +95,7 @@ pub fn track_after(t: Track, role: usize, fs: [[u8; 11]; 6], values: Values, rec
     requires { ⌜ values ≡ valuesFor t role fs ⌝ }
     ensures { λ r. ⌜ r ≡ trackAfter t role fs (now (rec .entry)) ⌝ }
 {
-    let u = t.counted();
+    let u = counted(t);
     if is_system(role) {
         return after_system(u, role, fs, rec);
     }

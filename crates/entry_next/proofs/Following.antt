@@ -10,32 +10,33 @@ use lib.Dec.{eqb, leb}
 use lib.ListN.{length, drop, getD, length-append, length-drop}
 use lib.Seq.{take-all, drop-at, drop-append-le, take-append-le}
 use Rattle.laws.proofs.Booleans.{or-either}
-use Rattle.record_names.specs.Identifier.{ENTRY, SUBENT, NOSUBENT, BIB, NOBIB, ENDBIB, COMMON, NOCOMMON, ENDCOMMON, DATA}
-use Rattle.record_names.specs.Identifier.{NODATA, ENDDATA, ENDSUBENT}
-use Rattle.record_words.specs.Word.{blankTo}
-use Rattle.columns_places.specs.declared.places.Index.{Index}
-use Rattle.rules_state.specs.declared.state.Phase.{Phase}
-use Rattle.rules_state.specs.declared.state.Phase.the-variants.{Opened, InSubentry, InBib, AfterBib, InCommon}
-use Rattle.rules_state.specs.declared.state.Phase.the-variants.{AfterCommon, InData, AfterData, Between, Done}
-use Rattle.rules_roles.specs.declared.ranging.Range.{Range}
-use Rattle.rules_roles.specs.declared.ranging.Ranges.{Ranges}
-use Rattle.rules_state.specs.declared.state.Table.{Table}
-use Rattle.rules_state.specs.declared.state.Track.{Track}
-use Rattle.rules_state.specs.State.{HEADINGS}
-use Rattle.rules_roles.specs.Parts.{bytesOf}
-use Rattle.rules_state.specs.Ranging.{seenOf, Placed, AllPlaced}
-use Rattle.rules_roles.specs.Roles.{TEXT, COMMON-HEADING, COMMON-UNIT, COMMON-VALUE, DATA-HEADING, DATA-UNIT}
-use Rattle.rules_roles.specs.Roles.{DATA-VALUE, isHeading, opensSubentry}
-use Rattle.rules_state.specs.Role.{roleIn}
-use Rattle.entry_next.specs.declared.parts.Change.{Change}
-use Rattle.entry_next.specs.declared.parts.Change.the-variants.{Kept, Emptied, Begun, Joined}
-use Rattle.entry_next.specs.Parts.{partAfter, emptiesBib, bibChange, underChange, tableChange, ends001, seenAfter}
-use Rattle.entry_next.specs.Due.{leadsToBib, leadsToCommon, leadsToData, phaseAfter}
-use Rattle.entry_counted.specs.Counted.{trackAfter, afterInside}
-use Rattle.entry_tally.specs.Tally.{unitsRead, valuesRead}
+use Rattle.paper_record.specs.Identifier.{ENTRY, SUBENT, NOSUBENT, BIB, NOBIB, ENDBIB, COMMON, NOCOMMON, ENDCOMMON, DATA}
+use Rattle.paper_record.specs.Identifier.{NODATA, ENDDATA, ENDSUBENT}
+use Rattle.paper_record.specs.Word.{blankTo}
+use Rattle.paper_record.specs.declared.types.Index.{Index}
+use Rattle.paper_rules.specs.declared.types.Phase.{Phase}
+use Rattle.paper_rules.specs.declared.types.Phase.the-variants.{Opened, InSubentry, InBib, AfterBib, InCommon}
+use Rattle.paper_rules.specs.declared.types.Phase.the-variants.{AfterCommon, InData, AfterData, Between, Done}
+use Rattle.paper_rules.specs.declared.types.Range.{Range}
+use Rattle.paper_rules.specs.declared.types.Ranges.{Ranges}
+use Rattle.paper_rules.specs.declared.types.Table.{Table}
+use Rattle.paper_rules.specs.declared.types.Track.{Track}
+use Rattle.paper_rules.specs.State.{HEADINGS}
+use Rattle.paper_rules.specs.Parts.{bytesOf}
+use Rattle.paper_rules.specs.Ranging.{seenOf, Placed, AllPlaced}
+use Rattle.paper_rules.specs.Roles.{TEXT, COMMON-HEADING, COMMON-UNIT, COMMON-VALUE, DATA-HEADING, DATA-UNIT}
+use Rattle.paper_rules.specs.Roles.{DATA-VALUE, isHeading, opensSubentry}
+use Rattle.paper_rules.specs.Role.{roleIn}
+use Rattle.paper_entry.specs.declared.types.Change.{Change}
+use Rattle.paper_entry.specs.declared.types.Change.the-variants.{Kept, Emptied, Begun, Joined}
+use Rattle.paper_entry.specs.Parts.{partAfter, emptiesBib, bibChange, underChange, tableChange, ends001, seenAfter}
+use Rattle.paper_entry.specs.Due.{leadsToBib, leadsToCommon, leadsToData, phaseAfter}
+use Rattle.paper_entry.specs.Counted.{trackAfter, afterInside}
+use Rattle.paper_entry.specs.Tally.{unitsRead, valuesRead}
 use Rattle.entry_next.specs.Ranging.{rangeAfter, commonAfter, rangesAfter}
-use Rattle.rules_state.proofs.EitherWay.{either-way, no}
-use Rattle.rules_state.proofs.RolePlaces.{inBib, inTable, isText, text-in-bib, heading-in-table}
+use Rattle.paper_rules.proofs.EitherWay.{either-way, no}
+use Rattle.paper_entry.proofs.Leads.{bib-led, table-led}
+use Rattle.paper_rules.proofs.RolePlaces.{inBib, inTable, isText, text-in-bib, heading-in-table}
 
 -- ---- one part
 
@@ -186,60 +187,6 @@ reaches p t g k f j =
     }
 
 -- ---- and they do so after the record
-
--- the phase after a record is that of BIB, or of a table, only where the record leads there
-leads-bib : (a b c d e f g h i : Bool)
-    → inBib (cond a Opened
-    (cond b InSubentry
-    (cond c InBib
-    (cond d AfterBib
-    (cond e InCommon (cond f AfterCommon (cond g InData (cond h AfterData (cond i Between Done))))))))) ≡ true
-    → c ≡ true
-leads-bib true b c d e f g h i q = no q
-leads-bib false true c d e f g h i q = no q
-leads-bib false false true d e f g h i q = refl
-leads-bib false false false true e f g h i q = no q
-leads-bib false false false false true f g h i q = no q
-leads-bib false false false false false true g h i q = no q
-leads-bib false false false false false false true h i q = no q
-leads-bib false false false false false false false true i q = no q
-leads-bib false false false false false false false false true q = no q
-leads-bib false false false false false false false false false q = no q
-
-leads-table : (a b c d e f g h i : Bool)
-    → inTable
-    (cond a Opened
-    (cond b InSubentry
-    (cond c InBib
-    (cond d AfterBib
-    (cond e InCommon (cond f AfterCommon (cond g InData (cond h AfterData (cond i Between Done))))))))) ≡ true
-    → (e || g) ≡ true
-leads-table true b c d e f g h i q = no q
-leads-table false true c d e f g h i q = no q
-leads-table false false true d e f g h i q = no q
-leads-table false false false true e f g h i q = no q
-leads-table false false false false true f g h i q = refl
-leads-table false false false false false true g h i q = no q
-leads-table false false false false false false true h i q = refl
-leads-table false false false false false false false true i q = no q
-leads-table false false false false false false false false true q = no q
-leads-table false false false false false false false false false q = no q
-
-pub bib-led : (role : ℕ) → inBib (phaseAfter role) ≡ true → leadsToBib role ≡ true
-unfolding phaseAfter
-bib-led role q =
-    leads-bib (eqb role ENTRY) (eqb role SUBENT) (leadsToBib role) (eqb role NOBIB || eqb role ENDBIB)
-    (leadsToCommon role)
-    (eqb role NOCOMMON || eqb role ENDCOMMON) (leadsToData role) (eqb role NODATA || eqb role ENDDATA)
-    (eqb role NOSUBENT || eqb role ENDSUBENT) q
-
-table-led : (role : ℕ) → inTable (phaseAfter role) ≡ true → (leadsToCommon role || leadsToData role) ≡ true
-unfolding phaseAfter
-table-led role q =
-    leads-table (eqb role ENTRY) (eqb role SUBENT) (leadsToBib role) (eqb role NOBIB || eqb role ENDBIB)
-    (leadsToCommon role)
-    (eqb role NOCOMMON || eqb role ENDCOMMON) (leadsToData role) (eqb role NODATA || eqb role ENDDATA)
-    (eqb role NOSUBENT || eqb role ENDSUBENT) q
 
 -- a range that is emptied, begun or joined reaches up to the next record
 past-bib : (o x y : Bool) (g : Range) (i : Index) → (x || y) ≡ true

@@ -1,4 +1,1 @@
-pub mod Due
-pub mod Parts
-pub mod Next
 pub mod Ranging

@@ -4,15 +4,15 @@ use mathlib.Core.Bool.{cond}
 use mathlib.Core.List.{List, []}
 use lib.Dec.{eqb}
 use lib.ListN.{getD}
-use Rattle.record_names.specs.Identifier.{ENDCOMMON}
-use Rattle.columns_places.specs.declared.places.Index.{Index}
-use Rattle.rules_state.specs.declared.state.Track.{Track}
-use Rattle.rules_roles.specs.declared.ranging.Range.{Range}
-use Rattle.rules_roles.specs.declared.ranging.Ranges.{Ranges}
-use Rattle.rules_roles.specs.Roles.{opensSubentry}
-use Rattle.entry_next.specs.declared.parts.Change.{Change}
-use Rattle.entry_next.specs.declared.parts.Change.the-variants.{Kept, Emptied, Begun, Joined}
-use Rattle.entry_next.specs.Parts.{bibChange, underChange, tableChange, ends001}
+use Rattle.paper_record.specs.Identifier.{ENDCOMMON}
+use Rattle.paper_record.specs.declared.types.Index.{Index}
+use Rattle.paper_rules.specs.declared.types.Track.{Track}
+use Rattle.paper_rules.specs.declared.types.Range.{Range}
+use Rattle.paper_rules.specs.declared.types.Ranges.{Ranges}
+use Rattle.paper_rules.specs.Roles.{opensSubentry}
+use Rattle.paper_entry.specs.declared.types.Change.{Change}
+use Rattle.paper_entry.specs.declared.types.Change.the-variants.{Kept, Emptied, Begun, Joined}
+use Rattle.paper_entry.specs.Parts.{bibChange, underChange, tableChange, ends001}
 
 -- the index behind i
 abbrev pub nextIndex : Index → Index

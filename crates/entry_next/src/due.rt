@@ -3,7 +3,8 @@ ghost use mathlib.Core.Path.{_≡_};
 ghost use mathlib.Core.Bool.{_||_};
 ghost use Prim.Native.Nat.{_-_};
 ghost use lib.Dec.{eqb};
-ghost use Rattle.entry_next.specs.Due.{leadsToBib, leadsToCommon, leadsToData, phaseAfter};
+ghost use Rattle.paper_entry.specs.Due.{leadsToBib, leadsToCommon, leadsToData, phaseAfter};
+use paper_rules::types::Phase;
 use record_names::identifier::BIB;
 use record_names::identifier::COMMON;
 use record_names::identifier::DATA;
@@ -24,7 +25,6 @@ use rules_roles::roles::DATA_HEADING;
 use rules_roles::roles::DATA_UNIT;
 use rules_roles::roles::DATA_VALUE;
 use rules_roles::roles::TEXT;
-use rules_state::state::Phase;
 
 pub(crate) fn is_either(role: usize, a: usize, b: usize) -> bool
     ensures { λ r. ⌜ r ≡ (eqb role a || eqb role b) ⌝ }

@@ -2,31 +2,24 @@
 ghost use mathlib.Core.Path.{_≡_};
 ghost use mathlib.Core.Bool.{cond};
 ghost use Prim.Native.Nat.{_+_, _-_, _<_};
-ghost use Rattle.rules_state.specs.Limits.{MOST-RECORDS};
-ghost use Rattle.entry_next.specs.Parts.{emptiesBib, bibChange, underChange, tableChange, ends001};
+ghost use Rattle.paper_rules.specs.Limits.{MOST-RECORDS};
+ghost use Rattle.paper_entry.specs.Parts.{emptiesBib, bibChange, underChange, tableChange, ends001};
 ghost use Rattle.entry_next.specs.Ranging.{rangeAfter, commonAfter, rangesAfter};
 use crate::due::is_either;
-use columns_places::places::Index;
+use paper_entry::types::Change;
+use paper_record::types::Index;
+use paper_rules::types::Range;
+use paper_rules::types::Ranges;
+use paper_rules::types::Track;
 use record_names::identifier::BIB;
 use record_names::identifier::COMMON;
 use record_names::identifier::DATA;
 use record_names::identifier::ENDCOMMON;
 use record_names::identifier::ENDSUBENT;
 use record_words::word::is_keyword_blank;
-use rules_roles::ranging::Range;
-use rules_roles::ranging::Ranges;
 use rules_roles::roles::TEXT;
 use rules_roles::roles::is_heading;
 use rules_roles::roles::opens_subentry;
-use rules_state::state::Track;
-
-// What a record does to a part that a later rule may look back at.
-pub enum Change {
-    Kept,
-    Emptied,
-    Begun,
-    Joined,
-}
 
 fn range_after(change: Change, g: Range, i: Index) -> Range
     requires { ⌜ i .0 < MOST-RECORDS ⌝ }

@@ -14,22 +14,23 @@ use Rattle.laws.specs.Blocks.{blocks, blockAt}
 use Rattle.laws.specs.Walk.{walk}
 use Rattle.laws.proofs.Agree.{Agree, runs-agree}
 use Rattle.laws.proofs.Blocks.{run-walk}
-use Rattle.columns_places.specs.Places.{recordOf}
-use Rattle.columns.specs.Fields.{fieldsOf}
-use Rattle.rules_roles.specs.declared.fault.Fault.{Fault}
-use Rattle.rules_roles.specs.declared.fault.Fault.the-variants.{Fine, At}
-use Rattle.rules_state.specs.State.{Context, startContext}
-use Rattle.rules_state.specs.Limits.{MOST-RECORDS}
-use Rattle.rules_state.specs.Ranging.{Bounded, AllPlaced, seenOf}
-use Rattle.rules.specs.Order.{faultOf}
+use Rattle.paper_record.specs.Places.{recordOf}
+use Rattle.paper_record.specs.Fields.{fieldsOf}
+use Rattle.paper_rules.specs.declared.types.Fault.{Fault}
+use Rattle.paper_rules.specs.declared.types.Fault.the-variants.{Fine, At}
+use Rattle.paper_rules.specs.State.{Context, startContext}
+use Rattle.paper_rules.specs.Limits.{MOST-RECORDS}
+use Rattle.paper_rules.specs.Ranging.{Bounded, AllPlaced, seenOf}
+use Rattle.paper_rules.specs.Order.{faultOf}
 use Rattle.entry_step.specs.declared.step.Judge.{Judge}
-use Rattle.entry_next.specs.Next.{contextAfter}
-use Rattle.entry_judging.specs.Judging.{roleOf, onFault, turnAs, turnOf, endOf, judgeOf}
-use Rattle.entry_verdict.specs.Verdict.{refused, lengthGood}
+use Rattle.paper_entry.specs.Next.{contextAfter}
+use Rattle.paper_entry.specs.Judging.{roleOf, onFault, turnAs, turnOf, endOf, judgeOf}
+use Rattle.paper_entry.specs.Verdict.{refused, lengthGood}
 use Rattle.entry_step.specs.ByRanges.{contextOf, judgeAfter, stepFor, stepAs, stepOf, startJudge, onStep}
 use Rattle.entry_step.specs.ByRanges.{stepTurn, finishOf, judgeByRanges, Ready}
 use Rattle.entry_step.proofs.Stepping.{next-bytes, stood-start, stood-next, context-next}
 use Rattle.entry_next.proofs.Following.{Joins}
+use Rattle.paper_entry.proofs.Lengths.{whole-records}
 
 module _ (s : List ℕ) (n : ℕ) (whole : length s ≡ n * 81) (few : n ≤ MOST-RECORDS) where
   -- the context before the record with the index i, and the numbers that stand for it
@@ -107,32 +108,6 @@ module _ (s : List ℕ) (n : ℕ) (whole : length s ≡ n * 81) (few : n ≤ MOS
   numbers-run =
       runs-agree (λ c i. turnOf c i (blockAt 81 s i)) (stepTurn s) endOf finishOf Standing n ends turns n 0
       startContext startJudge (omega arith) starts
-
-split : (a b c : Bool) → (not a && (b && c)) ≡ true → (b ≡ true) × (c ≡ true)
-split false true true e = (refl, refl)
-split false true false e = (refl, e)
-split false false c e = let z : _≡_ {A = ℕ} 0 1 = cc in absurd (omega arith)
-split true b c e = let z : _≡_ {A = ℕ} 0 1 = cc in absurd (omega arith)
-
--- a good length is that of so many whole records
-pub whole-up-to : (most n : ℕ) → (not (eqb n 0) && (eqb (n % 81) 0 && leb n (most * 81))) ≡ true
-    → (n ≡ n / 81 * 81) × (n / 81 ≤ most)
-whole-up-to most n e =
-    let p : (eqb (n % 81) 0 ≡ true) × (leb n (most * 81) ≡ true) =
-    split (eqb n 0) (eqb (n % 81) 0) (leb n (most * 81)) e in
-    let z : n % 81 ≡ 0 = eqb-true (n % 81) 0 (p .0) in
-    let w : n ≤ most * 81 = leb-true n (most * 81) (p .1) in
-    (omega arith, omega arith)
-
-pub whole-records : (n : ℕ) → lengthGood n ≡ true → (n ≡ n / 81 * 81) × (n / 81 ≤ MOST-RECORDS)
-unfolding lengthGood
-whole-records n e = whole-up-to MOST-RECORDS n e
-
--- and the other way round
-pub of-whole : (n m : ℕ) → n ≡ m * 81 → 1 ≤ m → m ≤ MOST-RECORDS → lengthGood n ≡ true
-unfolding lengthGood
-of-whole n m e l h =
-    rw (ne-eqb n 0 (λ z. omega arith), eq-eqb (n % 81) 0 (omega arith), le-leb n (MOST-RECORDS * 81) (omega arith))
 
 -- the code's judge is the judge
 pub ranges-judge : (s : List ℕ) → judgeByRanges s ≡ judgeOf s

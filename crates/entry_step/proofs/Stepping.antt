@@ -9,17 +9,17 @@ use lib.ListN.{length, take, getD, length-append}
 use lib.Seq.{take-add, length-take-le}
 use Rattle.laws.specs.Blocks.{blockAt}
 use Rattle.laws.proofs.Turns.{Run, run-all}
-use Rattle.columns.specs.Fields.{fieldsOf}
-use Rattle.record_names.specs.Identifier.{identifierOf}
-use Rattle.rules_state.specs.Ranging.{Stands}
+use Rattle.paper_record.specs.Fields.{fieldsOf}
+use Rattle.paper_record.specs.Identifier.{identifierOf}
+use Rattle.paper_rules.specs.Ranging.{Stands}
 use Rattle.entry_step.specs.declared.step.Judge.{Judge}
-use Rattle.entry_counted.specs.Counted.{trackAfter}
-use Rattle.entry_next.specs.Next.{contextAfter}
-use Rattle.entry_judging.specs.Judging.{roleOf}
-use Rattle.entry_verdict.specs.Verdict.{lengthGood}
+use Rattle.paper_entry.specs.Counted.{trackAfter}
+use Rattle.paper_entry.specs.Next.{contextAfter}
+use Rattle.paper_entry.specs.Judging.{roleOf}
+use Rattle.paper_entry.specs.Verdict.{lengthGood}
 use Rattle.entry_step.specs.ByRanges.{contextOf, judgeAfter, startJudge, stepTurn, finishOf, judgeByRanges}
 use Rattle.entry_step.specs.ByRanges.{Ready}
-use Rattle.entry_counted.proofs.Counting.{Follows, track-follows}
+use Rattle.paper_entry.proofs.Counting.{Follows, track-follows}
 use Rattle.entry_next.proofs.Following.{Joins, all-placed, seen-next, reaches, joins-next}
 
 -- the state after a record stands before the next one

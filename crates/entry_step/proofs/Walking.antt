@@ -10,28 +10,17 @@ use native.Mathlib.Numerals.{add-one}
 use lib.ListN.{length, take}
 use Rattle.laws.specs.Walk.{walk}
 use Rattle.laws.specs.Blocks.{blocks, blockAt}
-use Rattle.rules_state.specs.State.{Context, startContext}
-use Rattle.rules_state.specs.Limits.{MOST-RECORDS}
-use Rattle.rules_state.specs.Ranging.{Bounded, AllPlaced}
+use Rattle.paper_rules.specs.State.{Context, startContext}
+use Rattle.paper_rules.specs.Limits.{MOST-RECORDS}
+use Rattle.paper_rules.specs.Ranging.{Bounded, AllPlaced}
 use Rattle.entry_step.specs.declared.step.Judge.{Judge}
-use Rattle.entry_verdict.specs.Verdict.{refused, lengthGood}
-use Rattle.entry_judging.specs.Judging.{turnOf, endOf, judgeOf, Accepted}
+use Rattle.paper_entry.specs.Verdict.{refused, lengthGood}
+use Rattle.paper_entry.specs.Judging.{turnOf, endOf, judgeOf, Accepted}
 use Rattle.entry_step.specs.ByRanges.{contextOf, startJudge}
-use Rattle.entry_judging.specs.Contexts.{contextAt}
+use Rattle.paper_entry.specs.Contexts.{contextAt}
 use Rattle.entry_step.specs.Pass.{passOf, judgeAt, passAt, Walking}
-use Rattle.entry_step.proofs.Numbered.{Standing, goes-on, starts, whole-records}
-
--- an accepted entry has a good length
-pub accepted-good : (s : List ℕ) → Accepted s → lengthGood (length s) ≡ true
-unfolding judgeOf
-accepted-good s a = by-test (lengthGood (length s)) a
-  where
-    by-test : (b : Bool)
-        → cond b (walk turnOf endOf startContext 0 (blocks 81 (length s / 81) s)) (refused 1 (record { 0 = 0 }) 0)
-        .refusal ≡ 0
-        → b ≡ true
-    by-test true h = refl
-    by-test false h = absurd (omega arith)
+use Rattle.entry_step.proofs.Numbered.{Standing, goes-on, starts}
+use Rattle.paper_entry.proofs.Lengths.{whole-records}
 
 -- the walk at its start
 pub walking-start : (s : List ℕ) → lengthGood (length s) ≡ true → Walking startJudge s 0

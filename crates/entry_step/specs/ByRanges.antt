@@ -7,27 +7,27 @@ use mathlib.Core.List.{List, _++_}
 use lib.ListN.{length, take}
 use Rattle.laws.specs.Turns.{Turn, go, out, run}
 use Rattle.laws.specs.Blocks.{blockAt}
-use Rattle.columns.specs.Columns.{Whole}
-use Rattle.columns_places.specs.Places.{recordOf}
-use Rattle.columns.specs.Fields.{fieldsOf}
-use Rattle.columns_places.specs.declared.places.RecordNo.{RecordNo}
-use Rattle.rules_state.specs.declared.state.Phase.the-variants.{Start}
-use Rattle.rules_roles.specs.declared.ranging.Range.{Range}
-use Rattle.rules_roles.specs.declared.fault.Fault.{Fault}
-use Rattle.rules_roles.specs.declared.fault.Fault.the-variants.{Fine, At}
-use Rattle.rules_roles.specs.Fault.{FaultAnswer, faultAnswer}
-use Rattle.rules_state.specs.State.{Context, startTrack}
-use Rattle.rules_state.specs.Limits.{MOST-RECORDS}
-use Rattle.rules_state.specs.Ranging.{seenOf, Stands}
-use Rattle.rules.specs.Order.{faultOf}
+use Rattle.paper_record.specs.Columns.{Whole}
+use Rattle.paper_record.specs.Places.{recordOf}
+use Rattle.paper_record.specs.Fields.{fieldsOf}
+use Rattle.paper_record.specs.declared.types.RecordNo.{RecordNo}
+use Rattle.paper_rules.specs.declared.types.Phase.the-variants.{Start}
+use Rattle.paper_rules.specs.declared.types.Range.{Range}
+use Rattle.paper_rules.specs.declared.types.Fault.{Fault}
+use Rattle.paper_rules.specs.declared.types.Fault.the-variants.{Fine, At}
+use Rattle.paper_rules.specs.Fault.{FaultAnswer, faultAnswer}
+use Rattle.paper_rules.specs.State.{Context, startTrack}
+use Rattle.paper_rules.specs.Limits.{MOST-RECORDS}
+use Rattle.paper_rules.specs.Ranging.{seenOf, Stands}
+use Rattle.paper_rules.specs.Order.{faultOf}
 use Rattle.entry_step.specs.declared.step.Judge.{Judge}
 use Rattle.entry_step.specs.declared.step.Step.{Step}
-use Rattle.entry_verdict.specs.declared.verdict.Verdict.{Verdict}
-use Rattle.entry_next.specs.Due.{phaseAfter}
-use Rattle.entry_counted.specs.Counted.{trackAfter}
+use Rattle.paper_entry.specs.declared.types.Verdict.{Verdict}
+use Rattle.paper_entry.specs.Due.{phaseAfter}
+use Rattle.paper_entry.specs.Counted.{trackAfter}
 use Rattle.entry_next.specs.Ranging.{rangesAfter}
-use Rattle.entry_judging.specs.Judging.{roleOf, refusedBy}
-use Rattle.entry_verdict.specs.Verdict.{refused, accepted, isDone, lengthGood}
+use Rattle.paper_entry.specs.Judging.{roleOf, refusedBy}
+use Rattle.paper_entry.specs.Verdict.{refused, accepted, isDone, lengthGood}
 
 -- the context that the numbers stand for, where `before` is all that stands before the record in hand
 abbrev pub contextOf : List ℕ → Judge → Context

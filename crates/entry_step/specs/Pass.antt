@@ -6,14 +6,14 @@ use mathlib.Core.Bool.{true}
 use mathlib.Core.List.{List, []}
 use lib.ListN.{length, getD}
 use Rattle.laws.specs.Blocks.{blockAt}
-use Rattle.columns.specs.Fields.{fieldsOf}
-use Rattle.record_names.specs.Identifier.{identifierOf}
-use Rattle.rules_state.specs.Role.{roleIn}
+use Rattle.paper_record.specs.Fields.{fieldsOf}
+use Rattle.paper_record.specs.Identifier.{identifierOf}
+use Rattle.paper_rules.specs.Role.{roleIn}
 use Rattle.entry_step.specs.declared.step.Judge.{Judge}
 use Rattle.entry_step.specs.declared.pass.Passed.{Passed}
-use Rattle.entry_verdict.specs.Verdict.{lengthGood}
+use Rattle.paper_entry.specs.Verdict.{lengthGood}
 use Rattle.entry_step.specs.ByRanges.{judgeAfter, startJudge}
-use Rattle.entry_judging.specs.Contexts.{roleAt}
+use Rattle.paper_entry.specs.Contexts.{roleAt}
 
 -- a record, from the state before it
 unfoldable pub passOf : Judge → List ℕ → Passed

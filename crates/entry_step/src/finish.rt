@@ -1,15 +1,15 @@
 // The verdict after the last record.
 ghost use mathlib.Core.Path.{_≡_};
 ghost use Prim.Native.Nat.{_-_};
-ghost use Rattle.rules_state.specs.Ranging.{Bounded};
-ghost use Rattle.entry_verdict.specs.Verdict.{refused};
+ghost use Rattle.paper_rules.specs.Ranging.{Bounded};
+ghost use Rattle.paper_entry.specs.Verdict.{refused};
 ghost use Rattle.entry_step.specs.ByRanges.{finishOf};
 use crate::step::Judge;
-use columns_places::places::RecordNo;
 use columns_places::places::record_of;
-use entry_verdict::verdict::Verdict;
 use entry_verdict::verdict::is_done;
 use entry_verdict::verdict::refused;
+use paper_entry::types::Verdict;
+use paper_record::types::RecordNo;
 
 impl Judge {
     // The verdict after the last record.

@@ -3,16 +3,17 @@
 ghost use mathlib.Core.Path.{_≡_};
 ghost use Prim.Native.Nat.{_+_, _-_, _*_, _/_, _<_};
 ghost use lib.ListN.{length};
-ghost use Rattle.number.specs.Form.{Tables};
-ghost use Rattle.columns.specs.Columns.{Whole};
-ghost use Rattle.record_names.specs.Identifier.{NamesLent};
-ghost use Rattle.rules_state.specs.Limits.{MOST-RECORDS};
-ghost use Rattle.rules_state.specs.Ranging.{Bounded};
+ghost use Rattle.paper_number.specs.Form.{Tables};
+ghost use Rattle.paper_record.specs.Columns.{Whole};
+ghost use Rattle.paper_record.specs.Identifier.{NamesLent};
+ghost use Rattle.paper_rules.specs.Limits.{MOST-RECORDS};
+ghost use Rattle.paper_rules.specs.Ranging.{Bounded};
 ghost use Rattle.entry_step.specs.Pass.{passOf, Walking, PassedAt};
 use crate::step::Judge;
 use columns::fields::fields;
 use record_names::identifier::Names;
 use record_names::identifier::identifier_of;
+use rules_due::role::role;
 use rules_values::values::values;
 
 // The role of a record, and the state after it.
@@ -35,7 +36,7 @@ impl Judge {
         let k = identifier_of(names, f);
         let t = self.track;
         let p = self.phase;
-        let role = t.role(names, p, k);
+        let role = role(t, names, p, k);
         let values = values(t, kinds, nexts, role, fs);
         let next = self.after(rec, role, fs, values);
         Passed { role, next }

@@ -1,28 +1,30 @@
 // One record: each step takes the state so far and hands back the next.
 ghost use mathlib.Core.Path.{_≡_};
 ghost use Prim.Native.Nat.{_-_, _<_};
-ghost use Rattle.number.specs.Form.{Tables};
-ghost use Rattle.classes.specs.Class.{ClassesLent};
-ghost use Rattle.columns.specs.Columns.{Whole};
-ghost use Rattle.record_names.specs.Identifier.{NamesLent};
-ghost use Rattle.rules_state.specs.Limits.{MOST-RECORDS};
-ghost use Rattle.rules_state.specs.Ranging.{Bounded};
-ghost use Rattle.rules_values.specs.Values.{valuesFor};
+ghost use Rattle.paper_number.specs.Form.{Tables};
+ghost use Rattle.paper_record.specs.Class.{ClassesLent};
+ghost use Rattle.paper_record.specs.Columns.{Whole};
+ghost use Rattle.paper_record.specs.Identifier.{NamesLent};
+ghost use Rattle.paper_rules.specs.Limits.{MOST-RECORDS};
+ghost use Rattle.paper_rules.specs.Ranging.{Bounded};
+ghost use Rattle.paper_rules.specs.Values.{valuesFor};
 ghost use Rattle.entry_step.specs.ByRanges.{startJudge, judgeAfter, Stepped, SteppedAs, Ready};
 use columns::fields::fields;
-use columns_places::places::Index;
 use entry_counted::counted::track_after;
 use entry_next::due::phase_after;
 use entry_next::parts::ranges_after;
+use paper_record::types::Index;
+use paper_record::types::Values;
+use paper_rules::types::Fault;
+use paper_rules::types::Phase;
+use paper_rules::types::Range;
+use paper_rules::types::Ranges;
+use paper_rules::types::Track;
 use record_names::identifier::Names;
 use record_names::identifier::identifier_of;
-use record_values::numbers::Values;
 use rules::order::fault;
-use rules_roles::fault::Fault;
-use rules_roles::ranging::Range;
-use rules_roles::ranging::Ranges;
-use rules_state::state::Phase;
-use rules_state::state::Track;
+use rules_due::role::role;
+use rules_state::state::start_track;
 use rules_values::values::values;
 
 // The state before a record: what is due, what is counted, and the records that a rule may look back at.
@@ -54,7 +56,7 @@ impl Judge {
             common: none,
             table: none,
         };
-        let track = Track::new();
+        let track = start_track();
         Judge {
             phase: Phase::Start,
             track,
@@ -152,7 +154,7 @@ impl Judge {
         let k = identifier_of(names, f);
         let t = self.track;
         let p = self.phase;
-        let role = t.role(names, p, k);
+        let role = role(t, names, p, k);
         self.step_as(classes, names, kinds, nexts, before, rec, role, fs)
     }
 }

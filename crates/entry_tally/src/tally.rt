@@ -3,22 +3,28 @@ ghost use mathlib.Core.Path.{_≡_};
 ghost use mathlib.Core.Bool.{_&&_};
 ghost use Prim.Native.Nat.{_+_, _-_, _*_, _≤_, _<_};
 ghost use lib.Dec.{eqb};
-ghost use Rattle.rules_state.specs.Limits.{MOST-RECORDS};
-ghost use Rattle.rules_state.specs.Ranging.{Bounded};
-ghost use Rattle.entry_tally.specs.Tally.{oneSubentry, oneKeyword, moreNumbers, openSubentry, openBib, openTable};
-ghost use Rattle.entry_tally.specs.Tally.{textRead, nextRow, sameRow, headingsRead, unitsRead, valuesRead};
-ghost use Rattle.entry_tally.specs.Tally.{linesRead, numbersRead};
-use columns_places::places::LineNo;
+ghost use Rattle.paper_rules.specs.Limits.{MOST-RECORDS};
+ghost use Rattle.paper_rules.specs.Ranging.{Bounded};
+ghost use Rattle.paper_entry.specs.Tally.{oneSubentry, oneKeyword, moreNumbers, openSubentry, openBib, openTable};
+ghost use Rattle.paper_entry.specs.Tally.{textRead, nextRow, sameRow, headingsRead, unitsRead, valuesRead};
+ghost use Rattle.paper_entry.specs.Tally.{linesRead, numbersRead};
+use paper_record::types::LineNo;
+use paper_rules::types::Bib;
+use paper_rules::types::Subentry;
+use paper_rules::types::Table;
+use paper_rules::types::Totals;
+use paper_rules::types::Track;
 use record_words::word::is_keyword_blank;
 use rules_roles::roles::DATA_VALUE;
-use rules_state::state::Bib;
-use rules_state::state::HEADINGS;
-use rules_state::state::Subentry;
-use rules_state::state::Table;
-use rules_state::state::Totals;
-use rules_state::state::Track;
-use rules_state::state::UNITS;
-use rules_state::state::VALUES;
+use rules_roles::roles::HEADINGS;
+use rules_roles::roles::UNITS;
+use rules_roles::roles::VALUES;
+use rules_state::state::row_ends;
+use rules_state::state::with_bib;
+use rules_state::state::with_section;
+use rules_state::state::with_subentry;
+use rules_state::state::with_table;
+use rules_state::state::with_totals;
 
 fn one_subentry(mut totals: Totals) -> Totals
     requires { ⌜ totals .subentries ≤ MOST-RECORDS ⌝ }
@@ -55,7 +61,7 @@ pub fn open_subentry(t: Track, number: u32) -> Track
     let x = t.totals;
     let totals = one_subentry(x);
     let subentry = Subentry { number, records: 0 };
-    t.with_totals(totals).with_subentry(subentry)
+    with_subentry(with_totals(t, totals), subentry)
 }
 
 pub fn open_bib(t: Track, keywords: u64, records: u64) -> Track
@@ -66,7 +72,7 @@ pub fn open_bib(t: Track, keywords: u64, records: u64) -> Track
         records,
         met: 0,
     };
-    t.with_section(0).with_bib(bib)
+    with_bib(with_section(t, 0), bib)
 }
 
 pub fn open_table(t: Track, columns: u32, last: u32) -> Track
@@ -80,7 +86,7 @@ pub fn open_table(t: Track, columns: u32, last: u32) -> Track
         rest: columns,
         blank: true,
     };
-    t.with_section(0).with_table(table)
+    with_table(with_section(t, 0), table)
 }
 
 pub fn text_read(t: Track, f: [u8; 11]) -> Track
@@ -99,7 +105,7 @@ pub fn text_read(t: Track, f: [u8; 11]) -> Track
         records: b.records,
         met,
     };
-    t.with_totals(totals).with_bib(bib)
+    with_bib(with_totals(t, totals), bib)
 }
 
 // The table behind the last record of a row.
@@ -185,7 +191,7 @@ fn lines_read(t: Track, role: usize) -> u32
     if role != DATA_VALUE {
         return 0;
     }
-    if t.row_ends() {
+    if row_ends(t) {
         return 1;
     }
     0
@@ -201,5 +207,5 @@ pub fn numbers_read(t: Track, role: usize, numbers: u32) -> Track
     let lines = lines_read(t, role);
     let totals = more_numbers(x, lines, numbers);
     let table = values_read(y, numbers);
-    t.with_totals(totals).with_table(table)
+    with_table(with_totals(t, totals), table)
 }

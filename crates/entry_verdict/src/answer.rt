@@ -1,18 +1,9 @@
 // What a call about an entry answers.
 ghost use mathlib.Core.Path.{_≡_};
-ghost use Rattle.entry_verdict.specs.Answer.{answerOf, answerFor};
-use crate::verdict::Verdict;
-use columns_places::places::RecordNo;
-
-// 0 done, else document 01's number; beside 31 the entry's own refusal with its record and column, of a file also the
-// ordinal of the entry; zeros with any other.
-pub struct Answer {
-    pub number: u8,
-    pub refusal: u8,
-    pub record: RecordNo,
-    pub column: u8,
-    pub ordinal: u32,
-}
+ghost use Rattle.paper_entry.specs.Answer.{answerOf, answerFor};
+use paper_entry::types::Answer;
+use paper_entry::types::Verdict;
+use paper_record::types::RecordNo;
 
 // A number with zeros beside it.
 pub fn answer_of(number: u8) -> Answer

@@ -1,19 +1,11 @@
 // The judge: all records, one after the other, and the verdict.
 ghost use mathlib.Core.Path.{_≡_};
 ghost use Prim.Native.Nat.{_-_, _<_};
-ghost use Rattle.entry_verdict.specs.Verdict.{refused, refusedWithin, isDone, lengthGood};
-use columns_places::places::RecordNo;
-use rules_state::state::Phase;
-use rules_state::state::Totals;
-
-// Refusal 0, record 0 and column 0 with the totals, or the refusal with zeros; in a file also the ordinal of the entry.
-pub struct Verdict {
-    pub refusal: u8,
-    pub record: RecordNo,
-    pub column: u8,
-    pub totals: Totals,
-    pub ordinal: u32,
-}
+ghost use Rattle.paper_entry.specs.Verdict.{refused, refusedWithin, isDone, lengthGood};
+use paper_entry::types::Verdict;
+use paper_record::types::RecordNo;
+use paper_rules::types::Phase;
+use paper_rules::types::Totals;
 
 // A refusal inside the entry that has the ordinal, 0 for none.
 pub fn refused_within(ordinal: u32, refusal: u8, at: RecordNo, column: u8) -> Verdict

@@ -14,14 +14,14 @@ use Rattle.laws.specs.Walk.{walk, Goes}
 use Rattle.laws.specs.Blocks.{blocks, blockAt}
 use Rattle.laws.proofs.Walk.{walk-goes, goes-walk}
 use Rattle.laws.proofs.Blocks.{next-block}
-use Rattle.rules_state.specs.State.{Context, startContext}
-use Rattle.entry_verdict.specs.declared.verdict.Verdict.{Verdict}
-use Rattle.entry_judging.specs.Judging.{turnOf, endOf, judgeOf, Accepted}
-use Rattle.entry_verdict.specs.Verdict.{isDone, lengthGood}
-use Rattle.entry_judging.specs.Contexts.{behind, contextAt}
+use Rattle.paper_rules.specs.State.{Context, startContext}
+use Rattle.paper_entry.specs.declared.types.Verdict.{Verdict}
+use Rattle.paper_entry.specs.Judging.{turnOf, endOf, judgeOf, Accepted}
+use Rattle.paper_entry.specs.Verdict.{isDone, lengthGood}
+use Rattle.paper_entry.specs.Contexts.{behind, contextAt}
 use Rattle.entry_walk.proofs.Contexts.{context-start}
 use Rattle.entry_walk.proofs.GoingOn.{go-fine, out-refused, done-of}
-use Rattle.entry_step.proofs.Walking.{accepted-good}
+use Rattle.paper_entry.proofs.Lengths.{accepted-good}
 
 -- one block more
 one-turn : (m : ℕ) (c : Context) (i : ℕ) (t : List ℕ) (last : Context) → Goes turnOf c i (blocks 81 (suc m) t) last

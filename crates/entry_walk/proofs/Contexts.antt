@@ -7,18 +7,18 @@ use native.Mathlib.Numerals.{add-one}
 use lib.Dec.{eqb}
 use lib.ListN.{getD}
 use Rattle.laws.specs.Blocks.{blockAt}
-use Rattle.columns.specs.Fields.{fieldsOf}
-use Rattle.record_names.specs.Identifier.{ENTRY, BIB, COMMON, DATA}
-use Rattle.record_words.specs.Word.{blankTo}
-use Rattle.rules_state.specs.declared.state.Track.{Track}
-use Rattle.rules_state.specs.State.{startContext}
-use Rattle.rules_roles.specs.Roles.{TEXT, isSystem, opensSubentry, isHeading, isUnit, isValue}
-use Rattle.rules_state.proofs.EitherWay.{either-way}
-use Rattle.entry_counted.specs.Counted.{trackAfter, afterSystem, afterInside}
-use Rattle.entry_tally.specs.Tally.{textRead}
-use Rattle.entry_next.specs.Next.{contextAfter}
-use Rattle.entry_judging.specs.Judging.{roleOf}
-use Rattle.entry_judging.specs.Contexts.{behind, contextAt}
+use Rattle.paper_record.specs.Fields.{fieldsOf}
+use Rattle.paper_record.specs.Identifier.{ENTRY, BIB, COMMON, DATA}
+use Rattle.paper_record.specs.Word.{blankTo}
+use Rattle.paper_rules.specs.declared.types.Track.{Track}
+use Rattle.paper_rules.specs.State.{startContext}
+use Rattle.paper_rules.specs.Roles.{TEXT, isSystem, opensSubentry, isHeading, isUnit, isValue}
+use Rattle.paper_rules.proofs.EitherWay.{either-way}
+use Rattle.paper_entry.specs.Counted.{trackAfter, afterSystem, afterInside}
+use Rattle.paper_entry.specs.Tally.{textRead}
+use Rattle.paper_entry.specs.Next.{contextAfter}
+use Rattle.paper_entry.specs.Judging.{roleOf}
+use Rattle.paper_entry.specs.Contexts.{behind, contextAt}
 
 pub count-next : (t : Track) (role : ℕ) (fs : List (List ℕ)) (r : List ℕ)
     → trackAfter t role fs r .records .0 ≡ t .records .0 + 1

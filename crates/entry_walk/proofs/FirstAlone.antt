@@ -8,11 +8,11 @@ use native.Mathlib.Omega.{arith}
 use borrow.Author.Tests.{leb-true, leb-false}
 use lib.Dec.{leb}
 use lib.ListN.{length}
-use Rattle.rules_state.proofs.EitherWay.{no}
-use Rattle.rules.proofs.FaultSaid.{some-found, one-least}
-use Rattle.entry_verdict.specs.declared.verdict.Verdict.{Verdict}
-use Rattle.entry_verdict.specs.Verdict.{refused}
-use Rattle.entry_judging.specs.Judging.{judgeOf}
+use Rattle.paper_rules.proofs.EitherWay.{no}
+use Rattle.paper_rules.proofs.FaultSaid.{some-found, one-least}
+use Rattle.paper_entry.specs.declared.types.Verdict.{Verdict}
+use Rattle.paper_entry.specs.Verdict.{refused}
+use Rattle.paper_entry.specs.Judging.{judgeOf}
 use Rattle.entry_walk.specs.First.{foundAt, NothingBefore, FirstAt, First, by-length, by-record, by-end, by-none}
 use Rattle.entry_walk.specs.First.{FirstAlone}
 use Rattle.entry_walk.proofs.FirstRefused.{refused-first}

@@ -13,17 +13,17 @@ use Rattle.laws.specs.Turns.{Turn, after, run}
 use Rattle.laws.specs.Walk.{walk}
 use Rattle.laws.specs.Blocks.{blocks, blockAt}
 use Rattle.laws.proofs.Blocks.{run-walk}
-use Rattle.columns_places.specs.Places.{recordOf}
-use Rattle.columns.specs.Fields.{fieldsOf}
-use Rattle.rules_roles.specs.declared.fault.Fault.{Fault}
-use Rattle.rules_roles.specs.declared.fault.Fault.the-variants.{Fine, At}
-use Rattle.rules_state.specs.State.{Context, startContext}
-use Rattle.rules.specs.Order.{faultOf, Least, Nothing}
-use Rattle.rules.proofs.Least.{fault-least, fault-none}
-use Rattle.entry_verdict.specs.declared.verdict.Verdict.{Verdict}
-use Rattle.entry_verdict.specs.Verdict.{refused, accepted, isDone, lengthGood}
-use Rattle.entry_judging.specs.Judging.{roleOf, onFault, turnAs, turnOf, endOf, judgeOf}
-use Rattle.entry_judging.specs.Contexts.{behind, contextAt}
+use Rattle.paper_record.specs.Places.{recordOf}
+use Rattle.paper_record.specs.Fields.{fieldsOf}
+use Rattle.paper_rules.specs.declared.types.Fault.{Fault}
+use Rattle.paper_rules.specs.declared.types.Fault.the-variants.{Fine, At}
+use Rattle.paper_rules.specs.State.{Context, startContext}
+use Rattle.paper_rules.specs.Order.{faultOf, Least, Nothing}
+use Rattle.paper_rules.proofs.Least.{fault-least, fault-none}
+use Rattle.paper_entry.specs.declared.types.Verdict.{Verdict}
+use Rattle.paper_entry.specs.Verdict.{refused, accepted, isDone, lengthGood}
+use Rattle.paper_entry.specs.Judging.{roleOf, onFault, turnAs, turnOf, endOf, judgeOf}
+use Rattle.paper_entry.specs.Contexts.{behind, contextAt}
 use Rattle.entry_walk.specs.First.{foundIn, foundAt, NothingBefore, First, by-length, by-record, by-end, by-none}
 use Rattle.entry_walk.specs.First.{RefusedFirst}
 use Rattle.entry_walk.proofs.Contexts.{records-at, context-next}

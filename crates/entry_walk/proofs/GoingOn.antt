@@ -9,24 +9,24 @@ use native.Mathlib.Omega.{arith}
 use lib.ListN.{getD}
 use Rattle.laws.specs.Turns.{go, out}
 use Rattle.laws.specs.Copies.{Passing}
-use Rattle.number.specs.Reading.{readField}
-use Rattle.columns_places.specs.Places.{recordOf}
-use Rattle.columns.specs.Fields.{fieldsOf}
-use Rattle.rules_roles.specs.declared.fault.Fault.{Fault}
-use Rattle.rules_roles.specs.declared.fault.Fault.the-variants.{Fine, At}
-use Rattle.rules_state.specs.State.{Context, used}
-use Rattle.rules_roles.specs.Roles.{COMMON-VALUE, DATA-VALUE, isValue}
-use Rattle.rules_values.specs.Values.{optional, valuesFor}
-use Rattle.rules.specs.Order.{faultOf}
-use Rattle.entry_verdict.specs.declared.verdict.Verdict.{Verdict}
-use Rattle.entry_counted.specs.Counted.{trackAfter, afterInside}
-use Rattle.entry_next.specs.Parts.{partAfter, bibChange, underChange, tableChange, seenAfter}
-use Rattle.entry_next.specs.Next.{contextAfter}
-use Rattle.entry_judging.specs.Judging.{roleOf, onFault, turnAs, turnOf, endOf}
-use Rattle.entry_verdict.specs.Verdict.{accepted, refused, isDone}
-use Rattle.record_values.proofs.Readings.{values-same}
-use Rattle.rules.proofs.ByKind.{of-values}
-use Rattle.rules.proofs.Least.{fault-bounds}
+use Rattle.paper_number.specs.Reading.{readField}
+use Rattle.paper_record.specs.Places.{recordOf}
+use Rattle.paper_record.specs.Fields.{fieldsOf}
+use Rattle.paper_rules.specs.declared.types.Fault.{Fault}
+use Rattle.paper_rules.specs.declared.types.Fault.the-variants.{Fine, At}
+use Rattle.paper_rules.specs.State.{Context, used}
+use Rattle.paper_rules.specs.Roles.{COMMON-VALUE, DATA-VALUE, isValue}
+use Rattle.paper_rules.specs.Values.{optional, valuesFor}
+use Rattle.paper_rules.specs.Order.{faultOf}
+use Rattle.paper_entry.specs.declared.types.Verdict.{Verdict}
+use Rattle.paper_entry.specs.Counted.{trackAfter, afterInside}
+use Rattle.paper_entry.specs.Parts.{partAfter, bibChange, underChange, tableChange, seenAfter}
+use Rattle.paper_entry.specs.Next.{contextAfter}
+use Rattle.paper_entry.specs.Judging.{roleOf, onFault, turnAs, turnOf, endOf}
+use Rattle.paper_entry.specs.Verdict.{accepted, refused, isDone}
+use Rattle.paper_record.proofs.Readings.{values-same}
+use Rattle.paper_rules.proofs.ByKind.{of-values}
+use Rattle.paper_rules.proofs.Least.{fault-bounds}
 
 pub go-fine : Passing turnOf
     (λ c i r d. (faultOf (c .track) (c .seen) (roleOf c r) (fieldsOf r) r ≡ Fine)

@@ -13,25 +13,25 @@ use native.Mathlib.Omega.{arith}
 use lib.ListN.{getD}
 use borrow.Author.Tests.{le-leb, lt-leb, le-ltb}
 use Rattle.laws.specs.Turns.{go}
-use Rattle.columns.specs.Fields.{fieldsOf}
-use Rattle.record_names.specs.Identifier.{identifierOf, isEnd}
-use Rattle.rules_state.specs.declared.state.Phase.{Phase}
-use Rattle.rules_state.specs.declared.state.Phase.the-variants.{InCommon, InData}
-use Rattle.rules_state.specs.declared.state.Table.{Table}
-use Rattle.rules_state.specs.declared.state.Track.{Track}
-use Rattle.rules_state.specs.State.{Context, HEADINGS, UNITS, VALUES}
-use Rattle.rules_roles.specs.Roles.{COMMON-HEADING, COMMON-UNIT, COMMON-VALUE, DATA-HEADING, DATA-UNIT, DATA-VALUE}
-use Rattle.rules_roles.specs.Roles.{NOT-DUE}
-use Rattle.rules_state.specs.Role.{allRead, tableRole, roleIn}
-use Rattle.rules_values.specs.Values.{valuesFor}
-use Rattle.entry_tally.specs.Tally.{headingsRead, unitsRead, valuesRead}
-use Rattle.entry_counted.specs.Counted.{afterInside, trackAfter}
-use Rattle.entry_next.specs.Due.{phaseAfter}
-use Rattle.entry_next.specs.Next.{contextAfter}
-use Rattle.entry_judging.specs.Judging.{roleOf, turnOf}
-use Rattle.rules.proofs.DueRecords.{fine-due}
+use Rattle.paper_record.specs.Fields.{fieldsOf}
+use Rattle.paper_record.specs.Identifier.{identifierOf, isEnd}
+use Rattle.paper_rules.specs.declared.types.Phase.{Phase}
+use Rattle.paper_rules.specs.declared.types.Phase.the-variants.{InCommon, InData}
+use Rattle.paper_rules.specs.declared.types.Table.{Table}
+use Rattle.paper_rules.specs.declared.types.Track.{Track}
+use Rattle.paper_rules.specs.State.{Context, HEADINGS, UNITS, VALUES}
+use Rattle.paper_rules.specs.Roles.{COMMON-HEADING, COMMON-UNIT, COMMON-VALUE, DATA-HEADING, DATA-UNIT, DATA-VALUE}
+use Rattle.paper_rules.specs.Roles.{NOT-DUE}
+use Rattle.paper_rules.specs.Role.{allRead, tableRole, roleIn}
+use Rattle.paper_rules.specs.Values.{valuesFor}
+use Rattle.paper_entry.specs.Tally.{headingsRead, unitsRead, valuesRead}
+use Rattle.paper_entry.specs.Counted.{afterInside, trackAfter}
+use Rattle.paper_entry.specs.Due.{phaseAfter}
+use Rattle.paper_entry.specs.Next.{contextAfter}
+use Rattle.paper_entry.specs.Judging.{roleOf, turnOf}
+use Rattle.paper_rules.proofs.DueRecords.{fine-due}
 use Rattle.entry_walk.proofs.GoingOn.{go-fine}
-use Rattle.entry_judging.specs.Contexts.{behind}
+use Rattle.paper_entry.specs.Contexts.{behind}
 
 -- ---- the two sections alike: DATA where b is true, else COMMON
 

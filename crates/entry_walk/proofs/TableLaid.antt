@@ -10,21 +10,21 @@ use native.Mathlib.Numerals.{add-one}
 use borrow.Author.Tests.{le-leb}
 use Rattle.laws.specs.Blocks.{blockAt}
 use Rattle.laws.proofs.Search.{either}
-use Rattle.columns_places.specs.Places.{recordsFor}
-use Rattle.columns.specs.Fields.{fieldsOf}
-use Rattle.record_names.specs.Identifier.{COMMON, DATA}
-use Rattle.rules_state.specs.declared.state.Phase.{Phase}
-use Rattle.rules_state.specs.State.{Context}
-use Rattle.rules_state.specs.Limits.{MOST-COLUMNS, MOST-LINES}
-use Rattle.rules_counts.specs.Counts.{countN1, countN2}
-use Rattle.rules.proofs.DueRecords.{fine-common, fine-data}
-use Rattle.entry_next.specs.Due.{phaseAfter}
-use Rattle.entry_counted.specs.Counted.{afterSystem, trackAfter}
-use Rattle.entry_next.specs.Next.{contextAfter}
-use Rattle.entry_judging.specs.Judging.{roleOf}
-use Rattle.entry_verdict.specs.Verdict.{isDone}
+use Rattle.paper_record.specs.Places.{recordsFor}
+use Rattle.paper_record.specs.Fields.{fieldsOf}
+use Rattle.paper_record.specs.Identifier.{COMMON, DATA}
+use Rattle.paper_rules.specs.declared.types.Phase.{Phase}
+use Rattle.paper_rules.specs.State.{Context}
+use Rattle.paper_rules.specs.Limits.{MOST-COLUMNS, MOST-LINES}
+use Rattle.paper_rules.specs.Counts.{countN1, countN2}
+use Rattle.paper_rules.proofs.DueRecords.{fine-common, fine-data}
+use Rattle.paper_entry.specs.Due.{phaseAfter}
+use Rattle.paper_entry.specs.Counted.{afterSystem, trackAfter}
+use Rattle.paper_entry.specs.Next.{contextAfter}
+use Rattle.paper_entry.specs.Judging.{roleOf}
+use Rattle.paper_entry.specs.Verdict.{isDone}
 use Rattle.entry_walk.proofs.GoingOn.{go-fine}
-use Rattle.entry_judging.specs.Contexts.{contextAt, roleAt}
+use Rattle.paper_entry.specs.Contexts.{contextAt, roleAt}
 use Rattle.entry_walk.proofs.AcceptedWalk.{Walked}
 use Rattle.entry_walk.proofs.Laid.{phaseIn, rowRole, lineOf, Laid, laid-role, laid-on, laid-over}
 

@@ -6,15 +6,15 @@ use mathlib.Core.Path.{_≡_}
 use mathlib.Core.Bool.{true, false}
 use mathlib.Core.List.{List, [], _++_}
 use lib.ListN.{getD}
-use Rattle.columns.specs.Fields.{fieldsOf}
-use Rattle.record_names.specs.Identifier.{BIB}
-use Rattle.record_words.specs.Word.{blankTo}
-use Rattle.rules_state.specs.State.{Context}
-use Rattle.rules_roles.specs.Roles.{TEXT}
-use Rattle.entry_next.specs.Parts.{partAfter, bibChange, underChange, seenAfter}
-use Rattle.entry_next.specs.Next.{contextAfter}
-use Rattle.entry_judging.specs.Judging.{roleOf}
-use Rattle.entry_judging.specs.Contexts.{behind}
+use Rattle.paper_record.specs.Fields.{fieldsOf}
+use Rattle.paper_record.specs.Identifier.{BIB}
+use Rattle.paper_record.specs.Word.{blankTo}
+use Rattle.paper_rules.specs.State.{Context}
+use Rattle.paper_rules.specs.Roles.{TEXT}
+use Rattle.paper_entry.specs.Parts.{partAfter, bibChange, underChange, seenAfter}
+use Rattle.paper_entry.specs.Next.{contextAfter}
+use Rattle.paper_entry.specs.Judging.{roleOf}
+use Rattle.paper_entry.specs.Contexts.{behind}
 
 -- ---- what a text record adds
 

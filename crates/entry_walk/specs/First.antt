@@ -12,14 +12,14 @@ use mathlib.Core.Bool.{true, false}
 use mathlib.Core.List.{List}
 use lib.ListN.{length}
 use Rattle.laws.specs.Blocks.{blockAt}
-use Rattle.columns.specs.Fields.{fieldsOf}
-use Rattle.rules_state.specs.State.{Context}
-use Rattle.rules_roles.specs.Fault.{Finding}
-use Rattle.rules.specs.Order.{findings, Least, Nothing}
-use Rattle.entry_verdict.specs.declared.verdict.Verdict.{Verdict}
-use Rattle.entry_verdict.specs.Verdict.{refused, accepted, isDone, lengthGood}
-use Rattle.entry_judging.specs.Judging.{roleOf, judgeOf}
-use Rattle.entry_judging.specs.Contexts.{contextAt}
+use Rattle.paper_record.specs.Fields.{fieldsOf}
+use Rattle.paper_rules.specs.State.{Context}
+use Rattle.paper_rules.specs.Fault.{Finding}
+use Rattle.paper_rules.specs.Order.{findings, Least, Nothing}
+use Rattle.paper_entry.specs.declared.types.Verdict.{Verdict}
+use Rattle.paper_entry.specs.Verdict.{refused, accepted, isDone, lengthGood}
+use Rattle.paper_entry.specs.Judging.{roleOf, judgeOf}
+use Rattle.paper_entry.specs.Contexts.{contextAt}
 
 -- what the rules find on a record, from what stands before it
 abbrev pub foundIn : Context → List ℕ → List Finding

@@ -1,6 +1,6 @@
 // Judging, for host programs.
 ghost use mathlib.Core.Path.{_≡_};
-ghost use Rattle.entry_judging.specs.Judging.{judgeOf};
+ghost use Rattle.paper_entry.specs.Judging.{judgeOf};
 ghost use Rattle.exports_words.specs.Words.{answerWord, lentAfter};
 ghost use Rattle.exports_verdicts.specs.Verdicts.{verdictAnswer, totalsNumbers};
 use entry::judge::judge;

@@ -2,15 +2,15 @@
 ghost use mathlib.Core.Path.{_≡_};
 ghost use mathlib.Core.Bool.{not};
 ghost use lib.Dec.{eqb};
-ghost use Rattle.number.specs.Value.{valueOf};
-ghost use Rattle.number_digits.specs.Digits.{numberRead};
-ghost use Rattle.canonical.specs.Writing.{bytes, writingRefusal};
+ghost use Rattle.paper_number.specs.Value.{valueOf};
+ghost use Rattle.paper_number.specs.Digits.{numberRead};
+ghost use Rattle.paper_canonical.specs.Writing.{bytes, writingRefusal};
 ghost use Rattle.exports_words.specs.Words.{answerWord};
 ghost use Rattle.exports_words.specs.Values.{readingAnswer, readingStored};
-use canonical::write::Written;
 use canonical::write::write_number;
 use exports_words::values::put_reading;
 use number_reading::read::read_number;
+use paper_canonical::types::Written;
 
 // What a number field says and how many digits are written in it, stored only where that is a blank or a number.
 #[no_mangle]

@@ -10,23 +10,23 @@ use lib.Dec.{eqb}
 use lib.IntN.{pos, negℤ}
 use lib.ListN.{length}
 use lib.Signed.{_≤ℤ_}
-use Rattle.number.specs.declared.value.Decimal.{Decimal}
-use Rattle.number.specs.declared.value.Reading.{Reading}
-use Rattle.number.specs.declared.value.Reading.the-variants.{Blank, Number, Refused}
-use Rattle.number.specs.Value.{Says, blank, number, malformed}
-use Rattle.number.specs.Reading.{readField, readNumber}
-use Rattle.number.proofs.Laws.{read-bounds-eleven, reads-exactly, says-exactly, eleven-read, others-refused}
-use Rattle.number_digits.specs.declared.digits.FieldRead.{FieldRead}
-use Rattle.number_digits.specs.Digits.{digitCount, numberRead}
-use Rattle.number_digits.proofs.Laws.{digits-unsaid}
-use Rattle.columns_places.specs.declared.places.RecordNo.{RecordNo}
-use Rattle.rules_state.specs.declared.state.Totals.{Totals}
-use Rattle.rules_state.proofs.EitherWay.{either-way}
-use Rattle.entry_verdict.specs.declared.answer.Answer.{Answer}
-use Rattle.entry_verdict.specs.declared.verdict.Verdict.{Verdict}
-use Rattle.entry_verdict.specs.Answer.{answerOf, answerFor}
-use Rattle.entry_verdict.specs.Verdict.{refusedWithin, accepted}
-use Rattle.entry_judging.specs.Judging.{judgeOf}
+use Rattle.paper_number.specs.declared.types.Decimal.{Decimal}
+use Rattle.paper_number.specs.declared.types.Reading.{Reading}
+use Rattle.paper_number.specs.declared.types.Reading.the-variants.{Blank, Number, Refused}
+use Rattle.paper_number.specs.Value.{Says, blank, number, malformed}
+use Rattle.paper_number.specs.Reading.{readField, readNumber}
+use Rattle.paper_number.proofs.Laws.{read-bounds-eleven, reads-exactly, says-exactly, eleven-read, others-refused}
+use Rattle.paper_number.specs.declared.types.FieldRead.{FieldRead}
+use Rattle.paper_number.specs.Digits.{digitCount, numberRead}
+use Rattle.paper_number.proofs.DigitLaws.{digits-unsaid}
+use Rattle.paper_record.specs.declared.types.RecordNo.{RecordNo}
+use Rattle.paper_rules.specs.declared.types.Totals.{Totals}
+use Rattle.paper_rules.proofs.EitherWay.{either-way}
+use Rattle.paper_entry.specs.declared.types.Answer.{Answer}
+use Rattle.paper_entry.specs.declared.types.Verdict.{Verdict}
+use Rattle.paper_entry.specs.Answer.{answerOf, answerFor}
+use Rattle.paper_entry.specs.Verdict.{refusedWithin, accepted}
+use Rattle.paper_entry.specs.Judging.{judgeOf}
 use Rattle.exports_words.specs.Words.{answerWord, answerIn, lentAfter}
 use Rattle.exports_words.specs.Values.{bit, twos, valueNumbers, readingAnswer, readingStored, readingIn}
 use Rattle.exports_verdicts.specs.Verdicts.{verdictAnswer, totalsNumbers, verdictIn}

@@ -4,11 +4,11 @@ use Prim.Native.Nat.{ℕ, _<_, _≤_}
 use mathlib.Core.Path.{_≡_}
 use mathlib.Core.List.{List}
 use native.Mathlib.Omega.{arith}
-use Rattle.rules_roles.specs.declared.fault.Fault.the-variants.{At}
-use Rattle.rules_state.specs.declared.state.Track.{Track}
-use Rattle.rules_state.specs.State.{Seen}
-use Rattle.rules.specs.Order.{faultOf}
-use Rattle.rules.proofs.Least.{fault-bounds}
+use Rattle.paper_rules.specs.declared.types.Fault.the-variants.{At}
+use Rattle.paper_rules.specs.declared.types.Track.{Track}
+use Rattle.paper_rules.specs.State.{Seen}
+use Rattle.paper_rules.specs.Order.{faultOf}
+use Rattle.paper_rules.proofs.Least.{fault-bounds}
 
 -- a refusal up to 17, at a column up to 81
 pub record Near (n k : ℕ) : Type 0 where

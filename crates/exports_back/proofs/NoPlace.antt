@@ -10,19 +10,19 @@ use lib.Dec.{eqb}
 use lib.ListN.{length, getD-replicate}
 use Rattle.laws.specs.Search.{first}
 use Rattle.laws.proofs.Search.{first-same, pass-first}
-use Rattle.number.specs.Grammar.{blanks}
-use Rattle.columns_places.specs.declared.places.RecordNo.{RecordNo}
-use Rattle.record_words.specs.Word.{filledAt, differAt, blankTo, equalTo}
-use Rattle.entry_judging.specs.Judging.{judgeOf}
-use Rattle.entry_verdict.specs.Answer.{refusal, firstOf}
-use Rattle.questions_passages.specs.declared.passage.Passage.{Passage}
-use Rattle.questions_places.specs.Place.{firstByte}
-use Rattle.questions_passages.specs.Passage.{passageOf, textAt, isKeyword, textRecords, NO-PASSAGE}
-use Rattle.questions_rows.specs.Row.{rowOf}
-use Rattle.questions_refusals.specs.Refused.{passageRefusal, sectionRefusals, noPassage}
-use Rattle.questions_parts.specs.Answers.{passageBy}
-use Rattle.questions.specs.Ask.{passageAsked}
-use Rattle.questions_parts.proofs.Parts.{part-number}
+use Rattle.paper_number.specs.Grammar.{blanks}
+use Rattle.paper_record.specs.declared.types.RecordNo.{RecordNo}
+use Rattle.paper_record.specs.Word.{filledAt, differAt, blankTo, equalTo}
+use Rattle.paper_entry.specs.Judging.{judgeOf}
+use Rattle.paper_entry.specs.Answer.{refusal, firstOf}
+use Rattle.paper_questions.specs.declared.types.Passage.{Passage}
+use Rattle.paper_questions.specs.Place.{firstByte}
+use Rattle.paper_questions.specs.Passage.{passageOf, textAt, isKeyword, textRecords, NO-PASSAGE}
+use Rattle.paper_questions.specs.Located.{rowOf}
+use Rattle.paper_questions.specs.Refused.{passageRefusal, sectionRefusals, noPassage}
+use Rattle.paper_questions.specs.PartAnswers.{passageBy}
+use Rattle.paper_questions.specs.Ask.{passageAsked}
+use Rattle.paper_questions.proofs.Parts.{part-number}
 use Rattle.exports_parts.specs.Questions.{keywordPlace}
 use Rattle.exports_back.specs.NoPlace.{NoPlace}
 

@@ -7,23 +7,23 @@ use mathlib.Core.List.{List, [], _∷_, _++_}
 use native.Mathlib.Omega.{arith}
 use lib.Dec.{eqb, leb}
 use lib.ListN.{length}
-use Rattle.record_words.specs.Word.{pointerOf}
-use Rattle.entry_judging.specs.Judging.{judgeOf}
-use Rattle.entry_verdict.specs.Answer.{refusal, firstOf, answerOf, answerFor}
-use Rattle.entry_verdict.specs.declared.answer.Answer.{Answer}
-use Rattle.questions_parts.specs.declared.answers.PartAnswer.{PartAnswer}
-use Rattle.questions_rows.specs.Row.{rowOf}
-use Rattle.questions_places.specs.Place.{shapeOf, headingPlace, unitPlace, fieldOf, firstByte, byteOf}
-use Rattle.questions_passages.specs.Passage.{passageOf}
-use Rattle.questions_refusals.specs.Refused.{sectionIn, columnRefusal, passageRefusal, sectionRefusals, noColumn}
-use Rattle.questions_refusals.specs.Refused.{noPassage}
-use Rattle.questions_parts.specs.Answers.{headingBy, unitBy, passageBy, noPart, partFrom, partWith}
-use Rattle.questions.specs.Ask.{headingAsked, unitAsked, passageAsked}
+use Rattle.paper_record.specs.Word.{pointerOf}
+use Rattle.paper_entry.specs.Judging.{judgeOf}
+use Rattle.paper_entry.specs.Answer.{refusal, firstOf, answerOf, answerFor}
+use Rattle.paper_entry.specs.declared.types.Answer.{Answer}
+use Rattle.paper_questions.specs.declared.types.PartAnswer.{PartAnswer}
+use Rattle.paper_questions.specs.Located.{rowOf}
+use Rattle.paper_questions.specs.Place.{shapeOf, headingPlace, unitPlace, fieldOf, firstByte, byteOf}
+use Rattle.paper_questions.specs.Passage.{passageOf}
+use Rattle.paper_questions.specs.Refused.{sectionIn, columnRefusal, passageRefusal, sectionRefusals, noColumn}
+use Rattle.paper_questions.specs.Refused.{noPassage}
+use Rattle.paper_questions.specs.PartAnswers.{headingBy, unitBy, passageBy, noPart, partFrom, partWith}
+use Rattle.paper_questions.specs.Ask.{headingAsked, unitAsked, passageAsked}
 use Rattle.exports_words.specs.Words.{answerWord, answerIn, lentAfter}
 use Rattle.exports_back.specs.QuestionClaims.{HeadingBack, UnitBack, PassageBack}
 use Rattle.exports_parts.specs.Questions.{partStored, partIn}
 use Rattle.exports_back.proofs.Laws.{Fits, word-back, answer-fits}
-use Rattle.entry_verdict.proofs.Answers.{answer-number}
+use Rattle.paper_entry.proofs.Answers.{answer-number}
 use Rattle.exports_back.proofs.Refusals.{Numbered, one, section-numbered}
 
 -- ---- parts

@@ -5,12 +5,12 @@ use mathlib.Core.Path.{_≡_, refl}
 use mathlib.Core.List.{List, [], _∷_, _++_}
 use native.Mathlib.Omega.{arith}
 use Rattle.laws.specs.Walk.{All}
-use Rattle.columns_places.specs.declared.places.RecordNo.{RecordNo}
-use Rattle.rules_state.proofs.EitherWay.{either-way}
-use Rattle.entry_judging.specs.Judging.{judgeOf}
-use Rattle.entry_verdict.specs.Answer.{Refusal, firstOf}
-use Rattle.questions_noted.specs.declared.row.Row.{Row}
-use Rattle.questions_refusals.specs.Refused.{sectionRefusals}
+use Rattle.paper_record.specs.declared.types.RecordNo.{RecordNo}
+use Rattle.paper_rules.proofs.EitherWay.{either-way}
+use Rattle.paper_entry.specs.Judging.{judgeOf}
+use Rattle.paper_entry.specs.Answer.{Refusal, firstOf}
+use Rattle.paper_questions.specs.declared.types.Row.{Row}
+use Rattle.paper_questions.specs.Refused.{sectionRefusals}
 
 -- 0, or one from 31 on that has room
 pub record Numbered (n : ℕ) : Type 0 where

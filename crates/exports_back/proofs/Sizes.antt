@@ -10,24 +10,24 @@ use Rattle.laws.specs.Turns.{after}
 use Rattle.laws.specs.Walk.{walk}
 use Rattle.laws.specs.Blocks.{blocks}
 use Rattle.laws.proofs.Blocks.{length-blocks}
-use Rattle.columns_places.specs.declared.places.RecordNo.{RecordNo}
-use Rattle.columns_places.specs.Places.{recordOf}
-use Rattle.columns.specs.Fields.{fieldsOf}
-use Rattle.rules_roles.specs.declared.fault.Fault.{Fault}
-use Rattle.rules_roles.specs.declared.fault.Fault.the-variants.{Fine, At}
-use Rattle.rules_state.specs.declared.state.Totals.{Totals}
-use Rattle.rules_state.specs.declared.state.Track.{Track}
-use Rattle.rules_state.specs.State.{Context, startContext}
-use Rattle.rules_state.specs.Limits.{MOST-RECORDS}
-use Rattle.rules_state.specs.Ranging.{Bounded}
-use Rattle.rules.specs.Order.{faultOf}
-use Rattle.rules_state.proofs.EitherWay.{either-way}
-use Rattle.entry_next.specs.Next.{contextAfter}
-use Rattle.entry_verdict.specs.declared.verdict.Verdict.{Verdict}
-use Rattle.entry_verdict.specs.Verdict.{refused, refusedWithin, accepted, isDone, lengthGood}
-use Rattle.entry_judging.specs.Judging.{roleOf, onFault, turnAs, turnOf, endOf, judgeOf}
-use Rattle.entry_counted.proofs.Counting.{Follows, track-follows}
-use Rattle.entry_step.proofs.Numbered.{whole-records}
+use Rattle.paper_record.specs.declared.types.RecordNo.{RecordNo}
+use Rattle.paper_record.specs.Places.{recordOf}
+use Rattle.paper_record.specs.Fields.{fieldsOf}
+use Rattle.paper_rules.specs.declared.types.Fault.{Fault}
+use Rattle.paper_rules.specs.declared.types.Fault.the-variants.{Fine, At}
+use Rattle.paper_rules.specs.declared.types.Totals.{Totals}
+use Rattle.paper_rules.specs.declared.types.Track.{Track}
+use Rattle.paper_rules.specs.State.{Context, startContext}
+use Rattle.paper_rules.specs.Limits.{MOST-RECORDS}
+use Rattle.paper_rules.specs.Ranging.{Bounded}
+use Rattle.paper_rules.specs.Order.{faultOf}
+use Rattle.paper_rules.proofs.EitherWay.{either-way}
+use Rattle.paper_entry.specs.Next.{contextAfter}
+use Rattle.paper_entry.specs.declared.types.Verdict.{Verdict}
+use Rattle.paper_entry.specs.Verdict.{refused, refusedWithin, accepted, isDone, lengthGood}
+use Rattle.paper_entry.specs.Judging.{roleOf, onFault, turnAs, turnOf, endOf, judgeOf}
+use Rattle.paper_entry.proofs.Counting.{Follows, track-follows}
+use Rattle.paper_entry.proofs.Lengths.{whole-records}
 use Rattle.exports_back.proofs.NearFaults.{Near, near-fault}
 
 -- what a word can hold

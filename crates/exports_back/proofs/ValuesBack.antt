@@ -10,34 +10,34 @@ use lib.Dec.{eqb, leb, ltb}
 use lib.ListN.{length, getD, drop, replicate, getD-replicate, length-drop}
 use lib.Seq.{length-take-le}
 use Rattle.laws.specs.Blocks.{blockAt}
-use Rattle.number.specs.declared.value.Reading.{Reading}
-use Rattle.number.specs.declared.value.Reading.the-variants.{Blank, Number, Refused}
-use Rattle.number.specs.Value.{Says, malformed}
-use Rattle.number.specs.Reading.{readField}
-use Rattle.number.proofs.Laws.{says-exactly}
-use Rattle.number_digits.specs.Digits.{digitCount, fieldRead}
-use Rattle.columns_places.specs.declared.places.Place.{Place}
-use Rattle.columns_places.specs.Places.{placeOf}
-use Rattle.columns.specs.Fields.{fieldAt, fieldsOf}
-use Rattle.columns.proofs.ReadColumns.{field-of}
-use Rattle.entry_judging.specs.Judging.{judgeOf}
-use Rattle.entry_verdict.specs.Answer.{refusal, firstOf, isRefused, answerOf, answerFor}
-use Rattle.entry_verdict.specs.declared.answer.Answer.{Answer}
-use Rattle.questions_values.specs.declared.answers.ValueAnswer.{ValueAnswer}
-use Rattle.questions_rows.specs.Row.{rowOf}
-use Rattle.questions_places.specs.Place.{hasRecord, fieldsAt, shapeOf, fieldOf}
-use Rattle.questions_refusals.specs.Refused.{sectionIn, valueRefusal, sectionRefusals, noColumn, noLine}
-use Rattle.questions_values.specs.Answers.{valueWith, valueBy}
-use Rattle.questions.specs.Ask.{valueAsked}
-use Rattle.questions_places.proofs.Records.{record-there}
-use Rattle.questions_values.proofs.ValuePlaces.{value-field}
-use Rattle.copy_laws.specs.Call.{copied}
+use Rattle.paper_number.specs.declared.types.Reading.{Reading}
+use Rattle.paper_number.specs.declared.types.Reading.the-variants.{Blank, Number, Refused}
+use Rattle.paper_number.specs.Value.{Says, malformed}
+use Rattle.paper_number.specs.Reading.{readField}
+use Rattle.paper_number.proofs.Laws.{says-exactly}
+use Rattle.paper_number.specs.Digits.{digitCount, fieldRead}
+use Rattle.paper_record.specs.declared.types.Place.{Place}
+use Rattle.paper_record.specs.Places.{placeOf}
+use Rattle.paper_record.specs.Fields.{fieldAt, fieldsOf}
+use Rattle.paper_record.proofs.ReadColumns.{field-of}
+use Rattle.paper_entry.specs.Judging.{judgeOf}
+use Rattle.paper_entry.specs.Answer.{refusal, firstOf, isRefused, answerOf, answerFor}
+use Rattle.paper_entry.specs.declared.types.Answer.{Answer}
+use Rattle.paper_questions.specs.declared.types.ValueAnswer.{ValueAnswer}
+use Rattle.paper_questions.specs.Located.{rowOf}
+use Rattle.paper_questions.specs.Place.{hasRecord, fieldsAt, shapeOf, fieldOf}
+use Rattle.paper_questions.specs.Refused.{sectionIn, valueRefusal, sectionRefusals, noColumn, noLine}
+use Rattle.paper_questions.specs.ValueAnswers.{valueWith, valueBy}
+use Rattle.paper_questions.specs.Ask.{valueAsked}
+use Rattle.paper_questions.proofs.Records.{record-there}
+use Rattle.paper_questions.proofs.ValuePlaces.{value-field}
+use Rattle.paper_copy.specs.Call.{copied}
 use Rattle.exports_words.specs.Words.{answerWord, answerIn, lentAfter}
 use Rattle.exports_words.specs.Values.{readingAnswer, readingStored}
 use Rattle.exports_back.specs.QuestionClaims.{ValueBack, CopiedBack}
 use Rattle.exports_parts.specs.Questions.{valueAnswer, valueStored, valueAnswerIn}
 use Rattle.exports_back.proofs.Laws.{Fits, word-back, answer-fits, held, held-back}
-use Rattle.entry_verdict.proofs.Answers.{answer-number}
+use Rattle.paper_entry.proofs.Answers.{answer-number}
 use Rattle.exports_back.proofs.Refusals.{Numbered, one, first-numbered, section-numbered}
 
 -- a field of an entry is that of a record, or blank

@@ -3,8 +3,8 @@
 use Prim.Native.Nat.{ℕ}
 use mathlib.Core.Path.{_≡_}
 use mathlib.Core.List.{List}
-use Rattle.number_digits.specs.Digits.{numberRead}
-use Rattle.entry_judging.specs.Judging.{judgeOf}
+use Rattle.paper_number.specs.Digits.{numberRead}
+use Rattle.paper_entry.specs.Judging.{judgeOf}
 use Rattle.exports_words.specs.Words.{answerWord, lentAfter}
 use Rattle.exports_words.specs.Values.{readingAnswer, readingStored, readingIn}
 use Rattle.exports_verdicts.specs.Verdicts.{verdictAnswer, totalsNumbers, verdictIn}

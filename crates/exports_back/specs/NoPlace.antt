@@ -6,11 +6,11 @@ use mathlib.Core.Path.{_≡_}
 use mathlib.Core.Bool.{true}
 use mathlib.Core.List.{List, [], _∷_, _++_}
 use lib.ListN.{length}
-use Rattle.entry_judging.specs.Judging.{judgeOf}
-use Rattle.entry_verdict.specs.Answer.{refusal, firstOf}
-use Rattle.questions_rows.specs.Row.{rowOf}
-use Rattle.questions.specs.Ask.{passageAsked}
-use Rattle.questions_refusals.specs.Refused.{sectionRefusals}
+use Rattle.paper_entry.specs.Judging.{judgeOf}
+use Rattle.paper_entry.specs.Answer.{refusal, firstOf}
+use Rattle.paper_questions.specs.Located.{rowOf}
+use Rattle.paper_questions.specs.Ask.{passageAsked}
+use Rattle.paper_questions.specs.Refused.{sectionRefusals}
 use Rattle.exports_parts.specs.Questions.{keywordPlace}
 
 -- it is no place, so no passage stands there: 36 where neither 31 nor 32 nor 33 is given, and no other number

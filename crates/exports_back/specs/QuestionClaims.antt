@@ -3,9 +3,9 @@
 use Prim.Native.Nat.{ℕ}
 use mathlib.Core.Path.{_≡_}
 use mathlib.Core.List.{List}
-use Rattle.columns_places.specs.declared.places.LineNo.{LineNo}
-use Rattle.questions.specs.Ask.{valueAsked, headingAsked, unitAsked, passageAsked}
-use Rattle.copy_laws.specs.Call.{copied}
+use Rattle.paper_record.specs.declared.types.LineNo.{LineNo}
+use Rattle.paper_questions.specs.Ask.{valueAsked, headingAsked, unitAsked, passageAsked}
+use Rattle.paper_copy.specs.Call.{copied}
 use Rattle.exports_words.specs.Words.{answerWord, answerIn}
 use Rattle.exports_parts.specs.Questions.{valueAnswer, valueStored, valueAnswerIn, partStored, partIn}
 

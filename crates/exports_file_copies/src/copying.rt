@@ -1,13 +1,13 @@
 // Entries of a file and its copy, for host programs.
 ghost use mathlib.Core.Path.{_≡_};
 ghost use lib.ListN.{length};
-ghost use Rattle.files_parts.specs.Parts.{entryLength};
+ghost use Rattle.paper_files.specs.Parts.{entryLength};
 ghost use Rattle.files_copy_laws.specs.CopyFile.{copiedFile, storedFile};
 ghost use Rattle.exports_words.specs.Words.{answerWord};
-use entry_verdict::answer::Answer;
 use exports_words::words::answer_word;
 use files_copy::copy_file::copy_file;
 use files_parts::parts::entry_length;
+use paper_entry::types::Answer;
 
 // How many bytes the entry has that begins with the byte `at` of a file, 0 where none does.
 #[no_mangle]

@@ -1,6 +1,6 @@
 // Judging files, for host programs.
 ghost use mathlib.Core.Path.{_≡_};
-ghost use Rattle.files_judging.specs.File.{judgeFile};
+ghost use Rattle.paper_files.specs.File.{judgeFile};
 ghost use Rattle.exports_words.specs.Words.{answerWord, lentAfter};
 ghost use Rattle.exports_verdicts.specs.Verdicts.{verdictAnswer, totalsNumbers};
 use exports_verdicts::verdicts::put_verdict;

@@ -12,13 +12,13 @@ use mathlib.Core.List.{List, [], _∷_}
 use Prim.Native.Nat.{ℕ}
 use lib.Dec.{eqb, leb}
 use lib.ListN.{length, getD}
-use Rattle.number.specs.Grammar.{blanks}
-use Rattle.number.specs.declared.value.Reading.the-variants.{Blank}
-use Rattle.entry_verdict.specs.declared.answer.Answer.{Answer}
-use Rattle.entry_verdict.specs.Answer.{answerOf}
-use Rattle.questions_values.specs.declared.answers.ValueAnswer.{ValueAnswer}
-use Rattle.questions_parts.specs.declared.answers.PartAnswer.{PartAnswer}
-use Rattle.questions_parts.specs.Answers.{noPart}
+use Rattle.paper_number.specs.Grammar.{blanks}
+use Rattle.paper_number.specs.declared.types.Reading.the-variants.{Blank}
+use Rattle.paper_entry.specs.declared.types.Answer.{Answer}
+use Rattle.paper_entry.specs.Answer.{answerOf}
+use Rattle.paper_questions.specs.declared.types.ValueAnswer.{ValueAnswer}
+use Rattle.paper_questions.specs.declared.types.PartAnswer.{PartAnswer}
+use Rattle.paper_questions.specs.PartAnswers.{noPart}
 use Rattle.exports_words.specs.Words.{answerIn, lentAfter}
 use Rattle.exports_words.specs.Values.{readingAnswer, readingStored, readingIn}
 

@@ -4,9 +4,9 @@ ghost use Rattle.exports_words.specs.Words.{answerWord};
 ghost use Rattle.exports_parts.specs.Questions.{partStored, valueAnswer, valueStored, keywordPlace};
 use exports_words::values::put_reading;
 use exports_words::words::answer_word;
-use number_digits::digits::FieldRead;
-use questions_parts::answers::PartAnswer;
-use questions_values::answers::ValueAnswer;
+use paper_number::types::FieldRead;
+use paper_questions::types::PartAnswer;
+use paper_questions::types::ValueAnswer;
 
 // Stores a part that is answered, and returns the word.
 pub fn put_part(p: PartAnswer, out: &mut [u64; 3]) -> u64

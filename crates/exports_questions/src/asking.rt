@@ -1,12 +1,12 @@
 // The questions, for host programs. What is answered is stored in a lent array; a refused question stores nothing.
 ghost use mathlib.Core.Path.{_≡_};
-ghost use Rattle.questions.specs.Ask.{valueAsked, headingAsked, unitAsked, passageAsked};
+ghost use Rattle.paper_questions.specs.Ask.{valueAsked, headingAsked, unitAsked, passageAsked};
 ghost use Rattle.exports_words.specs.Words.{answerWord};
 ghost use Rattle.exports_parts.specs.Questions.{valueAnswer, valueStored, partStored, keywordPlace};
-use columns_places::places::LineNo;
 use exports_parts::parts::keyword_place;
 use exports_parts::parts::put_part;
 use exports_parts::parts::put_value;
+use paper_record::types::LineNo;
 use questions::ask::heading;
 use questions::ask::passage;
 use questions::ask::unit;

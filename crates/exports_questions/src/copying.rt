@@ -1,11 +1,11 @@
 // The canonical copy, for host programs.
 ghost use mathlib.Core.Path.{_≡_};
 ghost use lib.ListN.{length};
-ghost use Rattle.copy_laws.specs.Call.{copied, storedCopy};
+ghost use Rattle.paper_copy.specs.Call.{copied, storedCopy};
 ghost use Rattle.exports_words.specs.Words.{answerWord};
 use copy::copy::copy;
-use entry_verdict::answer::Answer;
 use exports_words::words::answer_word;
+use paper_entry::types::Answer;
 
 // Stores the copy of an entry in a buffer that may be longer: 0 done, else the word of refusal 31 or 37.
 #[no_mangle]

@@ -5,11 +5,11 @@ use mathlib.Core.List.{List, [], _∷_}
 use Prim.Native.Nat.{ℕ}
 use lib.Dec.{eqb}
 use lib.ListN.{getD}
-use Rattle.rules_state.specs.declared.state.Totals.{Totals}
-use Rattle.entry_verdict.specs.declared.answer.Answer.{Answer}
-use Rattle.entry_verdict.specs.declared.verdict.Verdict.{Verdict}
-use Rattle.entry_verdict.specs.Answer.{answerOf}
-use Rattle.entry_verdict.specs.Verdict.{refusedWithin, accepted}
+use Rattle.paper_rules.specs.declared.types.Totals.{Totals}
+use Rattle.paper_entry.specs.declared.types.Answer.{Answer}
+use Rattle.paper_entry.specs.declared.types.Verdict.{Verdict}
+use Rattle.paper_entry.specs.Answer.{answerOf}
+use Rattle.paper_entry.specs.Verdict.{refusedWithin, accepted}
 use Rattle.exports_words.specs.Words.{answerIn}
 
 -- of a refused entry its refusal stands twice: as the call's number, and beside it as the entry's

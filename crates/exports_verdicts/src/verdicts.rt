@@ -2,9 +2,9 @@
 ghost use mathlib.Core.Path.{_≡_};
 ghost use Rattle.exports_words.specs.Words.{answerWord, lentAfter};
 ghost use Rattle.exports_verdicts.specs.Verdicts.{verdictAnswer, totalsNumbers};
-use entry_verdict::answer::Answer;
-use entry_verdict::verdict::Verdict;
 use exports_words::words::answer_word;
+use paper_entry::types::Answer;
+use paper_entry::types::Verdict;
 
 // Stores the totals of an accepted entry, and returns the word.
 pub fn put_verdict(v: Verdict, out: &mut [u64; 4]) -> u64

@@ -11,7 +11,7 @@ use lib.Signed.{_≤ℤ_, nonNeg, ltZ}
 use mir.Syntax.{w32, w64}
 use mir.Val.{Fits, SFits, toZ, ofZ}
 use mir.ValLaws.{toZ-ofZ}
-use Rattle.canonical_layout.proofs.Numbers.{flat-power, wide-power}
+use Rattle.paper_canonical.proofs.Numbers.{flat-power, wide-power}
 use Rattle.exports_words.specs.Values.{twos, powerIn}
 
 -- ---- as the code makes it

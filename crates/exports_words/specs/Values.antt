@@ -7,13 +7,13 @@ use Prim.Native.Nat.{ℕ, _-_, _^_}
 use lib.Dec.{eqb, ltb}
 use lib.IntN.{ℤ, pos, negsuc}
 use lib.ListN.{getD, replicate}
-use Rattle.number.specs.declared.value.Decimal.{Decimal}
-use Rattle.number.specs.declared.value.Reading.{Reading}
-use Rattle.number.specs.declared.value.Reading.the-variants.{Blank, Number, Refused}
-use Rattle.number.specs.Value.{decimal}
-use Rattle.number_digits.specs.declared.digits.FieldRead.{FieldRead}
-use Rattle.entry_verdict.specs.declared.answer.Answer.{Answer}
-use Rattle.entry_verdict.specs.Answer.{answerOf}
+use Rattle.paper_number.specs.declared.types.Decimal.{Decimal}
+use Rattle.paper_number.specs.declared.types.Reading.{Reading}
+use Rattle.paper_number.specs.declared.types.Reading.the-variants.{Blank, Number, Refused}
+use Rattle.paper_number.specs.Value.{decimal}
+use Rattle.paper_number.specs.declared.types.FieldRead.{FieldRead}
+use Rattle.paper_entry.specs.declared.types.Answer.{Answer}
+use Rattle.paper_entry.specs.Answer.{answerOf}
 use Rattle.exports_words.specs.Words.{answerIn}
 
 abbrev pub bit : Bool → ℕ

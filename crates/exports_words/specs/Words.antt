@@ -5,7 +5,7 @@ use mathlib.Core.Bool.{cond}
 use mathlib.Core.List.{List}
 use Prim.Native.Nat.{ℕ, _+_, _*_, _/_, _%_, _^_}
 use lib.Dec.{eqb}
-use Rattle.entry_verdict.specs.declared.answer.Answer.{Answer}
+use Rattle.paper_entry.specs.declared.types.Answer.{Answer}
 
 -- of this interface: a header says its own
 abbrev pub VERSION : ℕ

@@ -4,9 +4,9 @@ ghost use Rattle.exports_words.specs.Words.{answerWord};
 ghost use Rattle.exports_words.specs.Values.{bit, twos, valueNumbers, readingAnswer, readingStored};
 use crate::words::answer_word;
 use entry_verdict::answer::answer_of;
-use number::value::Decimal;
-use number::value::Reading;
-use number_digits::digits::FieldRead;
+use paper_number::types::Decimal;
+use paper_number::types::FieldRead;
+use paper_number::types::Reading;
 
 fn bit(b: bool) -> u64
     ensures { λ r. ⌜ r ≡ bit b ⌝ }

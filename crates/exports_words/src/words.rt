@@ -1,7 +1,7 @@
 // The word that a call returns.
 ghost use mathlib.Core.Path.{_≡_};
 ghost use Rattle.exports_words.specs.Words.{answerWord};
-use entry_verdict::answer::Answer;
+use paper_entry::types::Answer;
 
 pub fn answer_word(a: Answer) -> u64
     ensures { λ r. ⌜ r ≡ answerWord a ⌝ }

@@ -1,19 +1,20 @@
 // The judge of a file: all records, one after the other, and the verdict.
 ghost use mathlib.Core.Path.{_≡_};
 ghost use Prim.Native.Nat.{_+_, _-_, _*_, _<_};
-ghost use Rattle.files_judging.specs.File.{judgeFile};
+ghost use Rattle.paper_files.specs.File.{judgeFile};
 use classes::class::classes;
-use columns_places::places::RecordNo;
 use columns_places::places::record_of;
-use entry_verdict::verdict::Verdict;
 use entry_verdict::verdict::refused;
 use entry_verdict::verdict::refused_within;
-use files_judging::limits::file_length_good;
-use files_step::state::File;
+use files_ending::limits::file_length_good;
+use files_state::state::File;
+use files_step::step::onward;
 use number::form::kinds;
 use number::form::nexts;
+use paper_entry::types::Verdict;
+use paper_record::types::RecordNo;
+use paper_rules::types::Fault;
 use record_names::identifier::names;
-use rules_roles::fault::Fault;
 
 // Judges a file.
 pub fn judge_file(file: &[u8]) -> Verdict
@@ -31,7 +32,7 @@ pub fn judge_file(file: &[u8]) -> Verdict
     let mut f = File::new();
     let mut i = 0;
     while i < n {
-        let s = f.onward(&classes, &names, &kinds, &nexts, file);
+        let s = onward(f, &classes, &names, &kinds, &nexts, file);
         let next = s.next;
         let found = s.fault;
         match found {

@@ -6,10 +6,10 @@ use mathlib.Core.List.{List}
 use native.Mathlib.Omega.{arith}
 use lib.Dec.{ltb}
 use lib.ListN.{length}
-use Rattle.rules_state.proofs.EitherWay.{either-way}
-use Rattle.entry_verdict.specs.Answer.{isRefused}
+use Rattle.paper_rules.proofs.EitherWay.{either-way}
+use Rattle.paper_entry.specs.Answer.{isRefused}
 use Rattle.exports_back.proofs.Laws.{word-back, beside-fits, fitting-back}
-use Rattle.files_judging.specs.File.{judgeFile}
+use Rattle.paper_files.specs.File.{judgeFile}
 use Rattle.files_copy_laws.specs.CopyFile.{copiedFile}
 use Rattle.files_back.specs.Claims.{FileBack, FileCopiedBack}
 use Rattle.files_back.proofs.Sizes.{file-fits}

@@ -8,20 +8,20 @@ use mathlib.Core.List.{List, []}
 use native.Mathlib.Omega.{arith}
 use lib.Dec.{eqb, leb}
 use lib.ListN.{getD}
-use Rattle.columns.specs.Fields.{fieldsOf}
-use Rattle.record_names.specs.Identifier.{ENTRY, SUBENT, NOSUBENT, BIB, NOBIB, ENDBIB, COMMON, NOCOMMON, ENDCOMMON, DATA}
-use Rattle.record_names.specs.Identifier.{NODATA, ENDDATA, ENDSUBENT, ENDENTRY, OTHER, identifierOf, isEnd}
-use Rattle.rules_roles.specs.Roles.{TEXT, COMMON-HEADING, COMMON-UNIT, COMMON-VALUE, DATA-HEADING, DATA-UNIT}
-use Rattle.rules_roles.specs.Roles.{DATA-VALUE, NOT-DUE}
-use Rattle.rules_state.specs.declared.state.Phase.{Phase}
-use Rattle.rules_state.specs.declared.state.Phase.the-variants.{Start, Opened, InSubentry, InBib, AfterBib, InCommon}
-use Rattle.rules_state.specs.declared.state.Phase.the-variants.{AfterCommon, InData, AfterData, Between, Done}
-use Rattle.rules_state.specs.declared.state.Track.{Track}
-use Rattle.rules_state.specs.State.{HEADINGS, UNITS}
-use Rattle.rules_state.specs.Role.{only, either, allRead, bibRole, tableRole, dataRole, nextRole, roleIn}
-use Rattle.rules_state.proofs.EitherWay.{either-way, no}
-use Rattle.entry_verdict.specs.Verdict.{isDone}
-use Rattle.entry_next.specs.Due.{leadsToBib, leadsToCommon, leadsToData, phaseAfter}
+use Rattle.paper_record.specs.Fields.{fieldsOf}
+use Rattle.paper_record.specs.Identifier.{ENTRY, SUBENT, NOSUBENT, BIB, NOBIB, ENDBIB, COMMON, NOCOMMON, ENDCOMMON, DATA}
+use Rattle.paper_record.specs.Identifier.{NODATA, ENDDATA, ENDSUBENT, ENDENTRY, OTHER, identifierOf, isEnd}
+use Rattle.paper_rules.specs.Roles.{TEXT, COMMON-HEADING, COMMON-UNIT, COMMON-VALUE, DATA-HEADING, DATA-UNIT}
+use Rattle.paper_rules.specs.Roles.{DATA-VALUE, NOT-DUE}
+use Rattle.paper_rules.specs.declared.types.Phase.{Phase}
+use Rattle.paper_rules.specs.declared.types.Phase.the-variants.{Start, Opened, InSubentry, InBib, AfterBib, InCommon}
+use Rattle.paper_rules.specs.declared.types.Phase.the-variants.{AfterCommon, InData, AfterData, Between, Done}
+use Rattle.paper_rules.specs.declared.types.Track.{Track}
+use Rattle.paper_rules.specs.State.{HEADINGS, UNITS}
+use Rattle.paper_rules.specs.Role.{only, either, allRead, bibRole, tableRole, dataRole, nextRole, roleIn}
+use Rattle.paper_rules.proofs.EitherWay.{either-way, no}
+use Rattle.paper_entry.specs.Verdict.{isDone}
+use Rattle.paper_entry.specs.Due.{leadsToBib, leadsToCommon, leadsToData, phaseAfter}
 
 -- how many records stand before a record in this phase, at least
 abbrev pub least : Phase → ℕ

@@ -15,30 +15,30 @@ use Rattle.laws.specs.Walk.{walk}
 use Rattle.laws.specs.Blocks.{blocks}
 use Rattle.laws.proofs.Blocks.{length-blocks}
 use Rattle.laws.proofs.Booleans.{and-right}
-use Rattle.columns_places.specs.Places.{recordOf}
-use Rattle.columns.specs.Fields.{fieldsOf}
-use Rattle.record_names.specs.Identifier.{TRANS}
-use Rattle.rules_roles.specs.declared.fault.Fault.{Fault}
-use Rattle.rules_roles.specs.declared.fault.Fault.the-variants.{Fine, At}
-use Rattle.rules_roles.specs.Fault.{Finding, firstFault}
-use Rattle.rules_state.specs.State.{Context}
-use Rattle.rules_state.proofs.EitherWay.{either-way}
-use Rattle.rules.specs.Order.{faultOf}
-use Rattle.rules.specs.Rising.{FaultBounds}
-use Rattle.rules.proofs.Rising.{findings-rise}
-use Rattle.rules.proofs.Least.{first-least, first-bounds}
-use Rattle.rules.proofs.DueRecords.{fine-due}
-use Rattle.entry_verdict.specs.Verdict.{refused, refusedWithin, isDone}
-use Rattle.entry_next.specs.Next.{contextAfter}
-use Rattle.entry_judging.specs.Judging.{roleOf}
-use Rattle.entry_judging.specs.Contexts.{behind}
+use Rattle.paper_record.specs.Places.{recordOf}
+use Rattle.paper_record.specs.Fields.{fieldsOf}
+use Rattle.paper_record.specs.Identifier.{TRANS}
+use Rattle.paper_rules.specs.declared.types.Fault.{Fault}
+use Rattle.paper_rules.specs.declared.types.Fault.the-variants.{Fine, At}
+use Rattle.paper_rules.specs.Fault.{Finding, firstFault}
+use Rattle.paper_rules.specs.State.{Context}
+use Rattle.paper_rules.proofs.EitherWay.{either-way}
+use Rattle.paper_rules.specs.Order.{faultOf}
+use Rattle.paper_rules.specs.Rising.{FaultBounds}
+use Rattle.paper_rules.proofs.Rising.{findings-rise}
+use Rattle.paper_rules.proofs.Least.{first-least, first-bounds}
+use Rattle.paper_rules.proofs.DueRecords.{fine-due}
+use Rattle.paper_entry.specs.Verdict.{refused, refusedWithin, isDone}
+use Rattle.paper_entry.specs.Next.{contextAfter}
+use Rattle.paper_entry.specs.Judging.{roleOf}
+use Rattle.paper_entry.specs.Contexts.{behind}
 use Rattle.entry_walk.specs.First.{foundIn}
 use Rattle.entry_walk.proofs.Contexts.{count-next}
-use Rattle.files_outside.specs.Outside.{outsideFindings}
-use Rattle.files_judging.specs.declared.stage.Stage.the-variants.{Within, Behind}
-use Rattle.files_judging.specs.File.{FileContext, MOST-IN-FILE, startFile, OF-ENTRY, fileRole, fileFindings, fileFault}
-use Rattle.files_judging.specs.File.{isBetween, begins, ordinalOf, atStage, endedEntry, withinEntry, behindEntry, fileAfter}
-use Rattle.files_judging.specs.File.{onFileFault, fileTurn, isBehind, fileEnd, fileLengthGood, judgeFile}
+use Rattle.paper_files.specs.Outside.{outsideFindings}
+use Rattle.paper_files.specs.declared.types.Stage.the-variants.{Within, Behind}
+use Rattle.paper_files.specs.File.{FileContext, MOST-IN-FILE, startFile, OF-ENTRY, fileRole, fileFindings, fileFault}
+use Rattle.paper_files.specs.File.{isBetween, begins, ordinalOf, atStage, endedEntry, withinEntry, behindEntry, fileAfter}
+use Rattle.paper_files.specs.File.{onFileFault, fileTurn, isBehind, fileEnd, fileLengthGood, judgeFile}
 use Rattle.files_said.proofs.Outside.{outside-rises}
 use Rattle.exports_back.proofs.Sizes.{NearRefusal, Fitting, accepting, refusing}
 use Rattle.files_back.proofs.Ranks.{least, leads-on, done-four}

@@ -5,7 +5,7 @@ use mathlib.Core.Path.{_≡_}
 use mathlib.Core.List.{List}
 use Rattle.exports_words.specs.Words.{answerWord, answerIn, lentAfter}
 use Rattle.exports_verdicts.specs.Verdicts.{verdictAnswer, totalsNumbers, verdictIn}
-use Rattle.files_judging.specs.File.{judgeFile}
+use Rattle.paper_files.specs.File.{judgeFile}
 use Rattle.files_copy_laws.specs.CopyFile.{copiedFile}
 
 abbrev pub FileBack : Type 0

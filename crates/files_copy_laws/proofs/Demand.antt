@@ -6,13 +6,13 @@ use mathlib.Core.List.{List, [], _∷_, _++_, map}
 use lib.ListN.{length, length-map}
 use Rattle.laws.specs.Walk.{All}
 use Rattle.laws.specs.Blocks.{joined}
-use Rattle.record_names.specs.Identifier.{ENDTRANS}
-use Rattle.entry_verdict.specs.declared.verdict.Verdict.{Verdict}
-use Rattle.entry_verdict.specs.Verdict.{accepted}
-use Rattle.entry_judging.specs.Judging.{Accepted}
-use Rattle.copy_laws.specs.Copy.{copyOf}
-use Rattle.copy_laws.proofs.Demand.{copy-accepted, copy-again}
-use Rattle.files_judging.specs.File.{judgeFile}
+use Rattle.paper_record.specs.Identifier.{ENDTRANS}
+use Rattle.paper_entry.specs.declared.types.Verdict.{Verdict}
+use Rattle.paper_entry.specs.Verdict.{accepted}
+use Rattle.paper_entry.specs.Judging.{Accepted}
+use Rattle.paper_copy.specs.Copy.{copyOf}
+use Rattle.paper_copy.proofs.Demand.{copy-accepted, copy-again}
+use Rattle.paper_files.specs.File.{judgeFile}
 use Rattle.files_shape.specs.Shape.{GoodOutside, totalsOf, FileOf}
 use Rattle.files_entries.proofs.EntriesMet.{entries-met}
 use Rattle.files_said.proofs.AcceptedFiles.{file-totals, file-accepted-exactly}

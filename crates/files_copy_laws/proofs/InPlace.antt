@@ -9,11 +9,11 @@ use lib.ListN.{length, take, drop, length-append}
 use lib.Seq.{take-at, drop-at}
 use Rattle.laws.specs.Walk.{All}
 use Rattle.laws.specs.Blocks.{joined}
-use Rattle.entry_judging.specs.Judging.{Accepted}
-use Rattle.copy_laws.specs.Copy.{copyOf}
-use Rattle.copy_laws.proofs.Demand.{passed, copy-long}
-use Rattle.files_parts.specs.Parts.{entryRecords, entryLength}
-use Rattle.files_parts.proofs.PlainParts.{length-by}
+use Rattle.paper_entry.specs.Judging.{Accepted}
+use Rattle.paper_copy.specs.Copy.{copyOf}
+use Rattle.paper_copy.proofs.Demand.{passed, copy-long}
+use Rattle.paper_files.specs.Parts.{entryRecords, entryLength}
+use Rattle.paper_files.proofs.PlainParts.{length-by}
 use Rattle.files_shape.specs.Shape.{FileOf}
 use Rattle.files_entries.proofs.AcceptedBegins.{accepted-whole}
 use Rattle.files_entries.proofs.EntriesMet.{none-begins, length-met}

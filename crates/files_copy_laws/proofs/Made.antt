@@ -6,10 +6,10 @@ use mathlib.Core.Path.{_≡_, refl, sym, _∙_, ap}
 use mathlib.Core.List.{List}
 use lib.ListN.{length, drop}
 use lib.Seq.{take-at, drop-at}
-use Rattle.entry_verdict.specs.declared.verdict.Verdict.{Verdict}
-use Rattle.entry_verdict.specs.Answer.{answerOf, answerFor}
-use Rattle.copy_laws.proofs.Answered.{answer-refused, answer-short, answer-made}
-use Rattle.files_judging.specs.File.{judgeFile, AcceptedFile}
+use Rattle.paper_entry.specs.declared.types.Verdict.{Verdict}
+use Rattle.paper_entry.specs.Answer.{answerOf, answerFor}
+use Rattle.paper_copy.proofs.Answered.{answer-refused, answer-short, answer-made}
+use Rattle.paper_files.specs.File.{judgeFile, AcceptedFile}
 use Rattle.files_said.proofs.AcceptedFiles.{file-accepted-exactly}
 use Rattle.files_copy_laws.specs.CopyFile.{copyFileOf, copiedFile, copiedFileInto, storedFile}
 use Rattle.files_copy_laws.specs.Demand.{FileCopyMade}

@@ -8,10 +8,10 @@ use lib.ListN.{length, take, drop}
 use lib.Seq.{take-at, drop-at}
 use Rattle.laws.specs.Walk.{All}
 use Rattle.laws.specs.Blocks.{joined}
-use Rattle.entry_judging.specs.Judging.{Accepted}
-use Rattle.copy_laws.specs.Copy.{copyOf}
-use Rattle.copy_laws.specs.Demand.{SameNumbers}
-use Rattle.copy_laws.proofs.Demand.{one-copy}
+use Rattle.paper_entry.specs.Judging.{Accepted}
+use Rattle.paper_copy.specs.Copy.{copyOf}
+use Rattle.paper_copy.specs.Demand.{SameNumbers}
+use Rattle.paper_copy.proofs.Demand.{one-copy}
 use Rattle.files_shape.specs.Shape.{FileOf}
 use Rattle.files_entries.proofs.EntriesMet.{one-cut}
 use Rattle.files_copy_laws.specs.CopyFile.{copyFileOf}

@@ -8,12 +8,12 @@ use mathlib.Core.Bool.{cond}
 use mathlib.Core.List.{List, _++_}
 use lib.Dec.{eqb}
 use lib.ListN.{length, take, drop}
-use Rattle.entry_verdict.specs.declared.answer.Answer.{Answer}
-use Rattle.entry_verdict.specs.Answer.{answerFor}
-use Rattle.copy_laws.specs.Copy.{copyOf}
-use Rattle.copy_laws.specs.Call.{copyRefusal}
-use Rattle.files_judging.specs.File.{judgeFile}
-use Rattle.files_parts.specs.Parts.{entryLength}
+use Rattle.paper_entry.specs.declared.types.Answer.{Answer}
+use Rattle.paper_entry.specs.Answer.{answerFor}
+use Rattle.paper_copy.specs.Copy.{copyOf}
+use Rattle.paper_copy.specs.Call.{copyRefusal}
+use Rattle.paper_files.specs.File.{judgeFile}
+use Rattle.paper_files.specs.Parts.{entryLength}
 
 -- the bytes from `at` on: an entry that begins there copied and then the rest, else as they are. No more than n entries
 -- are copied; every entry has a record, so that there are fewer than the file has records.

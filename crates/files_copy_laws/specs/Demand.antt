@@ -6,10 +6,10 @@ use mathlib.Core.Logic.{_↔_}
 use mathlib.Core.List.{List, [], _∷_, _++_, map}
 use lib.ListN.{length, take, drop}
 use Rattle.laws.specs.Blocks.{joined}
-use Rattle.entry_verdict.specs.Answer.{answerOf}
-use Rattle.copy_laws.specs.Copy.{copyOf}
-use Rattle.copy_laws.specs.Demand.{SameNumbers}
-use Rattle.files_judging.specs.File.{judgeFile, AcceptedFile}
+use Rattle.paper_entry.specs.Answer.{answerOf}
+use Rattle.paper_copy.specs.Copy.{copyOf}
+use Rattle.paper_copy.specs.Demand.{SameNumbers}
+use Rattle.paper_files.specs.File.{judgeFile, AcceptedFile}
 use Rattle.files_shape.specs.Shape.{totalsOf, FileOf}
 use Rattle.files_entries.specs.Entries.{Met}
 use Rattle.files_copy_laws.specs.CopyFile.{copyFileOf, copiedFile, storedFile}

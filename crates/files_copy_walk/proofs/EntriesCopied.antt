@@ -9,14 +9,14 @@ use lib.ListN.{length, take, drop, length-drop, length-append, drop-of-length-le
 use lib.Seq.{paste, length-paste, drop-paste, take-at, drop-at, take-all, drop-drop, length-take-le}
 use Rattle.laws.specs.Walk.{All}
 use Rattle.laws.specs.Blocks.{joined}
-use Rattle.entry_judging.specs.Judging.{Accepted}
-use Rattle.copy_laws.specs.Copy.{copyOf}
-use Rattle.copy_laws.specs.Call.{copiedInto}
-use Rattle.copy_laws.specs.Storing.{Room}
-use Rattle.copy_laws.proofs.Demand.{passed, copy-long}
-use Rattle.copy_records.proofs.Pasted.{paste-more, paste-lent}
-use Rattle.files_parts.specs.Parts.{entryRecords, entryLength}
-use Rattle.files_parts.proofs.PlainParts.{length-by}
+use Rattle.paper_entry.specs.Judging.{Accepted}
+use Rattle.paper_copy.specs.Copy.{copyOf}
+use Rattle.paper_copy.specs.Call.{copiedInto}
+use Rattle.paper_copy.specs.Storing.{Room}
+use Rattle.paper_copy.proofs.Demand.{passed, copy-long}
+use Rattle.paper_copy.proofs.Pasted.{paste-more, paste-lent}
+use Rattle.paper_files.specs.Parts.{entryRecords, entryLength}
+use Rattle.paper_files.proofs.PlainParts.{length-by}
 use Rattle.files_entries.proofs.AcceptedBegins.{accepted-records, accepted-whole}
 use Rattle.files_copy_laws.specs.CopyFile.{copyFileOf, copiedFileInto}
 use Rattle.files_copy_laws.specs.Storing.{FileRoom}

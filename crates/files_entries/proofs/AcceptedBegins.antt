@@ -10,28 +10,28 @@ use borrow.Author.Tests.{eqb-true}
 use lib.Dec.{eqb}
 use lib.ListN.{length, length-append}
 use Rattle.laws.specs.Blocks.{blockAt}
-use Rattle.columns.specs.Fields.{fieldAt, fieldsOf}
-use Rattle.columns.proofs.ReadColumns.{field-of}
-use Rattle.record_names.specs.Identifier.{ENTRY, ENDENTRY, identifierOf}
-use Rattle.record_names.proofs.PlainNames.{name-exactly}
-use Rattle.rules_roles.specs.Roles.{NOT-DUE}
-use Rattle.rules_state.specs.Role.{roleIn}
-use Rattle.rules.proofs.DueRecords.{fine-due}
-use Rattle.rules.proofs.Least.{fault-none}
-use Rattle.entry_verdict.specs.Verdict.{isDone}
-use Rattle.entry_next.specs.Due.{phaseAfter}
-use Rattle.entry_next.specs.Next.{contextAfter}
-use Rattle.entry_judging.specs.Judging.{roleOf, Accepted}
-use Rattle.entry_judging.specs.Contexts.{contextAt, roleAt}
-use Rattle.entry_step.proofs.Walking.{accepted-good}
+use Rattle.paper_record.specs.Fields.{fieldAt, fieldsOf}
+use Rattle.paper_record.proofs.ReadColumns.{field-of}
+use Rattle.paper_record.specs.Identifier.{ENTRY, ENDENTRY, identifierOf}
+use Rattle.paper_record.proofs.PlainNames.{name-exactly}
+use Rattle.paper_rules.specs.Roles.{NOT-DUE}
+use Rattle.paper_rules.specs.Role.{roleIn}
+use Rattle.paper_rules.proofs.DueRecords.{fine-due}
+use Rattle.paper_rules.proofs.Least.{fault-none}
+use Rattle.paper_entry.specs.Verdict.{isDone}
+use Rattle.paper_entry.specs.Due.{phaseAfter}
+use Rattle.paper_entry.specs.Next.{contextAfter}
+use Rattle.paper_entry.specs.Judging.{roleOf, Accepted}
+use Rattle.paper_entry.specs.Contexts.{contextAt, roleAt}
+use Rattle.paper_entry.proofs.Lengths.{accepted-good}
 use Rattle.entry_walk.proofs.AcceptedWalk.{walked}
 use Rattle.entry_walk.proofs.GoingOn.{go-fine}
 use Rattle.below.proofs.Agree.{added-agree, length-exactly}
 use Rattle.below.proofs.Behind.{found-behind}
-use Rattle.files_judging.specs.File.{nameOf}
-use Rattle.files_parts.specs.Parts.{entryRecords}
-use Rattle.files_parts.specs.Plain.{Begins}
-use Rattle.files_parts.proofs.EntryRecords.{begins-records}
+use Rattle.paper_files.specs.File.{nameOf}
+use Rattle.paper_files.specs.Parts.{entryRecords}
+use Rattle.paper_files.specs.PlainParts.{Begins}
+use Rattle.paper_files.proofs.EntryRecords.{begins-records}
 use Rattle.files_entries.proofs.EndRoles.{endentry-ends, done-named}
 
 -- a name as it is computed from the six fields, and plainly

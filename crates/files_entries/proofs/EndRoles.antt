@@ -7,20 +7,20 @@ use borrow.Author.Tests.{eqb-true}
 use lib.Dec.{eqb}
 use Rattle.laws.specs.Search.{first}
 use Rattle.laws.proofs.Booleans.{either-as}
-use Rattle.record_words.specs.Word.{equalTo}
-use Rattle.record_names.specs.Identifier.{ENTRY, SUBENT, NOSUBENT, BIB, NOBIB, ENDBIB, COMMON, NOCOMMON, ENDCOMMON, DATA}
-use Rattle.record_names.specs.Identifier.{NODATA, ENDDATA, ENDSUBENT, ENDENTRY, OTHER, isEnd}
-use Rattle.rules_roles.specs.Roles.{Role, NOT-DUE, COMMON-HEADING, COMMON-UNIT, COMMON-VALUE, DATA-HEADING}
-use Rattle.rules_roles.specs.Roles.{DATA-UNIT, DATA-VALUE}
-use Rattle.rules_state.specs.declared.state.Phase.{Phase}
-use Rattle.rules_state.specs.declared.state.Phase.the-variants.{Start, Opened, InSubentry, InBib, AfterBib, InCommon}
-use Rattle.rules_state.specs.declared.state.Phase.the-variants.{AfterCommon, InData, AfterData, Between, Done}
-use Rattle.rules_state.specs.declared.state.Track.{Track}
-use Rattle.rules_state.specs.State.{HEADINGS, UNITS}
-use Rattle.rules_state.specs.Role.{only, either, bibRole, tableRole, dataRole, allRead, roleIn}
-use Rattle.rules_state.proofs.EitherWay.{either-way, no}
-use Rattle.entry_verdict.specs.Verdict.{isDone}
-use Rattle.entry_next.specs.Due.{phaseAfter}
+use Rattle.paper_record.specs.Word.{equalTo}
+use Rattle.paper_record.specs.Identifier.{ENTRY, SUBENT, NOSUBENT, BIB, NOBIB, ENDBIB, COMMON, NOCOMMON, ENDCOMMON, DATA}
+use Rattle.paper_record.specs.Identifier.{NODATA, ENDDATA, ENDSUBENT, ENDENTRY, OTHER, isEnd}
+use Rattle.paper_rules.specs.Roles.{Role, NOT-DUE, COMMON-HEADING, COMMON-UNIT, COMMON-VALUE, DATA-HEADING}
+use Rattle.paper_rules.specs.Roles.{DATA-UNIT, DATA-VALUE}
+use Rattle.paper_rules.specs.declared.types.Phase.{Phase}
+use Rattle.paper_rules.specs.declared.types.Phase.the-variants.{Start, Opened, InSubentry, InBib, AfterBib, InCommon}
+use Rattle.paper_rules.specs.declared.types.Phase.the-variants.{AfterCommon, InData, AfterData, Between, Done}
+use Rattle.paper_rules.specs.declared.types.Track.{Track}
+use Rattle.paper_rules.specs.State.{HEADINGS, UNITS}
+use Rattle.paper_rules.specs.Role.{only, either, bibRole, tableRole, dataRole, allRead, roleIn}
+use Rattle.paper_rules.proofs.EitherWay.{either-way, no}
+use Rattle.paper_entry.specs.Verdict.{isDone}
+use Rattle.paper_entry.specs.Due.{phaseAfter}
 
 -- ---- the name ENDENTRY
 

@@ -9,12 +9,12 @@ use lib.ListN.{length, drop, length-append}
 use lib.Seq.{take-all, take-at, drop-at}
 use Rattle.laws.specs.Walk.{All}
 use Rattle.laws.specs.Blocks.{blockAt, joined}
-use Rattle.columns.specs.Fields.{fieldAt}
-use Rattle.record_names.specs.Identifier.{ENTRY, ENDTRANS, identifierOf}
-use Rattle.entry_judging.specs.Judging.{Accepted}
-use Rattle.files_parts.specs.Parts.{entryRecords, entryLength, entryFrom}
-use Rattle.files_parts.proofs.PlainParts.{length-by, from-begun, from-none}
-use Rattle.files_parts.proofs.EntryRecords.{not-opened}
+use Rattle.paper_record.specs.Fields.{fieldAt}
+use Rattle.paper_record.specs.Identifier.{ENTRY, ENDTRANS, identifierOf}
+use Rattle.paper_entry.specs.Judging.{Accepted}
+use Rattle.paper_files.specs.Parts.{entryRecords, entryLength, entryFrom}
+use Rattle.paper_files.proofs.PlainParts.{length-by, from-begun, from-none}
+use Rattle.paper_files.proofs.EntryRecords.{not-opened}
 use Rattle.files_shape.specs.Shape.{GoodOutside}
 use Rattle.files_entries.specs.Entries.{Met, EntriesMet, OneCut}
 use Rattle.files_entries.proofs.AcceptedBegins.{name-plain, accepted-records, accepted-whole}

@@ -4,7 +4,7 @@ use Prim.Native.Nat.{ℕ, _+_}
 use mathlib.Core.Path.{_≡_}
 use mathlib.Core.List.{List, [], _∷_}
 use lib.ListN.{length}
-use Rattle.files_parts.specs.Parts.{entryFrom}
+use Rattle.paper_files.specs.Parts.{entryFrom}
 use Rattle.files_shape.specs.Shape.{FileOf}
 
 -- from the byte `at` on each entry is met as a part, one behind the other, and behind the last stands none

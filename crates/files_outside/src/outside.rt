@@ -1,12 +1,13 @@
 // The two records of a file that belong to no entry. Each rule gives the leftmost column at fault, 0 where there is none.
 ghost use mathlib.Core.Path.{_≡_};
 ghost use Prim.Native.Nat.{ℕ, _+_, _≤_};
-ghost use Rattle.columns.specs.Columns.{Whole};
-ghost use Rattle.columns.specs.Fields.{fieldsOf};
-ghost use Rattle.classes.specs.Class.{ClassesLent};
-ghost use Rattle.rules_roles.specs.Fault.{leftmost};
-ghost use Rattle.files_outside.specs.Outside.{marksIn, isTransN1, transForm, rule7Outside, rule8Outside, outsideFault};
+ghost use Rattle.paper_record.specs.Columns.{Whole};
+ghost use Rattle.paper_record.specs.Fields.{fieldsOf};
+ghost use Rattle.paper_record.specs.Class.{ClassesLent};
+ghost use Rattle.paper_rules.specs.Fault.{leftmost};
+ghost use Rattle.paper_files.specs.Outside.{marksIn, isTransN1, transForm, rule7Outside, rule8Outside, outsideFault};
 use columns::fields::fields;
+use paper_rules::types::Fault;
 use record::system::count_of;
 use record::system::is_capital_or_digit;
 use record::system::is_count;
@@ -18,7 +19,6 @@ use record_words::word::blank_to;
 use rules_every::every::rule2;
 use rules_every::every::rule3;
 use rules_every::every::rule4;
-use rules_roles::fault::Fault;
 
 // Whether the `n` columns from `from` are capitals or digits.
 fn marks_in(f: [u8; 11], from: usize, n: usize) -> bool

@@ -2,10 +2,10 @@
 ghost use mathlib.Core.Path.{_≡_};
 ghost use Prim.Native.Nat.{_+_, _*_, _≤_, _<_};
 ghost use lib.ListN.{length};
-ghost use Rattle.record_names.specs.Identifier.{NamesLent};
-ghost use Rattle.entry_verdict.specs.Part.{Behind};
-ghost use Rattle.files_parts.specs.Parts.{few, namedAt, endOf, recordsOf, entryRecords, entryLength, entryFirst};
-ghost use Rattle.files_parts.specs.Parts.{entryFrom};
+ghost use Rattle.paper_record.specs.Identifier.{NamesLent};
+ghost use Rattle.paper_entry.specs.Part.{Behind};
+ghost use Rattle.paper_files.specs.Parts.{few, namedAt, endOf, recordsOf, entryRecords, entryLength, entryFirst};
+ghost use Rattle.paper_files.specs.Parts.{entryFrom};
 use columns::fields::field;
 use record_names::identifier::ENDENTRY;
 use record_names::identifier::ENTRY;

@@ -1,3 +1,2 @@
-// What a record of a file is, the ordinal that goes with its fault, and the verdict behind the last record.
-pub mod ending;
+// What a record of a file is, and the ordinal that goes with its fault.
 pub mod role;

@@ -2,14 +2,14 @@
 // entries have ended, and how many records the entry in hand has before this one.
 ghost use mathlib.Core.Path.{_≡_};
 ghost use Prim.Native.Nat.{_<_};
-ghost use Rattle.columns.specs.Columns.{Whole};
-ghost use Rattle.record_names.specs.Identifier.{NamesLent};
-ghost use Rattle.files_judging.specs.File.{nameOf, fileRole, fileRoleIn, begins, ordinalOf, MOST-IN-FILE};
-ghost use Rattle.files_judging.specs.declared.stage.Stage.the-variants.{Within};
-ghost use Rattle.files_roles.specs.Numbers.{numbersOf, stageAfter};
+ghost use Rattle.paper_record.specs.Columns.{Whole};
+ghost use Rattle.paper_record.specs.Identifier.{NamesLent};
+ghost use Rattle.paper_files.specs.File.{nameOf, fileRole, fileRoleIn, begins, ordinalOf, MOST-IN-FILE};
+ghost use Rattle.paper_files.specs.declared.types.Stage.the-variants.{Within};
+ghost use Rattle.paper_files.specs.Numbers.{numbersOf, stageAfter};
 use columns::fields::field;
-use columns_places::places::Index;
-use files_judging::stage::Stage;
+use paper_files::types::Stage;
+use paper_record::types::Index;
 use record_names::identifier::ENDTRANS;
 use record_names::identifier::ENTRY;
 use record_names::identifier::Names;

@@ -5,15 +5,15 @@ use mathlib.Core.Path.{_≡_, sym, ap}
 use mathlib.Core.List.{List}
 use native.Mathlib.Omega.{arith}
 use lib.ListN.{length}
-use Rattle.columns.specs.Fields.{fieldsOf}
-use Rattle.rules_state.specs.Limits.{MOST-RECORDS}
-use Rattle.rules.proofs.Least.{first-bounds}
-use Rattle.entry_verdict.specs.declared.verdict.Verdict.{Verdict}
-use Rattle.entry_verdict.specs.Verdict.{accepted}
+use Rattle.paper_record.specs.Fields.{fieldsOf}
+use Rattle.paper_rules.specs.Limits.{MOST-RECORDS}
+use Rattle.paper_rules.proofs.Least.{first-bounds}
+use Rattle.paper_entry.specs.declared.types.Verdict.{Verdict}
+use Rattle.paper_entry.specs.Verdict.{accepted}
 use Rattle.below.proofs.Below.{from-two}
 use Rattle.below.proofs.Added.{two-to-four}
-use Rattle.files_outside.specs.Outside.{outsideFindings}
-use Rattle.files_judging.specs.File.{judgeFile}
+use Rattle.paper_files.specs.Outside.{outsideFindings}
+use Rattle.paper_files.specs.File.{judgeFile}
 use Rattle.files_shape.specs.Shape.{totalsOf, FileOf}
 use Rattle.files_said.specs.Said.{recordAt, FoundOutside, FileSaid, by-length, at-opening, between, at-ending}
 use Rattle.files_said.specs.Said.{behind, in-entry, full, no-ending, no-endentry, whole}

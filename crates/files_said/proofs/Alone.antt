@@ -9,31 +9,31 @@ use native.Mathlib.Omega.{arith}
 use borrow.Author.Tests.{ne-eqb}
 use lib.ListN.{length, drop, length-append, length-drop}
 use Rattle.laws.specs.Blocks.{joined}
-use Rattle.columns.specs.Fields.{fieldsOf}
-use Rattle.record_names.specs.Identifier.{ENTRY, TRANS, ENDTRANS}
-use Rattle.rules_roles.specs.declared.fault.Fault.the-variants.{At}
-use Rattle.rules_roles.specs.Roles.{NOT-DUE}
-use Rattle.rules_roles.specs.Fault.{Finding, firstFault}
-use Rattle.rules_state.specs.State.{startContext}
-use Rattle.rules_state.specs.Limits.{MOST-RECORDS}
-use Rattle.rules_state.specs.Role.{only, roleIn}
-use Rattle.rules.specs.Order.{Least}
-use Rattle.rules.proofs.FaultSaid.{least-first}
-use Rattle.entry_verdict.specs.declared.verdict.Verdict.{Verdict}
-use Rattle.entry_verdict.specs.Verdict.{refused, refusedWithin, accepted, isDone}
-use Rattle.entry_judging.specs.Judging.{judgeOf, roleOf, Accepted}
-use Rattle.entry_judging.specs.Contexts.{contextAt}
+use Rattle.paper_record.specs.Fields.{fieldsOf}
+use Rattle.paper_record.specs.Identifier.{ENTRY, TRANS, ENDTRANS}
+use Rattle.paper_rules.specs.declared.types.Fault.the-variants.{At}
+use Rattle.paper_rules.specs.Roles.{NOT-DUE}
+use Rattle.paper_rules.specs.Fault.{Finding, firstFault}
+use Rattle.paper_rules.specs.State.{startContext}
+use Rattle.paper_rules.specs.Limits.{MOST-RECORDS}
+use Rattle.paper_rules.specs.Role.{only, roleIn}
+use Rattle.paper_rules.specs.Order.{Least}
+use Rattle.paper_rules.proofs.FaultSaid.{least-first}
+use Rattle.paper_entry.specs.declared.types.Verdict.{Verdict}
+use Rattle.paper_entry.specs.Verdict.{refused, refusedWithin, accepted, isDone}
+use Rattle.paper_entry.specs.Judging.{judgeOf, roleOf, Accepted}
+use Rattle.paper_entry.specs.Contexts.{contextAt}
 use Rattle.entry_walk.specs.First.{foundIn, foundAt, NothingBefore, FirstAt}
 use Rattle.entry_walk.proofs.Contexts.{records-at}
 use Rattle.below.specs.Below.{AtRecord}
 use Rattle.below.specs.Added.{BehindEnd}
-use Rattle.entry_step.proofs.Numbered.{whole-records}
+use Rattle.paper_entry.proofs.Lengths.{whole-records}
 use Rattle.below.proofs.Agree.{nothing-agree, found-agree}
 use Rattle.below.proofs.Below.{judge-refused}
 use Rattle.below.proofs.Behind.{behind-fault}
-use Rattle.files_outside.specs.Outside.{outsideFindings}
-use Rattle.files_judging.specs.declared.stage.Stage.the-variants.{Behind}
-use Rattle.files_judging.specs.File.{FileContext, startFile, nameOf, atStage, fileEnd, fileLengthGood, judgeFile}
+use Rattle.paper_files.specs.Outside.{outsideFindings}
+use Rattle.paper_files.specs.declared.types.Stage.the-variants.{Behind}
+use Rattle.paper_files.specs.File.{FileContext, startFile, nameOf, atStage, fileEnd, fileLengthGood, judgeFile}
 use Rattle.files_shape.specs.Shape.{totalsOf, Begun, FileOf}
 use Rattle.files_said.specs.Said.{numberOf, recordsBefore, cut, recordAt, There, FoundOutside, FileAlone}
 use Rattle.files_said.specs.Said.{by-length, at-opening, between, at-ending, behind, in-entry, full, no-ending}

@@ -13,21 +13,21 @@ use lib.Seq.{length-take-le}
 use Rattle.laws.proofs.Search.{either}
 use Rattle.laws.proofs.Booleans.{and-left, and-right}
 use Rattle.laws.specs.Blocks.{blockAt}
-use Rattle.rules_state.specs.State.{Context}
-use Rattle.rules_state.specs.Limits.{MOST-RECORDS}
-use Rattle.entry_verdict.specs.declared.verdict.Verdict.{Verdict}
-use Rattle.entry_verdict.specs.Verdict.{accepted, isDone}
-use Rattle.entry_judging.specs.Judging.{judgeOf, Accepted}
-use Rattle.entry_judging.specs.Contexts.{contextAt}
+use Rattle.paper_rules.specs.State.{Context}
+use Rattle.paper_rules.specs.Limits.{MOST-RECORDS}
+use Rattle.paper_entry.specs.declared.types.Verdict.{Verdict}
+use Rattle.paper_entry.specs.Verdict.{accepted, isDone}
+use Rattle.paper_entry.specs.Judging.{judgeOf, Accepted}
+use Rattle.paper_entry.specs.Contexts.{contextAt}
 use Rattle.entry_walk.specs.First.{NothingBefore, NothingFound, First, by-length, by-record, by-end, by-none}
 use Rattle.entry_walk.proofs.FirstRefused.{refused-first}
 use Rattle.entry_walk.proofs.FirstAlone.{first-alone}
-use Rattle.entry_step.proofs.Numbered.{of-whole}
+use Rattle.paper_entry.proofs.Lengths.{of-whole}
 use Rattle.below.specs.Below.{Agrees}
 use Rattle.below.proofs.Agree.{contexts-agree, nothing-agree, cut-agree, length-exactly}
 use Rattle.below.proofs.Below.{from-two, least-numbered}
 use Rattle.below.proofs.Added.{end-met}
-use Rattle.files_judging.specs.File.{MOST-IN-FILE, fileLengthGood}
+use Rattle.paper_files.specs.File.{MOST-IN-FILE, fileLengthGood}
 use Rattle.files_said.specs.Said.{cut, There}
 use Rattle.files_said.proofs.Inside.{done-some}
 

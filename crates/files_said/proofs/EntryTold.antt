@@ -9,22 +9,22 @@ use lib.ListN.{length}
 use lib.Seq.{take-all}
 use Rattle.laws.specs.Blocks.{blockAt}
 use Rattle.laws.proofs.Search.{either}
-use Rattle.record_names.specs.Identifier.{ENTRY}
-use Rattle.rules_state.specs.Limits.{MOST-RECORDS}
-use Rattle.rules_state.proofs.EitherWay.{no}
-use Rattle.entry_verdict.specs.declared.verdict.Verdict.{Verdict}
-use Rattle.entry_verdict.specs.Verdict.{refused, isDone}
-use Rattle.entry_judging.specs.Judging.{judgeOf, Accepted}
-use Rattle.entry_judging.specs.Contexts.{contextAt}
+use Rattle.paper_record.specs.Identifier.{ENTRY}
+use Rattle.paper_rules.specs.Limits.{MOST-RECORDS}
+use Rattle.paper_rules.proofs.EitherWay.{no}
+use Rattle.paper_entry.specs.declared.types.Verdict.{Verdict}
+use Rattle.paper_entry.specs.Verdict.{refused, isDone}
+use Rattle.paper_entry.specs.Judging.{judgeOf, Accepted}
+use Rattle.paper_entry.specs.Contexts.{contextAt}
 use Rattle.entry_walk.specs.First.{NothingBefore, FirstAt, First, by-length, by-record, by-end, by-none}
 use Rattle.entry_walk.proofs.FirstRefused.{refused-first}
 use Rattle.entry_walk.proofs.FirstAlone.{first-alone}
-use Rattle.entry_step.proofs.Numbered.{of-whole}
+use Rattle.paper_entry.proofs.Lengths.{of-whole}
 use Rattle.below.specs.Below.{Agrees, RecordsWhole}
 use Rattle.below.proofs.Agree.{nothing-agree, cut-agree}
 use Rattle.below.proofs.Below.{least-numbered, first-agree}
 use Rattle.below.proofs.Behind.{behind-end}
-use Rattle.files_judging.specs.File.{nameOf, fileLengthGood}
+use Rattle.paper_files.specs.File.{nameOf, fileLengthGood}
 use Rattle.files_shape.specs.Shape.{Begun}
 use Rattle.files_said.specs.Said.{cut, recordAt, There, FileSaid, in-entry, full, no-endentry}
 use Rattle.files_said.proofs.Inside.{done-some}

@@ -12,24 +12,24 @@ use lib.ListN.{length, drop, length-drop}
 use Rattle.laws.specs.Turns.{go}
 use Rattle.laws.specs.Blocks.{blockAt}
 use Rattle.laws.proofs.Blocks.{next-block}
-use Rattle.columns.specs.Fields.{fieldsOf}
-use Rattle.record_names.specs.Identifier.{ENTRY, ENDTRANS}
-use Rattle.rules_roles.specs.declared.fault.Fault.the-variants.{Fine, At}
-use Rattle.rules_roles.specs.Fault.{firstFault}
-use Rattle.rules_state.specs.declared.state.Totals.{Totals}
-use Rattle.rules_state.specs.State.{Context, startContext}
-use Rattle.rules_state.specs.Limits.{MOST-RECORDS}
-use Rattle.rules_state.proofs.EitherWay.{no}
-use Rattle.rules.specs.Order.{faultOf, Nothing, Least}
-use Rattle.rules.proofs.FaultSaid.{nothing-fine, least-fault}
-use Rattle.entry_verdict.specs.Verdict.{isDone, refusedWithin}
-use Rattle.entry_judging.specs.Judging.{roleOf}
-use Rattle.entry_judging.specs.Contexts.{contextAt}
+use Rattle.paper_record.specs.Fields.{fieldsOf}
+use Rattle.paper_record.specs.Identifier.{ENTRY, ENDTRANS}
+use Rattle.paper_rules.specs.declared.types.Fault.the-variants.{Fine, At}
+use Rattle.paper_rules.specs.Fault.{firstFault}
+use Rattle.paper_rules.specs.declared.types.Totals.{Totals}
+use Rattle.paper_rules.specs.State.{Context, startContext}
+use Rattle.paper_rules.specs.Limits.{MOST-RECORDS}
+use Rattle.paper_rules.proofs.EitherWay.{no}
+use Rattle.paper_rules.specs.Order.{faultOf, Nothing, Least}
+use Rattle.paper_rules.proofs.FaultSaid.{nothing-fine, least-fault}
+use Rattle.paper_entry.specs.Verdict.{isDone, refusedWithin}
+use Rattle.paper_entry.specs.Judging.{roleOf}
+use Rattle.paper_entry.specs.Contexts.{contextAt}
 use Rattle.entry_walk.specs.First.{foundIn, foundAt, NothingBefore}
 use Rattle.entry_walk.proofs.Contexts.{records-at, context-start, context-after}
 use Rattle.below.proofs.Behind.{found-behind}
-use Rattle.files_judging.specs.File.{FileContext, OF-ENTRY, nameOf, closes, fileRole, ordinalOf, added, endedEntry}
-use Rattle.files_judging.specs.File.{behindEntry, fileTurn}
+use Rattle.paper_files.specs.File.{FileContext, OF-ENTRY, nameOf, closes, fileRole, ordinalOf, added, endedEntry}
+use Rattle.paper_files.specs.File.{behindEntry, fileTurn}
 use Rattle.files_said.proofs.Onward.{onward, onward-go, onward-out}
 use Rattle.files_said.proofs.Turns.{standing, inside-go, inside-out, open-inside, open-else, role-inside}
 use Rattle.files_said.proofs.Turns.{ordinal-inside, ordinal-begun}

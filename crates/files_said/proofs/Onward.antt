@@ -9,8 +9,8 @@ use lib.ListN.{length, take, drop, length-drop}
 use Rattle.laws.specs.Turns.{Turn, go, out, after}
 use Rattle.laws.specs.Walk.{walk}
 use Rattle.laws.specs.Blocks.{blocks}
-use Rattle.entry_verdict.specs.declared.verdict.Verdict.{Verdict}
-use Rattle.files_judging.specs.File.{FileContext, startFile, fileTurn, fileEnd, fileLengthGood, judgeFile}
+use Rattle.paper_entry.specs.declared.types.Verdict.{Verdict}
+use Rattle.paper_files.specs.File.{FileContext, startFile, fileTurn, fileEnd, fileLengthGood, judgeFile}
 
 -- the verdict, from the context before what is left
 unfoldable pub onward : FileContext → List ℕ → Verdict

@@ -6,14 +6,14 @@ use mathlib.Core.Bool.{not}
 use mathlib.Core.List.{List}
 use native.Mathlib.Omega.{arith}
 use lib.Dec.{eqb}
-use Rattle.columns.specs.Fields.{n1, n2}
-use Rattle.record_names.specs.Identifier.{TRANS, ENDTRANS}
-use Rattle.record.specs.System.{countOf, isCount, isDate}
-use Rattle.rules_state.proofs.EitherWay.{either-way}
-use Rattle.rules_counts.specs.Counts.{countN1}
-use Rattle.rules.specs.Rising.{Rising, Sorted, no-more, also}
-use Rattle.rules.proofs.Rising.{when-rising, on-rising, before-rising, rising2, rising3, rising4}
-use Rattle.files_outside.specs.Outside.{isTransN1, transForm, rule7Outside, rule8Outside, outsideFindings}
+use Rattle.paper_record.specs.Fields.{n1, n2}
+use Rattle.paper_record.specs.Identifier.{TRANS, ENDTRANS}
+use Rattle.paper_record.specs.System.{countOf, isCount, isDate}
+use Rattle.paper_rules.proofs.EitherWay.{either-way}
+use Rattle.paper_rules.specs.Counts.{countN1}
+use Rattle.paper_rules.specs.Rising.{Rising, Sorted, no-more, also}
+use Rattle.paper_rules.proofs.Rising.{when-rising, on-rising, before-rising, rising2, rising3, rising4}
+use Rattle.paper_files.specs.Outside.{isTransN1, transForm, rule7Outside, rule8Outside, outsideFindings}
 
 module _ (entries role : ℕ) (fs : List (List ℕ)) (r : List ℕ) where
   rising7 : Rising 1 (rule7Outside role fs)

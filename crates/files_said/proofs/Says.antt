@@ -12,20 +12,20 @@ use lib.ListN.{length, take, drop, length-append, length-drop, take-append-drop}
 use lib.Seq.{length-take-le}
 use Rattle.laws.specs.Blocks.{joined}
 use Rattle.laws.proofs.Listing.{all-append, joined-one}
-use Rattle.columns.specs.Fields.{fieldsOf}
-use Rattle.record_names.specs.Identifier.{ENTRY, TRANS, ENDTRANS}
-use Rattle.rules_roles.specs.declared.fault.Fault.{Fault}
-use Rattle.rules_roles.specs.declared.fault.Fault.the-variants.{Fine, At}
-use Rattle.rules_roles.specs.Fault.{firstFault}
-use Rattle.rules_state.specs.Role.{only}
-use Rattle.rules_every.specs.Every.{rule4}
-use Rattle.rules.specs.Order.{Nothing}
-use Rattle.rules.proofs.Least.{first-least}
-use Rattle.rules.proofs.FaultSaid.{first-nothing}
-use Rattle.entry_judging.specs.Judging.{Accepted}
+use Rattle.paper_record.specs.Fields.{fieldsOf}
+use Rattle.paper_record.specs.Identifier.{ENTRY, TRANS, ENDTRANS}
+use Rattle.paper_rules.specs.declared.types.Fault.{Fault}
+use Rattle.paper_rules.specs.declared.types.Fault.the-variants.{Fine, At}
+use Rattle.paper_rules.specs.Fault.{firstFault}
+use Rattle.paper_rules.specs.Role.{only}
+use Rattle.paper_rules.specs.Every.{rule4}
+use Rattle.paper_rules.specs.Order.{Nothing}
+use Rattle.paper_rules.proofs.Least.{first-least}
+use Rattle.paper_rules.proofs.FaultSaid.{first-nothing}
+use Rattle.paper_entry.specs.Judging.{Accepted}
 use Rattle.below.proofs.Behind.{behind-end}
-use Rattle.files_outside.specs.Outside.{outsideFindings}
-use Rattle.files_judging.specs.File.{nameOf, fileLengthGood}
+use Rattle.paper_files.specs.Outside.{outsideFindings}
+use Rattle.paper_files.specs.File.{nameOf, fileLengthGood}
 use Rattle.files_shape.specs.Shape.{GoodOutside, Begun, FileOf}
 use Rattle.files_said.specs.Said.{cut, recordAt, There, FoundOutside, FileSaid, by-length, at-opening, between}
 use Rattle.files_said.specs.Said.{at-ending, behind, no-ending, whole, FileSays}

@@ -13,30 +13,30 @@ use lib.Seq.{take-at, drop-at}
 use Rattle.laws.specs.Walk.{All}
 use Rattle.laws.specs.Turns.{go}
 use Rattle.laws.specs.Blocks.{blockAt, joined}
-use Rattle.columns.specs.Fields.{fieldsOf}
-use Rattle.record_names.specs.Identifier.{ENTRY, TRANS, ENDTRANS}
-use Rattle.rules_roles.specs.Roles.{NOT-DUE}
-use Rattle.rules_state.specs.declared.state.Totals.{Totals}
-use Rattle.rules_state.specs.State.{Context, startContext, noTotals}
-use Rattle.rules_state.specs.Limits.{MOST-RECORDS}
-use Rattle.rules_state.specs.Role.{only, roleIn}
-use Rattle.rules.specs.Order.{Nothing}
-use Rattle.rules.proofs.DueRecords.{fine-due}
-use Rattle.rules.proofs.FaultSaid.{nothing-fine, nothing-first}
-use Rattle.entry_verdict.specs.declared.verdict.Verdict.{Verdict}
-use Rattle.entry_verdict.specs.Verdict.{accepted, isDone}
-use Rattle.entry_judging.specs.Judging.{judgeOf, roleOf, Accepted}
-use Rattle.entry_judging.specs.Contexts.{contextAt}
+use Rattle.paper_record.specs.Fields.{fieldsOf}
+use Rattle.paper_record.specs.Identifier.{ENTRY, TRANS, ENDTRANS}
+use Rattle.paper_rules.specs.Roles.{NOT-DUE}
+use Rattle.paper_rules.specs.declared.types.Totals.{Totals}
+use Rattle.paper_rules.specs.State.{Context, startContext, noTotals}
+use Rattle.paper_rules.specs.Limits.{MOST-RECORDS}
+use Rattle.paper_rules.specs.Role.{only, roleIn}
+use Rattle.paper_rules.specs.Order.{Nothing}
+use Rattle.paper_rules.proofs.DueRecords.{fine-due}
+use Rattle.paper_rules.proofs.FaultSaid.{nothing-fine, nothing-first}
+use Rattle.paper_entry.specs.declared.types.Verdict.{Verdict}
+use Rattle.paper_entry.specs.Verdict.{accepted, isDone}
+use Rattle.paper_entry.specs.Judging.{judgeOf, roleOf, Accepted}
+use Rattle.paper_entry.specs.Contexts.{contextAt}
 use Rattle.entry_walk.specs.First.{foundIn, NothingBefore, by-none}
 use Rattle.entry_walk.proofs.Contexts.{context-start}
 use Rattle.entry_walk.proofs.FirstRefused.{refused-first}
 use Rattle.entry_walk.proofs.FirstAlone.{first-alone}
-use Rattle.entry_step.proofs.Numbered.{whole-records}
+use Rattle.paper_entry.proofs.Lengths.{whole-records}
 use Rattle.below.proofs.Agree.{contexts-agree, nothing-agree, added-agree}
 use Rattle.below.proofs.Added.{end-met}
-use Rattle.files_outside.specs.Outside.{outsideFindings}
-use Rattle.files_judging.specs.declared.stage.Stage.the-variants.{Behind}
-use Rattle.files_judging.specs.File.{startFile, nameOf, added, atStage, fileTurn}
+use Rattle.paper_files.specs.Outside.{outsideFindings}
+use Rattle.paper_files.specs.declared.types.Stage.the-variants.{Behind}
+use Rattle.paper_files.specs.File.{startFile, nameOf, added, atStage, fileTurn}
 use Rattle.files_shape.specs.Shape.{GoodOutside, totalsOf, Begun}
 use Rattle.files_said.proofs.Outside.{outside-rises}
 use Rattle.files_said.proofs.Onward.{onward, onward-go}

@@ -9,24 +9,24 @@ use borrow.Author.Tests.{eqb-true, leb-true, ne-eqb, le-leb, lt-leb}
 use lib.Dec.{eqb, leb}
 use Rattle.laws.specs.Turns.{go, out}
 use Rattle.laws.proofs.Booleans.{and-none}
-use Rattle.columns_places.specs.Places.{recordOf}
-use Rattle.columns.specs.Fields.{fieldsOf}
-use Rattle.record_names.specs.Identifier.{ENTRY, TRANS, ENDTRANS}
-use Rattle.rules_roles.specs.declared.fault.Fault.the-variants.{Fine, At}
-use Rattle.rules_roles.specs.Roles.{NOT-DUE}
-use Rattle.rules_roles.specs.Fault.{firstFault}
-use Rattle.rules_state.specs.declared.state.Totals.{Totals}
-use Rattle.rules_state.specs.State.{Context, startContext}
-use Rattle.rules_state.specs.Limits.{MOST-RECORDS}
-use Rattle.rules_state.specs.Role.{only}
-use Rattle.rules_state.proofs.EitherWay.{either-way}
-use Rattle.entry_verdict.specs.Verdict.{refusedWithin}
-use Rattle.entry_judging.specs.Contexts.{behind}
+use Rattle.paper_record.specs.Places.{recordOf}
+use Rattle.paper_record.specs.Fields.{fieldsOf}
+use Rattle.paper_record.specs.Identifier.{ENTRY, TRANS, ENDTRANS}
+use Rattle.paper_rules.specs.declared.types.Fault.the-variants.{Fine, At}
+use Rattle.paper_rules.specs.Roles.{NOT-DUE}
+use Rattle.paper_rules.specs.Fault.{firstFault}
+use Rattle.paper_rules.specs.declared.types.Totals.{Totals}
+use Rattle.paper_rules.specs.State.{Context, startContext}
+use Rattle.paper_rules.specs.Limits.{MOST-RECORDS}
+use Rattle.paper_rules.specs.Role.{only}
+use Rattle.paper_rules.proofs.EitherWay.{either-way}
+use Rattle.paper_entry.specs.Verdict.{refusedWithin}
+use Rattle.paper_entry.specs.Contexts.{behind}
 use Rattle.entry_walk.specs.First.{foundIn}
-use Rattle.files_outside.specs.Outside.{outsideFindings}
-use Rattle.files_judging.specs.declared.stage.Stage.the-variants.{Within, Behind}
-use Rattle.files_judging.specs.File.{FileContext, startFile, OF-ENTRY, nameOf, closes, fileRole, fileFindings}
-use Rattle.files_judging.specs.File.{ordinalOf, atStage, behindEntry, fileAfter, onFileFault, fileTurn}
+use Rattle.paper_files.specs.Outside.{outsideFindings}
+use Rattle.paper_files.specs.declared.types.Stage.the-variants.{Within, Behind}
+use Rattle.paper_files.specs.File.{FileContext, startFile, OF-ENTRY, nameOf, closes, fileRole, fileFindings}
+use Rattle.paper_files.specs.File.{ordinalOf, atStage, behindEntry, fileAfter, onFileFault, fileTurn}
 
 -- ---- the turn by the role
 

@@ -8,18 +8,18 @@ use mathlib.Core.Bool.{true, false}
 use mathlib.Core.List.{List, [], _++_}
 use lib.ListN.{length, take}
 use Rattle.laws.specs.Blocks.{blockAt}
-use Rattle.columns.specs.Fields.{fieldsOf}
-use Rattle.record_names.specs.Identifier.{ENTRY, TRANS, ENDTRANS}
-use Rattle.rules_state.specs.Limits.{MOST-RECORDS}
-use Rattle.rules_state.specs.Role.{only}
-use Rattle.rules.specs.Order.{Least}
-use Rattle.entry_verdict.specs.declared.verdict.Verdict.{Verdict}
-use Rattle.entry_verdict.specs.Verdict.{refused, refusedWithin, accepted}
-use Rattle.entry_judging.specs.Judging.{judgeOf, Accepted}
+use Rattle.paper_record.specs.Fields.{fieldsOf}
+use Rattle.paper_record.specs.Identifier.{ENTRY, TRANS, ENDTRANS}
+use Rattle.paper_rules.specs.Limits.{MOST-RECORDS}
+use Rattle.paper_rules.specs.Role.{only}
+use Rattle.paper_rules.specs.Order.{Least}
+use Rattle.paper_entry.specs.declared.types.Verdict.{Verdict}
+use Rattle.paper_entry.specs.Verdict.{refused, refusedWithin, accepted}
+use Rattle.paper_entry.specs.Judging.{judgeOf, Accepted}
 use Rattle.below.specs.Below.{AtRecord}
 use Rattle.below.specs.Added.{BehindEnd}
-use Rattle.files_outside.specs.Outside.{outsideFindings}
-use Rattle.files_judging.specs.File.{nameOf, fileLengthGood, judgeFile, AcceptedFile}
+use Rattle.paper_files.specs.Outside.{outsideFindings}
+use Rattle.paper_files.specs.File.{nameOf, fileLengthGood, judgeFile, AcceptedFile}
 use Rattle.files_shape.specs.Shape.{totalsOf, Begun, FileOf}
 
 -- the records that stand before `rest` in s

@@ -12,31 +12,31 @@ use Rattle.laws.proofs.Search.{pass-first}
 use Rattle.laws.proofs.Counting.{first-before}
 use Rattle.laws.proofs.Booleans.{and-left, and-right, and-both}
 use Rattle.laws.proofs.Walk.{all-at}
-use Rattle.columns.specs.Columns.{hasLineFeed}
-use Rattle.columns.specs.Fields.{fieldsOf, fieldAt, n1, n2}
-use Rattle.columns.specs.Text.{isCapital, isDigit}
-use Rattle.columns.proofs.ReadColumns.{field-of}
-use Rattle.classes.specs.Class.{isPermitted, notPermitted}
-use Rattle.record_words.specs.Word.{blankTo}
-use Rattle.record_names.specs.Identifier.{TRANS, ENDTRANS, OTHER}
-use Rattle.record_names.specs.PlainNames.{Named}
-use Rattle.record_names.proofs.PlainNames.{name-exactly}
-use Rattle.record.specs.declared.system.Count.{Count}
-use Rattle.record.specs.declared.system.Count.the-variants.{Number, Bad}
-use Rattle.record.specs.System.{countOf, isCount, numberOf, isDate}
-use Rattle.record.specs.Plain.{CapitalOrDigit, CountSays}
-use Rattle.record.proofs.PlainColumns.{blank-exactly}
-use Rattle.record.proofs.PlainDigits.{count-exactly, date-exactly, mark-exactly}
-use Rattle.rules_roles.specs.Roles.{NOT-DUE}
-use Rattle.rules_roles.specs.Fault.{Finding}
-use Rattle.rules_state.proofs.EitherWay.{no}
-use Rattle.rules_every.specs.Every.{rule2, rule3, rule4}
-use Rattle.rules_counts.specs.Counts.{countN1}
-use Rattle.rules.specs.Order.{noFinding}
-use Rattle.rules.proofs.NoColumns.{when-none, none-when, whens-none, where-none, none-where}
-use Rattle.rules.proofs.Least.{Empty}
-use Rattle.files_outside.specs.Outside.{noMark, marksIn, isTransN1, transForm, rule7Outside, rule8Outside}
-use Rattle.files_outside.specs.Outside.{outsideFindings}
+use Rattle.paper_record.specs.Columns.{hasLineFeed}
+use Rattle.paper_record.specs.Fields.{fieldsOf, fieldAt, n1, n2}
+use Rattle.paper_record.specs.Text.{isCapital, isDigit}
+use Rattle.paper_record.proofs.ReadColumns.{field-of}
+use Rattle.paper_record.specs.Class.{isPermitted, notPermitted}
+use Rattle.paper_record.specs.Word.{blankTo}
+use Rattle.paper_record.specs.Identifier.{TRANS, ENDTRANS, OTHER}
+use Rattle.paper_record.specs.PlainNames.{Named}
+use Rattle.paper_record.proofs.PlainNames.{name-exactly}
+use Rattle.paper_record.specs.declared.types.Count.{Count}
+use Rattle.paper_record.specs.declared.types.Count.the-variants.{Number, Bad}
+use Rattle.paper_record.specs.System.{countOf, isCount, numberOf, isDate}
+use Rattle.paper_record.specs.Plain.{CapitalOrDigit, CountSays}
+use Rattle.paper_record.proofs.PlainColumns.{blank-exactly}
+use Rattle.paper_record.proofs.PlainDigits.{count-exactly, date-exactly, mark-exactly}
+use Rattle.paper_rules.specs.Roles.{NOT-DUE}
+use Rattle.paper_rules.specs.Fault.{Finding}
+use Rattle.paper_rules.proofs.EitherWay.{no}
+use Rattle.paper_rules.specs.Every.{rule2, rule3, rule4}
+use Rattle.paper_rules.specs.Counts.{countN1}
+use Rattle.paper_rules.specs.Order.{noFinding}
+use Rattle.paper_rules.proofs.NoColumns.{when-none, none-when, whens-none, where-none, none-where}
+use Rattle.paper_rules.proofs.Least.{Empty}
+use Rattle.paper_files.specs.Outside.{noMark, marksIn, isTransN1, transForm, rule7Outside, rule8Outside}
+use Rattle.paper_files.specs.Outside.{outsideFindings}
 use Rattle.files_shape.specs.Shape.{GoodOutside}
 use Rattle.files_shape.specs.PlainShape.{Outer, TransN1, GoodTrans, GoodEndtrans, TransExactly, EndtransExactly}
 

@@ -11,12 +11,12 @@ use mathlib.Core.Bool.{true}
 use mathlib.Core.Logic.{_↔_}
 use mathlib.Core.List.{List}
 use lib.ListN.{length, getD}
-use Rattle.columns.specs.Columns.{hasLineFeed}
-use Rattle.columns.specs.Fields.{fieldAt}
-use Rattle.classes.specs.Class.{isPermitted}
-use Rattle.record_names.specs.Identifier.{TRANS, ENDTRANS}
-use Rattle.record_names.specs.PlainNames.{Named}
-use Rattle.record.specs.Plain.{BlankColumns, CapitalOrDigit, Date, CountSays}
+use Rattle.paper_record.specs.Columns.{hasLineFeed}
+use Rattle.paper_record.specs.Fields.{fieldAt}
+use Rattle.paper_record.specs.Class.{isPermitted}
+use Rattle.paper_record.specs.Identifier.{TRANS, ENDTRANS}
+use Rattle.paper_record.specs.PlainNames.{Named}
+use Rattle.paper_record.specs.Plain.{BlankColumns, CapitalOrDigit, Date, CountSays}
 use Rattle.files_shape.specs.Shape.{GoodOutside}
 
 -- 81 bytes, the last a line feed, the others permitted; its columns 1-11 are the name

@@ -10,14 +10,14 @@ use mathlib.Core.List.{List, [], _∷_, _++_}
 use lib.ListN.{length}
 use Rattle.laws.specs.Walk.{All}
 use Rattle.laws.specs.Blocks.{joined}
-use Rattle.columns.specs.Fields.{fieldsOf}
-use Rattle.record_names.specs.Identifier.{TRANS, ENDTRANS}
-use Rattle.rules_state.specs.declared.state.Totals.{Totals}
-use Rattle.rules_state.specs.State.{noTotals}
-use Rattle.rules.specs.Order.{Nothing}
-use Rattle.entry_judging.specs.Judging.{judgeOf, Accepted}
-use Rattle.files_outside.specs.Outside.{outsideFindings}
-use Rattle.files_judging.specs.File.{MOST-IN-FILE, nameOf, added}
+use Rattle.paper_record.specs.Fields.{fieldsOf}
+use Rattle.paper_record.specs.Identifier.{TRANS, ENDTRANS}
+use Rattle.paper_rules.specs.declared.types.Totals.{Totals}
+use Rattle.paper_rules.specs.State.{noTotals}
+use Rattle.paper_rules.specs.Order.{Nothing}
+use Rattle.paper_entry.specs.Judging.{judgeOf, Accepted}
+use Rattle.paper_files.specs.Outside.{outsideFindings}
+use Rattle.paper_files.specs.File.{MOST-IN-FILE, nameOf, added}
 
 -- TRANS or ENDTRANS, with so many entries before it: a record with that name on which the rules find nothing
 pub record GoodOutside (name entries : ℕ) (r : List ℕ) : Type 0 where

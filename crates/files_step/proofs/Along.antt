@@ -13,21 +13,21 @@ use Rattle.laws.specs.Turns.{Turn}
 use Rattle.laws.specs.Blocks.{blockAt}
 use Rattle.laws.proofs.Blocks.{run-walk}
 use Rattle.laws.proofs.Turns.{Run, run-all, run-next, run-out, run-done}
-use Rattle.columns.specs.Columns.{Whole}
-use Rattle.columns_places.specs.Places.{recordOf}
-use Rattle.columns_places.specs.declared.places.RecordNo.{RecordNo}
-use Rattle.rules_roles.specs.declared.fault.Fault.{Fault}
-use Rattle.rules_roles.specs.declared.fault.Fault.the-variants.{Fine, At}
-use Rattle.entry_verdict.specs.declared.verdict.Verdict.{Verdict}
-use Rattle.entry_verdict.specs.Verdict.{refusedWithin}
-use Rattle.entry_step.proofs.Numbered.{whole-up-to}
+use Rattle.paper_record.specs.Columns.{Whole}
+use Rattle.paper_record.specs.Places.{recordOf}
+use Rattle.paper_record.specs.declared.types.RecordNo.{RecordNo}
+use Rattle.paper_rules.specs.declared.types.Fault.{Fault}
+use Rattle.paper_rules.specs.declared.types.Fault.the-variants.{Fine, At}
+use Rattle.paper_entry.specs.declared.types.Verdict.{Verdict}
+use Rattle.paper_entry.specs.Verdict.{refusedWithin}
+use Rattle.paper_entry.proofs.Lengths.{whole-up-to}
 use Rattle.entry_step.proofs.Stepping.{stood-start}
-use Rattle.files_judging.specs.File.{FileContext, MOST-IN-FILE, startFile, fileFault, fileAfter, ordinalOf, fileTurn}
-use Rattle.files_judging.specs.File.{fileEnd, fileLengthGood, judgeFile}
-use Rattle.files_step.specs.declared.state.File.{File}
-use Rattle.files_step.specs.declared.step.FileStep.{FileStep}
-use Rattle.files_step.specs.ByNumbers.{contextOf, startState, nextState, onwards, fileStepOf, ownRecords}
-use Rattle.files_step.specs.ByNumbers.{ownBytes, FileReady}
+use Rattle.paper_files.specs.File.{FileContext, MOST-IN-FILE, startFile, fileFault, fileAfter, ordinalOf, fileTurn}
+use Rattle.paper_files.specs.File.{fileEnd, fileLengthGood, judgeFile}
+use Rattle.files_state.specs.declared.state.File.{File}
+use Rattle.files_state.specs.declared.state.FileStep.{FileStep}
+use Rattle.files_state.specs.ByNumbers.{contextOf, startState, nextState, onwards, fileStepOf, ownRecords}
+use Rattle.files_state.specs.ByNumbers.{ownBytes, FileReady}
 use Rattle.files_step.specs.Along.{turnAt, Along, Ahead}
 use Rattle.files_step.proofs.Onward.{FileNext, ownPart, state-next}
 

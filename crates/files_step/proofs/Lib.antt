@@ -1,5 +1,4 @@
 pub mod Along
 pub mod Onward
 pub mod Steps
-pub mod Sums
 pub mod Over

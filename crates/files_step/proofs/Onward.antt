@@ -7,24 +7,24 @@ use mathlib.Core.List.{List, [], _++_}
 use native.Mathlib.Omega.{arith}
 use borrow.Author.Tests.{ne-eqb, eqb-true}
 use lib.Dec.{eqb}
-use Rattle.columns.specs.Columns.{Whole}
-use Rattle.record_names.specs.Identifier.{TRANS}
-use Rattle.rules_state.specs.Limits.{MOST-RECORDS}
-use Rattle.entry_verdict.specs.Verdict.{isDone}
-use Rattle.entry_judging.specs.Contexts.{behind}
+use Rattle.paper_record.specs.Columns.{Whole}
+use Rattle.paper_record.specs.Identifier.{TRANS}
+use Rattle.paper_rules.specs.Limits.{MOST-RECORDS}
+use Rattle.paper_entry.specs.Verdict.{isDone}
+use Rattle.paper_entry.specs.Contexts.{behind}
 use Rattle.entry_step.specs.declared.step.Judge.{Judge}
 use Rattle.entry_step.specs.ByRanges.{contextOf as entryOf, Ready}
 use Rattle.entry_step.proofs.Stepping.{Stood, stood-start, stood-next, context-next}
-use Rattle.files_judging.specs.declared.stage.Stage.{Stage}
-use Rattle.files_judging.specs.declared.stage.Stage.the-variants.{Within, Behind}
-use Rattle.files_judging.specs.File.{FileContext, MOST-IN-FILE, OF-ENTRY, atStage, behindEntry, fileRole, fileAfter}
-use Rattle.files_judging.specs.File.{endedEntry, withinEntry}
-use Rattle.files_roles.proofs.Roles.{role-room}
-use Rattle.files_step.specs.declared.state.File.{File}
-use Rattle.files_step.specs.ByNumbers.{contextOf, stateAt, endedState, withinState, behindState, stateOutside}
-use Rattle.files_step.specs.ByNumbers.{judgeBehind, nextState, ownRecords, Sane, FileReady, Room}
+use Rattle.paper_files.specs.declared.types.Stage.{Stage}
+use Rattle.paper_files.specs.declared.types.Stage.the-variants.{Within, Behind}
+use Rattle.paper_files.specs.File.{FileContext, MOST-IN-FILE, OF-ENTRY, atStage, behindEntry, fileRole, fileAfter}
+use Rattle.paper_files.specs.File.{endedEntry, withinEntry}
+use Rattle.paper_files.proofs.Roles.{role-room}
+use Rattle.files_state.specs.declared.state.File.{File}
+use Rattle.files_state.specs.ByNumbers.{contextOf, stateAt, endedState, withinState, behindState, stateOutside}
+use Rattle.files_state.specs.ByNumbers.{judgeBehind, nextState, ownRecords, Sane, FileReady, Room}
 use Rattle.files_step.specs.Along.{FileStood}
-use Rattle.files_step.proofs.Sums.{room, ended-sane, within-sane, stage-sane}
+use Rattle.files_state.proofs.Sums.{room, ended-sane, within-sane, stage-sane}
 
 -- what of `both` belongs to the entry in hand
 abbrev pub ownPart : File → List ℕ → List ℕ

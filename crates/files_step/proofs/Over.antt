@@ -7,24 +7,24 @@ use native.Mathlib.Omega.{arith}
 use lib.ListN.{length}
 use Rattle.laws.specs.Blocks.{blockAt}
 use Rattle.laws.proofs.Search.{either}
-use Rattle.rules_roles.specs.declared.fault.Fault.{Fault}
-use Rattle.rules_roles.specs.declared.fault.Fault.the-variants.{Fine, At}
-use Rattle.rules_state.specs.Limits.{MOST-RECORDS}
-use Rattle.rules_state.specs.Ranging.{Stands}
-use Rattle.entry_verdict.specs.Verdict.{isDone}
+use Rattle.paper_rules.specs.declared.types.Fault.{Fault}
+use Rattle.paper_rules.specs.declared.types.Fault.the-variants.{Fine, At}
+use Rattle.paper_rules.specs.Limits.{MOST-RECORDS}
+use Rattle.paper_rules.specs.Ranging.{Stands}
+use Rattle.paper_entry.specs.Verdict.{isDone}
 use Rattle.entry_step.specs.declared.step.Judge.{Judge}
 use Rattle.entry_step.specs.declared.step.Step.{Step}
 use Rattle.entry_step.specs.ByRanges.{stepOf, Ready}
-use Rattle.files_judging.specs.declared.stage.Stage.the-variants.{Within}
-use Rattle.files_judging.specs.File.{OF-ENTRY, fileRole, fileFault}
-use Rattle.files_roles.specs.Numbers.{numbersOf}
-use Rattle.files_roles.proofs.Roles.{role-numbers, role-room, role-stage, role-on}
-use Rattle.files_step.specs.declared.state.File.{File}
-use Rattle.files_step.specs.declared.step.FileStep.{FileStep}
-use Rattle.files_step.specs.ByNumbers.{contextOf, stateOn, withinState, endedState, behindState, onwards}
-use Rattle.files_step.specs.ByNumbers.{stepEntry, stepOutside, fileStepOf, nextState, ownBytes, Room, FileReady}
+use Rattle.paper_files.specs.declared.types.Stage.the-variants.{Within}
+use Rattle.paper_files.specs.File.{OF-ENTRY, fileRole, fileFault}
+use Rattle.paper_files.specs.Numbers.{numbersOf}
+use Rattle.paper_files.proofs.Roles.{role-numbers, role-room, role-stage, role-on}
+use Rattle.files_state.specs.declared.state.File.{File}
+use Rattle.files_state.specs.declared.state.FileStep.{FileStep}
+use Rattle.files_state.specs.ByNumbers.{contextOf, stateOn, withinState, endedState, behindState, onwards}
+use Rattle.files_state.specs.ByNumbers.{stepEntry, stepOutside, fileStepOf, nextState, ownBytes, Room, FileReady}
 use Rattle.files_step.specs.Along.{Along, Ahead, Gone}
-use Rattle.files_step.proofs.Sums.{room}
+use Rattle.files_state.proofs.Sums.{room}
 use Rattle.files_step.proofs.Steps.{entry-step, outside-step}
 use Rattle.files_step.proofs.Along.{along-ready, along-next}
 

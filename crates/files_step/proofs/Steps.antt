@@ -4,21 +4,21 @@ use Prim.Native.Nat.{ℕ, _<_}
 use mathlib.Core.Path.{_≡_, refl, sym, _∙_}
 use mathlib.Core.List.{List}
 use borrow.Author.Tests.{ne-eqb}
-use Rattle.rules_roles.specs.declared.fault.Fault.{Fault}
-use Rattle.rules_roles.specs.declared.fault.Fault.the-variants.{Fine, At}
-use Rattle.rules_roles.specs.Roles.{Role}
-use Rattle.rules_roles.specs.Fault.{firstFault}
-use Rattle.rules_state.specs.Limits.{MOST-RECORDS}
-use Rattle.rules.specs.Order.{faultOf}
+use Rattle.paper_rules.specs.declared.types.Fault.{Fault}
+use Rattle.paper_rules.specs.declared.types.Fault.the-variants.{Fine, At}
+use Rattle.paper_rules.specs.Roles.{Role}
+use Rattle.paper_rules.specs.Fault.{firstFault}
+use Rattle.paper_rules.specs.Limits.{MOST-RECORDS}
+use Rattle.paper_rules.specs.Order.{faultOf}
 use Rattle.entry_step.specs.ByRanges.{contextOf as entryOf, stepFor as entryStep, stepAs, stepOf}
 use Rattle.entry_walk.specs.First.{foundIn}
-use Rattle.files_outside.specs.Outside.{outsideFault}
-use Rattle.files_judging.specs.File.{OF-ENTRY, fileRole, fileFindings}
-use Rattle.files_roles.specs.Numbers.{numbersOf}
-use Rattle.files_roles.proofs.Roles.{role-numbers, role-room}
-use Rattle.files_step.specs.declared.state.File.{File}
-use Rattle.files_step.specs.ByNumbers.{contextOf, behindState, judgeBehind, nextState, stepFor, stepEntry}
-use Rattle.files_step.specs.ByNumbers.{stepOutside, fileStepOf, ownRecords}
+use Rattle.paper_files.specs.Outside.{outsideFault}
+use Rattle.paper_files.specs.File.{OF-ENTRY, fileRole, fileFindings}
+use Rattle.paper_files.specs.Numbers.{numbersOf}
+use Rattle.paper_files.proofs.Roles.{role-numbers, role-room}
+use Rattle.files_state.specs.declared.state.File.{File}
+use Rattle.files_state.specs.ByNumbers.{contextOf, behindState, judgeBehind, nextState, stepFor, stepEntry}
+use Rattle.files_state.specs.ByNumbers.{stepOutside, fileStepOf, ownRecords}
 
 module _ (before : List ℕ) (f : File) (r : List ℕ) (role : Role)
     (same : role ≡ fileRole (numbersOf (f .stage) (f .entries) (f .judge .track .records)) r) where

@@ -6,13 +6,13 @@ use lib.ListN.{length}
 use Rattle.laws.specs.Turns.{Turn}
 use Rattle.laws.specs.Blocks.{blockAt}
 use Rattle.laws.proofs.Turns.{Run}
-use Rattle.rules_roles.specs.declared.fault.Fault.{Fault}
-use Rattle.rules_roles.specs.declared.fault.Fault.the-variants.{Fine, At}
-use Rattle.entry_verdict.specs.declared.verdict.Verdict.{Verdict}
+use Rattle.paper_rules.specs.declared.types.Fault.{Fault}
+use Rattle.paper_rules.specs.declared.types.Fault.the-variants.{Fine, At}
+use Rattle.paper_entry.specs.declared.types.Verdict.{Verdict}
 use Rattle.entry_step.proofs.Stepping.{Stood}
-use Rattle.files_judging.specs.File.{FileContext, MOST-IN-FILE, fileFault, fileTurn, fileEnd, judgeFile}
-use Rattle.files_step.specs.declared.state.File.{File}
-use Rattle.files_step.specs.ByNumbers.{contextOf, ownBytes, Sane}
+use Rattle.paper_files.specs.File.{FileContext, MOST-IN-FILE, fileFault, fileTurn, fileEnd, judgeFile}
+use Rattle.files_state.specs.declared.state.File.{File}
+use Rattle.files_state.specs.ByNumbers.{contextOf, ownBytes, Sane}
 
 -- what holds between two records, where `before` is what the entry in hand has before the next
 pub record FileStood (before : List ℕ) (f : File) : Type 0 where

@@ -1,2 +1,1 @@
-pub mod ByNumbers
 pub mod Along

@@ -1,4 +1,2 @@
-// One record of a file after the other: each step takes the state so far and hands back the next.
-pub mod state;
+// From one record of a file on: the records of an entry, or one that belongs to none.
 pub mod step;
-pub mod verdict;

@@ -10,15 +10,15 @@ use lib.ListN.{length, length-append}
 use borrow.Author.Tests.{eqb-true, eq-eqb, ne-eqb}
 use Rattle.laws.proofs.Booleans.{differ}
 use Rattle.laws.specs.Walk.{All}
-use Rattle.record_names.specs.Identifier.{SUBENT, NOSUBENT, ENDENTRY}
-use Rattle.rules_state.specs.declared.state.Phase.the-variants.{Between, Done}
-use Rattle.rules_state.specs.declared.state.Totals.{Totals}
-use Rattle.rules_state.specs.State.{Context}
-use Rattle.rules_state.specs.Limits.{LAST-SUBENTRY}
-use Rattle.rules_roles.specs.Roles.{NOT-DUE}
-use Rattle.rules_state.specs.Role.{nextRole, roleIn, either as oneOf}
-use Rattle.entry_judging.specs.Judging.{roleOf}
-use Rattle.entry_verdict.specs.Verdict.{isDone}
+use Rattle.paper_record.specs.Identifier.{SUBENT, NOSUBENT, ENDENTRY}
+use Rattle.paper_rules.specs.declared.types.Phase.the-variants.{Between, Done}
+use Rattle.paper_rules.specs.declared.types.Totals.{Totals}
+use Rattle.paper_rules.specs.State.{Context}
+use Rattle.paper_rules.specs.Limits.{LAST-SUBENTRY}
+use Rattle.paper_rules.specs.Roles.{NOT-DUE}
+use Rattle.paper_rules.specs.Role.{nextRole, roleIn, either as oneOf}
+use Rattle.paper_entry.specs.Judging.{roleOf}
+use Rattle.paper_entry.specs.Verdict.{isDone}
 use Rattle.good.specs.Parts.{Record, Subentry001, Subentry, nosubent, subent, bodyOf, laterRecords}
 use Rattle.good.specs.Parts.{subentriesRecords}
 use Rattle.good.specs.Marks.{nameOf}

@@ -7,19 +7,19 @@ use native.Mathlib.Omega.{arith}
 use lib.ListN.{length, length-append}
 use borrow.Author.Tests.{eq-eqb, leb-true, le-leb}
 use Rattle.laws.specs.Blocks.{joined}
-use Rattle.columns.specs.Fields.{fieldsOf, n1}
-use Rattle.record_names.specs.Identifier.{BIB, NOBIB, ENDBIB}
-use Rattle.rules_state.specs.declared.state.Phase.the-variants.{InSubentry, InBib, AfterBib}
-use Rattle.rules_state.specs.State.{Context}
-use Rattle.rules_roles.specs.Roles.{TEXT}
-use Rattle.rules_state.specs.Role.{only, roleIn, bibRole, either as oneOf}
-use Rattle.rules_every.specs.Every.{expectedIdentification, expectedSequence}
-use Rattle.rules_counts.specs.Counts.{limitN1, limitN2, meets, trueCount, countN1, countN2}
-use Rattle.entry_next.specs.Next.{contextAfter}
-use Rattle.entry_next.specs.Due.{phaseAfter}
-use Rattle.entry_counted.specs.Counted.{trackAfter, afterSystem}
-use Rattle.entry_next.specs.Parts.{seenAfter, partAfter, bibChange, underChange}
-use Rattle.entry_judging.specs.Judging.{roleOf}
+use Rattle.paper_record.specs.Fields.{fieldsOf, n1}
+use Rattle.paper_record.specs.Identifier.{BIB, NOBIB, ENDBIB}
+use Rattle.paper_rules.specs.declared.types.Phase.the-variants.{InSubentry, InBib, AfterBib}
+use Rattle.paper_rules.specs.State.{Context}
+use Rattle.paper_rules.specs.Roles.{TEXT}
+use Rattle.paper_rules.specs.Role.{only, roleIn, bibRole, either as oneOf}
+use Rattle.paper_rules.specs.Every.{expectedIdentification, expectedSequence}
+use Rattle.paper_rules.specs.Counts.{limitN1, limitN2, meets, trueCount, countN1, countN2}
+use Rattle.paper_entry.specs.Next.{contextAfter}
+use Rattle.paper_entry.specs.Due.{phaseAfter}
+use Rattle.paper_entry.specs.Counted.{trackAfter, afterSystem}
+use Rattle.paper_entry.specs.Parts.{seenAfter, partAfter, bibChange, underChange}
+use Rattle.paper_entry.specs.Judging.{roleOf}
 use Rattle.good.specs.Parts.{Record, Bib, Section, present, absent, textsOf, bibRecords}
 use Rattle.good.specs.Marks.{nameOf, CountIs}
 use Rattle.good.specs.Bib.{GoodBibPart, textsOfPart}

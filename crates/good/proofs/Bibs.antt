@@ -8,16 +8,16 @@ use native.Mathlib.Nat.{zero-add}
 use lib.ListN.{length}
 use borrow.Author.Tests.{eqb-true}
 use Rattle.laws.specs.Blocks.{joined}
-use Rattle.columns.specs.Fields.{fieldsOf, n1, n2}
-use Rattle.record_names.specs.Identifier.{BIB, NOBIB, ENDBIB}
-use Rattle.record_words.specs.Word.{equalTo}
-use Rattle.record_words.specs.Same.{SameColumns}
-use Rattle.record.proofs.PlainColumns.{equal-exactly}
-use Rattle.rules_state.specs.declared.state.Phase.the-variants.{InSubentry}
-use Rattle.rules_state.specs.State.{Context}
-use Rattle.rules_roles.specs.Roles.{TEXT}
-use Rattle.rules_counts.specs.Counts.{trueCount, countN1, countN2}
-use Rattle.entry_verdict.specs.Verdict.{isDone}
+use Rattle.paper_record.specs.Fields.{fieldsOf, n1, n2}
+use Rattle.paper_record.specs.Identifier.{BIB, NOBIB, ENDBIB}
+use Rattle.paper_record.specs.Word.{equalTo}
+use Rattle.paper_record.specs.Same.{SameColumns}
+use Rattle.paper_record.proofs.PlainColumns.{equal-exactly}
+use Rattle.paper_rules.specs.declared.types.Phase.the-variants.{InSubentry}
+use Rattle.paper_rules.specs.State.{Context}
+use Rattle.paper_rules.specs.Roles.{TEXT}
+use Rattle.paper_rules.specs.Counts.{trueCount, countN1, countN2}
+use Rattle.paper_entry.specs.Verdict.{isDone}
 use Rattle.good.specs.Parts.{Record, Bib, Section, present, absent, textsOf, bibRecords}
 use Rattle.good.specs.Marks.{Marked, Following, nameOf}
 use Rattle.good.specs.Bib.{GoodBibPart, keywordPlaces}

@@ -14,15 +14,15 @@ use Rattle.laws.specs.Walk.{All}
 use Rattle.laws.specs.Blocks.{joined}
 use Rattle.laws.proofs.Booleans.{differ}
 use Rattle.laws.proofs.Search.{either}
-use Rattle.columns.specs.Fields.{fieldAt, fieldsOf}
-use Rattle.columns.proofs.ReadColumns.{field-of}
-use Rattle.record_words.specs.Word.{equalTo}
-use Rattle.record_words.specs.Same.{SameColumns}
-use Rattle.record_repeats.specs.Repeats.{mayRepeat}
-use Rattle.record_repeats.specs.PlainRepeats.{MayRepeat}
-use Rattle.record_repeats.proofs.PlainRepeats.{repeat-exactly}
-use Rattle.record.proofs.PlainColumns.{equal-exactly}
-use Rattle.rules_repeats.specs.Repeats.{headingRepeated}
+use Rattle.paper_record.specs.Fields.{fieldAt, fieldsOf}
+use Rattle.paper_record.proofs.ReadColumns.{field-of}
+use Rattle.paper_record.specs.Word.{equalTo}
+use Rattle.paper_record.specs.Same.{SameColumns}
+use Rattle.paper_record.specs.Repeats.{mayRepeat}
+use Rattle.paper_record.specs.PlainRepeats.{MayRepeat}
+use Rattle.paper_record.proofs.PlainRepeats.{repeat-exactly}
+use Rattle.paper_record.proofs.PlainColumns.{equal-exactly}
+use Rattle.paper_rules.specs.Repeats.{headingRepeated}
 use Rattle.rules_plain.specs.Places.{cell, Long}
 use Rattle.rules_plain.specs.Repeated.{RecordsBefore, LongHeadings, headingsOn, tableSoFar, SameIn, leftIn}
 use Rattle.rules_plain.specs.Repeated.{Repeated, elsewhere, not-listed, apart}

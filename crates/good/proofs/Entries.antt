@@ -6,13 +6,13 @@ use mathlib.Core.List.{List, [], _∷_, _++_}
 use native.Mathlib.Omega.{arith}
 use native.Mathlib.Nat.{zero-add}
 use lib.ListN.{length}
-use Rattle.record_names.specs.Identifier.{ENTRY}
-use Rattle.record_expected.specs.Expected.{accessionOf}
-use Rattle.rules_state.specs.declared.state.Phase.the-variants.{Start}
-use Rattle.rules_state.specs.State.{Context, startContext}
-use Rattle.rules_state.specs.Role.{only, roleIn}
-use Rattle.entry_judging.specs.Judging.{roleOf}
-use Rattle.entry_verdict.specs.Verdict.{isDone}
+use Rattle.paper_record.specs.Identifier.{ENTRY}
+use Rattle.paper_record.specs.Expected.{accessionOf}
+use Rattle.paper_rules.specs.declared.types.Phase.the-variants.{Start}
+use Rattle.paper_rules.specs.State.{Context, startContext}
+use Rattle.paper_rules.specs.Role.{only, roleIn}
+use Rattle.paper_entry.specs.Judging.{roleOf}
+use Rattle.paper_entry.specs.Verdict.{isDone}
 use Rattle.good.specs.Parts.{Record, Entry, firstRecords, subentriesRecords, recordsOf}
 use Rattle.good.specs.Marks.{nameOf}
 use Rattle.good.specs.Good.{GoodEntry, subentriesOf}

@@ -9,13 +9,13 @@ use borrow.Author.Tests.{eq-eqb}
 use Rattle.laws.specs.Blocks.{joined}
 use Rattle.laws.specs.Members.{listOf}
 use Rattle.laws.proofs.Listing.{all-left, all-right}
-use Rattle.record_names.specs.Identifier.{SUBENT, ENDSUBENT}
-use Rattle.record_expected.specs.Expected.{identificationFor}
-use Rattle.rules_state.specs.declared.state.Phase.the-variants.{Opened}
-use Rattle.rules_state.specs.State.{Context}
-use Rattle.rules_state.specs.Role.{only, roleIn}
-use Rattle.entry_judging.specs.Judging.{roleOf}
-use Rattle.entry_verdict.specs.Verdict.{isDone}
+use Rattle.paper_record.specs.Identifier.{SUBENT, ENDSUBENT}
+use Rattle.paper_record.specs.Expected.{identificationFor}
+use Rattle.paper_rules.specs.declared.types.Phase.the-variants.{Opened}
+use Rattle.paper_rules.specs.State.{Context}
+use Rattle.paper_rules.specs.Role.{only, roleIn}
+use Rattle.paper_entry.specs.Judging.{roleOf}
+use Rattle.paper_entry.specs.Verdict.{isDone}
 use Rattle.rules_plain.specs.Places.{Long}
 use Rattle.good.specs.Parts.{Record, Bib, Table, Section, bibRecords, tableRecords, Subentry001, bodyOfFirst}
 use Rattle.good.specs.Parts.{firstRecords}

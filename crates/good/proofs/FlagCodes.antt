@@ -12,12 +12,12 @@ use Rattle.laws.specs.Members.{anyOf}
 use Rattle.laws.specs.Walk.{All}
 use Rattle.laws.proofs.Booleans.{differ}
 use Rattle.laws.proofs.Listing.{all-left, all-right}
-use Rattle.record_words.proofs.WordsAndBlanks.{word-blank}
-use Rattle.record.specs.Plain.{Word}
-use Rattle.record.proofs.PlainColumns.{word-exactly}
-use Rattle.record_flags.specs.Flags.{isFlag}
-use Rattle.record_flags.specs.PlainFlags.{Code}
-use Rattle.rules_codes.specs.Codes.{underFlag, codesFrom, codesOf}
+use Rattle.paper_record.proofs.WordsAndBlanks.{word-blank}
+use Rattle.paper_record.specs.Plain.{Word}
+use Rattle.paper_record.proofs.PlainColumns.{word-exactly}
+use Rattle.paper_record.specs.Flags.{isFlag}
+use Rattle.paper_record.specs.PlainFlags.{Code}
+use Rattle.paper_rules.specs.Codes.{underFlag, codesFrom, codesOf}
 use Rattle.rules_plain.specs.Places.{Some, here, further, Long, bibPlace, bibText}
 use Rattle.rules_plain.specs.Texts.{NoKeyword}
 use Rattle.rules_plain.specs.Flags.{CodesAre}

@@ -7,7 +7,7 @@ use mathlib.Core.Logic.{_↔_, _⊎_}
 use mathlib.Core.List.{List, [], _∷_, _++_}
 use Rattle.laws.specs.Blocks.{joined}
 use Rattle.laws.specs.Walk.{All}
-use Rattle.rules_codes.specs.Codes.{codesOf}
+use Rattle.paper_rules.specs.Codes.{codesOf}
 use Rattle.rules_plain.specs.Places.{cell, Long}
 use Rattle.rules_plain.specs.Flags.{FlagFits, CodesAre}
 use Rattle.rules_plain.proofs.Rows.{heading-over}

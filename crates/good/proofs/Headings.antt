@@ -13,20 +13,20 @@ use Rattle.laws.specs.Walk.{All}
 use Rattle.laws.specs.Blocks.{joined}
 use Rattle.laws.specs.Members.{anyOf}
 use Rattle.laws.proofs.Search.{either}
-use Rattle.columns_places.specs.Places.{recordsFor}
-use Rattle.columns.specs.Fields.{fieldAt, fieldsOf, inField}
-use Rattle.columns.specs.Text.{isBlank}
-use Rattle.record_words.specs.Word.{isWord, blankTo, pointerOf}
-use Rattle.record_faults.specs.Faults.{pointerFault, headingFault}
-use Rattle.record.proofs.PlainColumns.{blank-exactly, word-exactly, pointer-exactly}
-use Rattle.rules_state.specs.State.{Context, used}
-use Rattle.rules_roles.specs.Roles.{DATA-HEADING, NOT-DUE, isHeading}
-use Rattle.rules_roles.specs.Fault.{fieldColumn, pointerColumn}
-use Rattle.rules_repeats.specs.Repeats.{headingRepeated}
-use Rattle.rules_section.specs.Headings.{rule11Heading, rule12Heading, rule13}
-use Rattle.rules_pointers.specs.Pointers.{pointersFor, pointerLost, lostAt, rule14}
-use Rattle.rules.proofs.NoColumns.{where-none, none-where}
-use Rattle.rules.proofs.ByKind.{clean-heading}
+use Rattle.paper_record.specs.Places.{recordsFor}
+use Rattle.paper_record.specs.Fields.{fieldAt, fieldsOf, inField}
+use Rattle.paper_record.specs.Text.{isBlank}
+use Rattle.paper_record.specs.Word.{isWord, blankTo, pointerOf}
+use Rattle.paper_record.specs.Faults.{pointerFault, headingFault}
+use Rattle.paper_record.proofs.PlainColumns.{blank-exactly, word-exactly, pointer-exactly}
+use Rattle.paper_rules.specs.State.{Context, used}
+use Rattle.paper_rules.specs.Roles.{DATA-HEADING, NOT-DUE, isHeading}
+use Rattle.paper_rules.specs.Fault.{fieldColumn, pointerColumn}
+use Rattle.paper_rules.specs.Repeats.{headingRepeated}
+use Rattle.paper_rules.specs.Headings.{rule11Heading, rule12Heading, rule13}
+use Rattle.paper_rules.specs.Pointers.{pointersFor, pointerLost, lostAt, rule14}
+use Rattle.paper_rules.proofs.NoColumns.{where-none, none-where}
+use Rattle.paper_rules.proofs.ByKind.{clean-heading}
 use Rattle.rules_plain.specs.Places.{Long}
 use Rattle.good.specs.Parts.{Record}
 use Rattle.good.specs.Marks.{Following}

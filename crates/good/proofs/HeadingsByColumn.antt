@@ -8,8 +8,8 @@ use mathlib.Core.List.{List, [], _∷_, _++_, append-assoc}
 use native.Mathlib.Omega.{arith}
 use lib.ListN.{length, length-append}
 use Rattle.laws.proofs.Search.{either}
-use Rattle.columns_places.specs.Places.{recordsFor}
-use Rattle.rules_state.specs.State.{Context}
+use Rattle.paper_record.specs.Places.{recordsFor}
+use Rattle.paper_rules.specs.State.{Context}
 use Rattle.rules_plain.specs.Places.{cell}
 use Rattle.rules_plain.proofs.Rows.{cell-here, cell-there}
 use Rattle.good.specs.Parts.{Record}

@@ -13,15 +13,15 @@ use Rattle.laws.proofs.Listing.{any-and}
 use Rattle.laws.specs.Walk.{All}
 use Rattle.laws.specs.Members.{anyOf}
 use Rattle.laws.proofs.Members.{any-append}
-use Rattle.columns.specs.Text.{isBlank}
-use Rattle.record_words.specs.Word.{blankTo, equalTo, isWord, pointerOf}
+use Rattle.paper_record.specs.Text.{isBlank}
+use Rattle.paper_record.specs.Word.{blankTo, equalTo, isWord, pointerOf}
 use Rattle.rules_plain.specs.Places.{bibPlace, pointersIn}
 use Rattle.good.specs.Parts.{Record, Keyword, textsOf}
 use Rattle.good.specs.Marks.{Following}
 use Rattle.rules_plain.specs.Texts.{NoKeyword, SamePointer}
 use Rattle.good.specs.Bib.{Text, GoodKeyword, keywordPlaces}
-use Rattle.record_words.proofs.WordsAndBlanks.{word-blank, word-differs}
-use Rattle.record.proofs.PlainColumns.{blank-exactly, word-exactly, pointer-exactly}
+use Rattle.paper_record.proofs.WordsAndBlanks.{word-blank, word-differs}
+use Rattle.paper_record.proofs.PlainColumns.{blank-exactly, word-exactly, pointer-exactly}
 use Rattle.good.proofs.Repeats.{OnceBy, once-said, said-once}
 use Rattle.good.proofs.TextContexts.{bearing}
 use Rattle.good.proofs.Texts.{TextFine, TextsFine, underAfter}

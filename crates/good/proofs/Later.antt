@@ -9,13 +9,13 @@ use Rattle.laws.proofs.Booleans.{differ}
 use Rattle.laws.proofs.Listing.{all-left, all-places, all-right, places-all}
 use Rattle.laws.specs.Walk.{All}
 use Rattle.laws.specs.Blocks.{joined}
-use Rattle.record_words.specs.Word.{pointerOf}
-use Rattle.record_names.specs.Identifier.{SUBENT, ENDSUBENT}
-use Rattle.record_expected.specs.Expected.{identificationFor}
-use Rattle.rules_state.specs.State.{Context}
-use Rattle.rules_state.specs.Limits.{LAST-SUBENTRY}
-use Rattle.entry_judging.specs.Judging.{roleOf}
-use Rattle.entry_verdict.specs.Verdict.{isDone}
+use Rattle.paper_record.specs.Word.{pointerOf}
+use Rattle.paper_record.specs.Identifier.{SUBENT, ENDSUBENT}
+use Rattle.paper_record.specs.Expected.{identificationFor}
+use Rattle.paper_rules.specs.State.{Context}
+use Rattle.paper_rules.specs.Limits.{LAST-SUBENTRY}
+use Rattle.paper_entry.specs.Judging.{roleOf}
+use Rattle.paper_entry.specs.Verdict.{isDone}
 use Rattle.rules_plain.specs.Places.{cell, Long}
 use Rattle.good.specs.Parts.{Record, bibRecords, tableRecords, Subentry001, Later, subent, bodyOf, laterRecords}
 use Rattle.good.specs.Marks.{Following, nameOf}

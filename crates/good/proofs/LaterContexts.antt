@@ -11,11 +11,11 @@ use Rattle.laws.proofs.Listing.{all-left, all-right}
 use Rattle.laws.specs.Walk.{All}
 use Rattle.laws.specs.Blocks.{joined}
 use Rattle.laws.specs.Members.{anyOf}
-use Rattle.columns.specs.Text.{isBlank}
-use Rattle.record_names.specs.Identifier.{SUBENT, ENDSUBENT}
-use Rattle.record_expected.specs.Expected.{identificationFor}
-use Rattle.rules_state.specs.State.{Context}
-use Rattle.rules_pointers.specs.Pointers.{pointersFor as pointersSeen}
+use Rattle.paper_record.specs.Text.{isBlank}
+use Rattle.paper_record.specs.Identifier.{SUBENT, ENDSUBENT}
+use Rattle.paper_record.specs.Expected.{identificationFor}
+use Rattle.paper_rules.specs.State.{Context}
+use Rattle.paper_rules.specs.Pointers.{pointersFor as pointersSeen}
 use Rattle.rules_plain.specs.Places.{pointersIn, pointersOn, Long}
 use Rattle.good.specs.Parts.{Record, Bib, Table, Section, bibRecords, tableRecords, Subentry001, Later}
 use Rattle.good.specs.Parts.{bodyOfFirst}

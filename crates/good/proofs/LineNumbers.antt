@@ -9,7 +9,7 @@ use Rattle.laws.specs.Walk.{All}
 use Rattle.laws.proofs.Booleans.{differ}
 use Rattle.laws.proofs.Counting.{none-many}
 use Rattle.laws.proofs.Search.{either}
-use Rattle.record.proofs.PlainValues.{number-exactly}
+use Rattle.paper_record.proofs.PlainValues.{number-exactly}
 use Rattle.rules_plain.specs.Places.{cell}
 use Rattle.good.specs.Parts.{Record}
 use Rattle.good.specs.Tables.{isNumber, numbersInLine, HasNumber}

@@ -7,9 +7,9 @@ use mathlib.Core.List.{List, [], _∷_, _++_, append-assoc}
 use native.Mathlib.Omega.{arith}
 use lib.ListN.{length, length-append}
 use Rattle.laws.specs.Walk.{All}
-use Rattle.columns_places.specs.Places.{recordsFor}
-use Rattle.rules_state.specs.State.{Context}
-use Rattle.entry_verdict.specs.Verdict.{isDone}
+use Rattle.paper_record.specs.Places.{recordsFor}
+use Rattle.paper_rules.specs.State.{Context}
+use Rattle.paper_entry.specs.Verdict.{isDone}
 use Rattle.rules_plain.specs.Places.{concat}
 use Rattle.good.specs.Parts.{Record}
 use Rattle.good.specs.Marks.{Following}

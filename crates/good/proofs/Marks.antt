@@ -7,12 +7,12 @@ use native.Mathlib.Omega.{arith}
 use lib.ListN.{length}
 use Rattle.laws.proofs.Booleans.{differ}
 use Rattle.laws.specs.Walk.{All}
-use Rattle.columns.specs.Fields.{fieldsOf, n1, n2}
-use Rattle.record.specs.System.{countOf, isCount, numberOf}
-use Rattle.record.specs.declared.system.Count.{Count}
-use Rattle.record.specs.declared.system.Count.the-variants.{Number, Bad}
-use Rattle.record.proofs.PlainDigits.{count-exactly}
-use Rattle.rules_counts.specs.Counts.{countN1, countN2}
+use Rattle.paper_record.specs.Fields.{fieldsOf, n1, n2}
+use Rattle.paper_record.specs.System.{countOf, isCount, numberOf}
+use Rattle.paper_record.specs.declared.types.Count.{Count}
+use Rattle.paper_record.specs.declared.types.Count.the-variants.{Number, Bad}
+use Rattle.paper_record.proofs.PlainDigits.{count-exactly}
+use Rattle.paper_rules.specs.Counts.{countN1, countN2}
 use Rattle.rules_plain.specs.Places.{Long}
 use Rattle.good.specs.Parts.{Record}
 use Rattle.good.specs.Marks.{Following, CountIs}

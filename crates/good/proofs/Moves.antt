@@ -3,9 +3,9 @@
 use Prim.Native.Nat.{ℕ, _+_}
 use mathlib.Core.Path.{_≡_, refl, _∙_, ap}
 use native.Mathlib.Omega.{arith}
-use Rattle.rules_state.specs.declared.state.Totals.{Totals}
-use Rattle.rules_state.specs.declared.state.Subentry.{Subentry}
-use Rattle.rules_state.specs.State.{Context}
+use Rattle.paper_rules.specs.declared.types.Totals.{Totals}
+use Rattle.paper_rules.specs.declared.types.Subentry.{Subentry}
+use Rattle.paper_rules.specs.State.{Context}
 
 -- from the context c to d: so many records, keywords, lines and numbers more, of the same subentry
 pub record Moved (c d : Context) (n k l m : ℕ) : Type 0 where

@@ -7,26 +7,26 @@ use native.Mathlib.Omega.{arith}
 use lib.Dec.{eqb, ltb, leb}
 use borrow.Author.Tests.{not-false, eqb-true, eq-eqb, ne-eqb, ltb-true, lt-ltb, leb-true, le-leb}
 use Rattle.laws.proofs.Booleans.{differ, and-left, and-right, and-both}
-use Rattle.columns.specs.Fields.{fieldsOf, n1, n2}
-use Rattle.record_words.specs.Word.{equalTo}
-use Rattle.record_names.specs.Identifier.{ENTRY, SUBENT, NOSUBENT, ENDSUBENT, ENDENTRY}
-use Rattle.record_names.proofs.NameTable.{end-letters}
-use Rattle.record.specs.System.{isSubentN1, isDate}
-use Rattle.record_expected.specs.Expected.{accessionOf, identificationFor, subentAccession, subentIdentification}
-use Rattle.record.proofs.PlainColumns.{equal-exactly}
-use Rattle.record.proofs.PlainDigits.{date-exactly, entry-exactly, subent-exactly}
-use Rattle.rules_state.specs.declared.state.Phase.{Phase}
-use Rattle.rules_state.specs.declared.state.Phase.the-variants.{Opened, InSubentry, Between, Done}
-use Rattle.rules_state.specs.State.{Context, startContext}
-use Rattle.rules_state.specs.Limits.{LAST-SUBENTRY}
-use Rattle.rules_every.specs.Every.{expectedIdentification, expectedSequence}
-use Rattle.rules_system.specs.System.{formN1, formN2, inForm, numberDue, rule9}
-use Rattle.rules_counts.specs.Counts.{rule8, trueCount}
-use Rattle.entry_next.specs.Next.{contextAfter}
-use Rattle.entry_next.specs.Due.{phaseAfter}
-use Rattle.entry_counted.specs.Counted.{trackAfter, afterSystem}
-use Rattle.entry_next.specs.Parts.{seenAfter, partAfter, bibChange}
-use Rattle.rules.proofs.NoColumns.{when-none, none-when}
+use Rattle.paper_record.specs.Fields.{fieldsOf, n1, n2}
+use Rattle.paper_record.specs.Word.{equalTo}
+use Rattle.paper_record.specs.Identifier.{ENTRY, SUBENT, NOSUBENT, ENDSUBENT, ENDENTRY}
+use Rattle.paper_record.proofs.NameTable.{end-letters}
+use Rattle.paper_record.specs.System.{isSubentN1, isDate}
+use Rattle.paper_record.specs.Expected.{accessionOf, identificationFor, subentAccession, subentIdentification}
+use Rattle.paper_record.proofs.PlainColumns.{equal-exactly}
+use Rattle.paper_record.proofs.PlainDigits.{date-exactly, entry-exactly, subent-exactly}
+use Rattle.paper_rules.specs.declared.types.Phase.{Phase}
+use Rattle.paper_rules.specs.declared.types.Phase.the-variants.{Opened, InSubentry, Between, Done}
+use Rattle.paper_rules.specs.State.{Context, startContext}
+use Rattle.paper_rules.specs.Limits.{LAST-SUBENTRY}
+use Rattle.paper_rules.specs.Every.{expectedIdentification, expectedSequence}
+use Rattle.paper_rules.specs.System.{formN1, formN2, inForm, numberDue, rule9}
+use Rattle.paper_rules.specs.Counts.{rule8, trueCount}
+use Rattle.paper_entry.specs.Next.{contextAfter}
+use Rattle.paper_entry.specs.Due.{phaseAfter}
+use Rattle.paper_entry.specs.Counted.{trackAfter, afterSystem}
+use Rattle.paper_entry.specs.Parts.{seenAfter, partAfter, bibChange}
+use Rattle.paper_rules.proofs.NoColumns.{when-none, none-when}
 use Rattle.good.specs.Parts.{Record}
 use Rattle.good.specs.Marks.{Marked, nameOf, CountIs}
 use Rattle.good.specs.Subentries.{OpensSubentry, ownNumber}

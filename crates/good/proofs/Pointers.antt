@@ -7,8 +7,8 @@ use mathlib.Core.Logic.{_↔_}
 use lib.Dec.{eqb}
 use borrow.Author.Tests.{eqb-true, eqb-false, eq-eqb, ne-eqb}
 use Rattle.laws.specs.Members.{anyOf}
-use Rattle.columns.specs.Text.{isBlank}
-use Rattle.record_words.specs.Word.{pointerOf}
+use Rattle.paper_record.specs.Text.{isBlank}
+use Rattle.paper_record.specs.Word.{pointerOf}
 use Rattle.rules_plain.specs.Places.{Some}
 use Rattle.rules_plain.proofs.Somewhere.{any-exactly}
 use Rattle.good.specs.Subentries.{Occurs}

@@ -8,16 +8,16 @@ use native.Mathlib.Omega.{arith}
 use lib.Dec.{eqb}
 use lib.ListN.{length}
 use borrow.Author.Tests.{le-leb, lt-leb, le-ltb, lt-ltb}
-use Rattle.columns_places.specs.Places.{recordsFor}
-use Rattle.record_names.specs.Identifier.{isEnd}
-use Rattle.columns_places.specs.declared.places.LineNo.{LineNo}
-use Rattle.rules_state.specs.declared.state.Phase.the-variants.{InCommon, InData}
-use Rattle.rules_state.specs.declared.state.Table.{Table}
-use Rattle.rules_state.specs.State.{Context}
-use Rattle.rules_roles.specs.Roles.{NOT-DUE}
-use Rattle.rules_state.specs.Role.{only, roleIn, tableRole}
-use Rattle.entry_judging.specs.Judging.{roleOf}
-use Rattle.entry_verdict.specs.Verdict.{isDone}
+use Rattle.paper_record.specs.Places.{recordsFor}
+use Rattle.paper_record.specs.Identifier.{isEnd}
+use Rattle.paper_record.specs.declared.types.LineNo.{LineNo}
+use Rattle.paper_rules.specs.declared.types.Phase.the-variants.{InCommon, InData}
+use Rattle.paper_rules.specs.declared.types.Table.{Table}
+use Rattle.paper_rules.specs.State.{Context}
+use Rattle.paper_rules.specs.Roles.{NOT-DUE}
+use Rattle.paper_rules.specs.Role.{only, roleIn, tableRole}
+use Rattle.paper_entry.specs.Judging.{roleOf}
+use Rattle.paper_entry.specs.Verdict.{isDone}
 use Rattle.good.specs.Parts.{Record}
 use Rattle.good.specs.Marks.{nameOf}
 use Rattle.good.proofs.Steps.{Takes, next, Passes}

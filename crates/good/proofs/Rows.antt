@@ -6,19 +6,19 @@ use mathlib.Core.Bool.{Bool, true, false, cond, _&&_}
 use mathlib.Core.List.{List, _++_}
 use native.Mathlib.Omega.{arith}
 use lib.Dec.{eqb, leb}
-use Rattle.columns.specs.Fields.{fieldsOf}
-use Rattle.record_names.specs.Identifier.{ENDCOMMON, ENDDATA}
-use Rattle.columns_places.specs.declared.places.LineNo.{LineNo}
-use Rattle.rules_state.specs.declared.state.Phase.{Phase}
-use Rattle.rules_state.specs.declared.state.Phase.the-variants.{InCommon, InData}
-use Rattle.rules_state.specs.State.{Context, HEADINGS, UNITS, VALUES}
-use Rattle.rules_roles.specs.Roles.{COMMON-HEADING, COMMON-UNIT, COMMON-VALUE, DATA-HEADING, DATA-UNIT, DATA-VALUE}
-use Rattle.rules_values.specs.Values.{valuesFor}
-use Rattle.entry_next.specs.Next.{contextAfter}
-use Rattle.entry_next.specs.Due.{phaseAfter}
-use Rattle.entry_counted.specs.Counted.{trackAfter, afterInside}
-use Rattle.entry_tally.specs.Tally.{headingsRead, unitsRead, valuesRead, nextRow, sameRow, nextLine}
-use Rattle.entry_next.specs.Parts.{seenAfter, partAfter, bibChange, tableChange}
+use Rattle.paper_record.specs.Fields.{fieldsOf}
+use Rattle.paper_record.specs.Identifier.{ENDCOMMON, ENDDATA}
+use Rattle.paper_record.specs.declared.types.LineNo.{LineNo}
+use Rattle.paper_rules.specs.declared.types.Phase.{Phase}
+use Rattle.paper_rules.specs.declared.types.Phase.the-variants.{InCommon, InData}
+use Rattle.paper_rules.specs.State.{Context, HEADINGS, UNITS, VALUES}
+use Rattle.paper_rules.specs.Roles.{COMMON-HEADING, COMMON-UNIT, COMMON-VALUE, DATA-HEADING, DATA-UNIT, DATA-VALUE}
+use Rattle.paper_rules.specs.Values.{valuesFor}
+use Rattle.paper_entry.specs.Next.{contextAfter}
+use Rattle.paper_entry.specs.Due.{phaseAfter}
+use Rattle.paper_entry.specs.Counted.{trackAfter, afterInside}
+use Rattle.paper_entry.specs.Tally.{headingsRead, unitsRead, valuesRead, nextRow, sameRow, nextLine}
+use Rattle.paper_entry.specs.Parts.{seenAfter, partAfter, bibChange, tableChange}
 use Rattle.good.specs.Parts.{Record}
 use Rattle.good.proofs.Steps.{next}
 use Rattle.good.proofs.Moves.{Moved, quiet}

@@ -10,10 +10,10 @@ use lib.ListN.{length}
 use borrow.Author.Tests.{le-leb, lt-leb}
 use Rattle.laws.specs.Walk.{All}
 use Rattle.laws.specs.Blocks.{joined}
-use Rattle.columns_places.specs.Places.{recordsFor}
-use Rattle.rules_state.specs.declared.state.Table.{Table}
-use Rattle.rules_state.specs.State.{Context}
-use Rattle.rules_every.specs.Every.{expectedIdentification, expectedSequence}
+use Rattle.paper_record.specs.Places.{recordsFor}
+use Rattle.paper_rules.specs.declared.types.Table.{Table}
+use Rattle.paper_rules.specs.State.{Context}
+use Rattle.paper_rules.specs.Every.{expectedIdentification, expectedSequence}
 use Rattle.good.specs.Parts.{Record}
 use Rattle.good.specs.Marks.{Following}
 use Rattle.good.proofs.Steps.{Takes, next, MarkedFor, takes-marked}

@@ -8,20 +8,20 @@ use lib.Dec.{eqb}
 use lib.ListN.{length, getD}
 use borrow.Author.Tests.{not-false}
 use Rattle.laws.specs.Walk.{Goes, All}
-use Rattle.columns.specs.Columns.{hasLineFeed}
-use Rattle.classes.specs.Class.{isPermitted, notPermitted}
-use Rattle.columns.specs.Fields.{fieldsOf}
-use Rattle.record_words.specs.Word.{equalTo}
-use Rattle.record_expected.specs.Expected.{identificationOf, sequenceOf, inDigits}
-use Rattle.record.proofs.PlainColumns.{equal-exactly}
-use Rattle.rules_state.specs.State.{Context}
-use Rattle.rules_roles.specs.Roles.{NOT-DUE}
-use Rattle.rules_every.specs.Every.{rule2, rule3, rule4, rule5, rule6, expectedIdentification, expectedSequence}
-use Rattle.rules.specs.Clean.{CleanEvery, Clean}
-use Rattle.rules.proofs.NoColumns.{when-none, where-none, none-where}
-use Rattle.rules.proofs.Clean.{fine-clean, clean-fine}
-use Rattle.entry_next.specs.Next.{contextAfter}
-use Rattle.entry_judging.specs.Judging.{roleOf, turnOf}
+use Rattle.paper_record.specs.Columns.{hasLineFeed}
+use Rattle.paper_record.specs.Class.{isPermitted, notPermitted}
+use Rattle.paper_record.specs.Fields.{fieldsOf}
+use Rattle.paper_record.specs.Word.{equalTo}
+use Rattle.paper_record.specs.Expected.{identificationOf, sequenceOf, inDigits}
+use Rattle.paper_record.proofs.PlainColumns.{equal-exactly}
+use Rattle.paper_rules.specs.State.{Context}
+use Rattle.paper_rules.specs.Roles.{NOT-DUE}
+use Rattle.paper_rules.specs.Every.{rule2, rule3, rule4, rule5, rule6, expectedIdentification, expectedSequence}
+use Rattle.paper_rules.specs.Clean.{CleanEvery, Clean}
+use Rattle.paper_rules.proofs.NoColumns.{when-none, where-none, none-where}
+use Rattle.paper_rules.proofs.Clean.{fine-clean, clean-fine}
+use Rattle.paper_entry.specs.Next.{contextAfter}
+use Rattle.paper_entry.specs.Judging.{roleOf, turnOf}
 use Rattle.entry_walk.proofs.GoingOn.{go-fine, fine-go}
 use Rattle.good.specs.Parts.{Record}
 use Rattle.good.specs.Marks.{Marked}

@@ -11,13 +11,13 @@ use Rattle.laws.proofs.Listing.{all-left}
 use Rattle.laws.specs.Walk.{All}
 use Rattle.laws.specs.Blocks.{joined}
 use Rattle.laws.specs.Members.{listOf}
-use Rattle.columns.specs.Fields.{fieldsOf, n1}
-use Rattle.record_names.specs.Identifier.{ENDSUBENT}
-use Rattle.record_expected.specs.Expected.{identificationFor}
-use Rattle.rules_state.specs.declared.state.Phase.the-variants.{AfterBib, AfterCommon, AfterData, Between}
-use Rattle.rules_state.specs.State.{Context}
-use Rattle.rules_state.specs.Role.{only, roleIn, dataRole, either as oneOf}
-use Rattle.entry_judging.specs.Judging.{roleOf}
+use Rattle.paper_record.specs.Fields.{fieldsOf, n1}
+use Rattle.paper_record.specs.Identifier.{ENDSUBENT}
+use Rattle.paper_record.specs.Expected.{identificationFor}
+use Rattle.paper_rules.specs.declared.types.Phase.the-variants.{AfterBib, AfterCommon, AfterData, Between}
+use Rattle.paper_rules.specs.State.{Context}
+use Rattle.paper_rules.specs.Role.{only, roleIn, dataRole, either as oneOf}
+use Rattle.paper_entry.specs.Judging.{roleOf}
 use Rattle.rules_plain.specs.Places.{concat, cell, Long}
 use Rattle.good.specs.Parts.{Record, Bib, Table, Section, present, absent, textsOf, rowsOf, bibRecords}
 use Rattle.good.specs.Parts.{tableRecords}

@@ -10,12 +10,12 @@ use Rattle.laws.proofs.Booleans.{differ}
 use Rattle.laws.specs.Walk.{All}
 use Rattle.laws.specs.Blocks.{joined}
 use Rattle.laws.specs.Members.{listOf}
-use Rattle.record_names.specs.Identifier.{SUBENT}
-use Rattle.record_expected.specs.Expected.{identificationFor}
-use Rattle.rules_state.specs.declared.state.Phase.the-variants.{InSubentry, AfterCommon}
-use Rattle.rules_state.specs.State.{Context}
-use Rattle.rules_pointers.specs.Pointers.{pointersFor as pointersSeen}
-use Rattle.entry_verdict.specs.Verdict.{isDone}
+use Rattle.paper_record.specs.Identifier.{SUBENT}
+use Rattle.paper_record.specs.Expected.{identificationFor}
+use Rattle.paper_rules.specs.declared.types.Phase.the-variants.{InSubentry, AfterCommon}
+use Rattle.paper_rules.specs.State.{Context}
+use Rattle.paper_rules.specs.Pointers.{pointersFor as pointersSeen}
+use Rattle.paper_entry.specs.Verdict.{isDone}
 use Rattle.rules_plain.specs.Places.{Long}
 use Rattle.good.specs.Parts.{Record, Bib, Table, Section, bibRecords, tableRecords}
 use Rattle.good.specs.Marks.{Following}

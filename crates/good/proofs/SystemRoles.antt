@@ -1,10 +1,10 @@
 -- The system records inside a subentry, and the END records: which of the three kinds each is of. Assumes nothing.
 use mathlib.Core.Path.{refl}
-use Rattle.record_names.specs.Identifier.{BIB, NOBIB, ENDBIB, COMMON, NOCOMMON, ENDCOMMON, DATA, NODATA, ENDDATA, ENDSUBENT}
-use Rattle.record_names.specs.Identifier.{ENDENTRY}
-use Rattle.record_names.proofs.NameTable.{end-letters}
-use Rattle.rules_every.specs.Every.{expectedIdentification, expectedSequence}
-use Rattle.rules_system.specs.System.{formN1, formN2}
+use Rattle.paper_record.specs.Identifier.{BIB, NOBIB, ENDBIB, COMMON, NOCOMMON, ENDCOMMON, DATA, NODATA, ENDDATA, ENDSUBENT}
+use Rattle.paper_record.specs.Identifier.{ENDENTRY}
+use Rattle.paper_record.proofs.NameTable.{end-letters}
+use Rattle.paper_rules.specs.Every.{expectedIdentification, expectedSequence}
+use Rattle.paper_rules.specs.System.{formN1, formN2}
 use Rattle.good.proofs.Systems.{Inside, FreeRole, OpenRole, EndRole}
 
 inside-NOBIB : Inside NOBIB

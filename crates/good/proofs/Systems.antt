@@ -8,17 +8,17 @@ use native.Mathlib.Omega.{arith}
 use lib.Dec.{eqb}
 use borrow.Author.Tests.{eqb-true, eq-eqb, ne-eqb, ltb-true, not-false}
 use Rattle.laws.proofs.Booleans.{differ, and-left, and-right}
-use Rattle.columns.specs.Fields.{fieldsOf, n1, n2}
-use Rattle.record_names.specs.Identifier.{TRANS, isEnd}
-use Rattle.record_expected.specs.Expected.{identificationFor}
-use Rattle.rules_state.specs.declared.state.Track.{Track}
-use Rattle.rules_state.specs.State.{Context}
-use Rattle.rules_roles.specs.Roles.{NOT-DUE, isSystem, opensSubentry, opensSection}
-use Rattle.rules_system.specs.System.{FREE, COUNT, formN1, formN2, inForm, rule7, rule9}
-use Rattle.rules_counts.specs.Counts.{countN1, countN2, limitN1, limitN2, meets, announcedFault, trueCount}
-use Rattle.rules_counts.specs.Counts.{keywordsTrue, countTrue, rule8}
-use Rattle.rules.proofs.NoColumns.{when-none, whens-none}
-use Rattle.rules.proofs.ByKind.{clean-system}
+use Rattle.paper_record.specs.Fields.{fieldsOf, n1, n2}
+use Rattle.paper_record.specs.Identifier.{TRANS, isEnd}
+use Rattle.paper_record.specs.Expected.{identificationFor}
+use Rattle.paper_rules.specs.declared.types.Track.{Track}
+use Rattle.paper_rules.specs.State.{Context}
+use Rattle.paper_rules.specs.Roles.{NOT-DUE, isSystem, opensSubentry, opensSection}
+use Rattle.paper_rules.specs.System.{FREE, COUNT, formN1, formN2, inForm, rule7, rule9}
+use Rattle.paper_rules.specs.Counts.{countN1, countN2, limitN1, limitN2, meets, announcedFault, trueCount}
+use Rattle.paper_rules.specs.Counts.{keywordsTrue, countTrue, rule8}
+use Rattle.paper_rules.proofs.NoColumns.{when-none, whens-none}
+use Rattle.paper_rules.proofs.ByKind.{clean-system}
 use Rattle.good.specs.Parts.{Record}
 use Rattle.good.specs.Marks.{Marked, CountIs}
 use Rattle.good.proofs.Steps.{Takes, MarkedFor, takes-marked, marked-every}

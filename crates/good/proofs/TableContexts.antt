@@ -7,16 +7,16 @@ use mathlib.Core.List.{List, []}
 use borrow.Author.Tests.{le-leb}
 use Rattle.laws.specs.Walk.{All}
 use Rattle.laws.specs.Blocks.{joined}
-use Rattle.columns.specs.Fields.{fieldsOf}
-use Rattle.rules_state.specs.State.{Context}
-use Rattle.rules_state.specs.Limits.{MOST-COLUMNS, MOST-LINES}
-use Rattle.rules_pointers.specs.Pointers.{pointersFor}
-use Rattle.rules_counts.specs.Counts.{countN1, countN2}
-use Rattle.entry_next.specs.Next.{contextAfter}
-use Rattle.entry_next.specs.Due.{phaseAfter}
-use Rattle.entry_counted.specs.Counted.{trackAfter, afterSystem}
-use Rattle.entry_next.specs.Parts.{seenAfter, partAfter, bibChange, tableChange}
-use Rattle.record.specs.System.{upTo}
+use Rattle.paper_record.specs.Fields.{fieldsOf}
+use Rattle.paper_rules.specs.State.{Context}
+use Rattle.paper_rules.specs.Limits.{MOST-COLUMNS, MOST-LINES}
+use Rattle.paper_rules.specs.Pointers.{pointersFor}
+use Rattle.paper_rules.specs.Counts.{countN1, countN2}
+use Rattle.paper_entry.specs.Next.{contextAfter}
+use Rattle.paper_entry.specs.Due.{phaseAfter}
+use Rattle.paper_entry.specs.Counted.{trackAfter, afterSystem}
+use Rattle.paper_entry.specs.Parts.{seenAfter, partAfter, bibChange, tableChange}
+use Rattle.paper_record.specs.System.{upTo}
 use Rattle.rules_plain.specs.Places.{Long}
 use Rattle.good.specs.Parts.{Record}
 use Rattle.good.proofs.Steps.{next}

@@ -8,15 +8,15 @@ use lib.Dec.{leb}
 use lib.ListN.{length}
 use borrow.Author.Tests.{leb-true, le-leb}
 use Rattle.laws.proofs.Booleans.{and-left, and-right, differ}
-use Rattle.columns_places.specs.Places.{recordsFor}
-use Rattle.columns.specs.Fields.{fieldsOf, n2}
-use Rattle.record_names.specs.Identifier.{COMMON, NOCOMMON, DATA, NODATA}
-use Rattle.rules_state.specs.declared.state.Phase.{Phase}
-use Rattle.rules_state.specs.declared.state.Phase.the-variants.{AfterCommon, AfterData}
-use Rattle.rules_state.specs.State.{Context}
-use Rattle.rules_state.specs.Limits.{MOST-COLUMNS, MOST-LINES}
-use Rattle.rules_every.specs.Every.{expectedIdentification, expectedSequence}
-use Rattle.rules_counts.specs.Counts.{limitN1, limitN2, meets, trueCount, keywordsTrue}
+use Rattle.paper_record.specs.Places.{recordsFor}
+use Rattle.paper_record.specs.Fields.{fieldsOf, n2}
+use Rattle.paper_record.specs.Identifier.{COMMON, NOCOMMON, DATA, NODATA}
+use Rattle.paper_rules.specs.declared.types.Phase.{Phase}
+use Rattle.paper_rules.specs.declared.types.Phase.the-variants.{AfterCommon, AfterData}
+use Rattle.paper_rules.specs.State.{Context}
+use Rattle.paper_rules.specs.Limits.{MOST-COLUMNS, MOST-LINES}
+use Rattle.paper_rules.specs.Every.{expectedIdentification, expectedSequence}
+use Rattle.paper_rules.specs.Counts.{limitN1, limitN2, meets, trueCount, keywordsTrue}
 use Rattle.good.specs.Parts.{Record, Table, Section, present}
 use Rattle.good.specs.Marks.{nameOf, CountIs}
 use Rattle.good.specs.Tables.{columnsOf, GoodTable, GoodCommonPart, GoodDataPart}

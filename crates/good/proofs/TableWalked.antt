@@ -7,8 +7,8 @@ use mathlib.Core.List.{List, [], _∷_, _++_}
 use native.Mathlib.Omega.{arith}
 use lib.ListN.{length, length-append}
 use Rattle.laws.specs.Blocks.{joined}
-use Rattle.columns_places.specs.Places.{recordsFor}
-use Rattle.rules_state.specs.State.{Context}
+use Rattle.paper_record.specs.Places.{recordsFor}
+use Rattle.paper_rules.specs.State.{Context}
 use Rattle.rules_plain.specs.Places.{concat}
 use Rattle.good.specs.Parts.{Record, Table, Section, present, absent, rowsOf, tableRecords}
 use Rattle.good.specs.Marks.{Following}

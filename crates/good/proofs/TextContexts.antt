@@ -9,21 +9,21 @@ use lib.ListN.{length, getD}
 use borrow.Author.Tests.{eqb-true, eq-eqb, ne-eqb}
 use Rattle.laws.proofs.Booleans.{differ}
 use Rattle.laws.specs.Blocks.{joined}
-use Rattle.columns.specs.Fields.{fieldsOf}
-use Rattle.columns.proofs.ReadColumns.{field-of}
-use Rattle.record_words.specs.Word.{blankTo}
-use Rattle.record_names.specs.Identifier.{OTHER}
-use Rattle.rules_state.specs.declared.state.Phase.the-variants.{InBib}
-use Rattle.rules_state.specs.State.{Context}
-use Rattle.rules_roles.specs.Roles.{TEXT, NOT-DUE}
-use Rattle.rules_state.specs.Role.{roleIn, bibRole}
-use Rattle.entry_next.specs.Next.{contextAfter}
-use Rattle.entry_next.specs.Due.{phaseAfter}
-use Rattle.entry_counted.specs.Counted.{trackAfter, afterInside}
-use Rattle.entry_tally.specs.Tally.{textRead}
-use Rattle.entry_next.specs.Parts.{seenAfter, partAfter, bibChange}
-use Rattle.entry_judging.specs.Judging.{roleOf}
-use Rattle.entry_verdict.specs.Verdict.{isDone}
+use Rattle.paper_record.specs.Fields.{fieldsOf}
+use Rattle.paper_record.proofs.ReadColumns.{field-of}
+use Rattle.paper_record.specs.Word.{blankTo}
+use Rattle.paper_record.specs.Identifier.{OTHER}
+use Rattle.paper_rules.specs.declared.types.Phase.the-variants.{InBib}
+use Rattle.paper_rules.specs.State.{Context}
+use Rattle.paper_rules.specs.Roles.{TEXT, NOT-DUE}
+use Rattle.paper_rules.specs.Role.{roleIn, bibRole}
+use Rattle.paper_entry.specs.Next.{contextAfter}
+use Rattle.paper_entry.specs.Due.{phaseAfter}
+use Rattle.paper_entry.specs.Counted.{trackAfter, afterInside}
+use Rattle.paper_entry.specs.Tally.{textRead}
+use Rattle.paper_entry.specs.Parts.{seenAfter, partAfter, bibChange}
+use Rattle.paper_entry.specs.Judging.{roleOf}
+use Rattle.paper_entry.specs.Verdict.{isDone}
 use Rattle.rules_plain.specs.Places.{bibPlace}
 use Rattle.good.specs.Parts.{Record}
 use Rattle.good.specs.Marks.{nameOf}

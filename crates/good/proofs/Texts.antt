@@ -13,20 +13,20 @@ use Rattle.laws.proofs.Listing.{all-append, joined-one}
 use Rattle.laws.specs.Walk.{All}
 use Rattle.laws.specs.Blocks.{joined}
 use Rattle.laws.specs.Members.{anyOf}
-use Rattle.columns.specs.Fields.{fieldsOf}
-use Rattle.columns.proofs.ReadColumns.{field-of}
-use Rattle.columns.specs.Text.{isBlank}
-use Rattle.record_words.specs.Word.{blankTo, equalTo, isWord, pointerOf}
-use Rattle.record_faults.specs.Faults.{badPointer}
-use Rattle.record_expected.specs.Expected.{identificationFor}
-use Rattle.rules_state.specs.State.{Context}
-use Rattle.rules_roles.specs.Roles.{TEXT}
-use Rattle.rules_every.specs.Every.{expectedIdentification, expectedSequence}
-use Rattle.rules_text.specs.Text.{keywordFault, rule10, pointerRepeated, rule11Text}
-use Rattle.entry_next.specs.Next.{contextAfter}
-use Rattle.entry_next.specs.Parts.{seenAfter, partAfter, underChange}
-use Rattle.rules.proofs.NoColumns.{when-none, none-when}
-use Rattle.rules.proofs.ByKind.{clean-text}
+use Rattle.paper_record.specs.Fields.{fieldsOf}
+use Rattle.paper_record.proofs.ReadColumns.{field-of}
+use Rattle.paper_record.specs.Text.{isBlank}
+use Rattle.paper_record.specs.Word.{blankTo, equalTo, isWord, pointerOf}
+use Rattle.paper_record.specs.Faults.{badPointer}
+use Rattle.paper_record.specs.Expected.{identificationFor}
+use Rattle.paper_rules.specs.State.{Context}
+use Rattle.paper_rules.specs.Roles.{TEXT}
+use Rattle.paper_rules.specs.Every.{expectedIdentification, expectedSequence}
+use Rattle.paper_rules.specs.Text.{keywordFault, rule10, pointerRepeated, rule11Text}
+use Rattle.paper_entry.specs.Next.{contextAfter}
+use Rattle.paper_entry.specs.Parts.{seenAfter, partAfter, underChange}
+use Rattle.paper_rules.proofs.NoColumns.{when-none, none-when}
+use Rattle.paper_rules.proofs.ByKind.{clean-text}
 use Rattle.rules_plain.specs.Places.{bibPlace, pointersIn, Long}
 use Rattle.rules_plain.proofs.Lists.{places-joined, pointers-joined}
 use Rattle.good.specs.Parts.{Record}

@@ -16,12 +16,12 @@ use Rattle.laws.specs.Walk.{walk, All}
 use Rattle.laws.specs.Blocks.{blocks, joined}
 use Rattle.laws.proofs.Walk.{goes-walk, walk-goes}
 use Rattle.laws.proofs.Blocks.{joined-blocks, blocks-joined, length-joined, blocks-wide, length-blocks}
-use Rattle.rules_state.specs.State.{Context, startContext}
-use Rattle.entry_verdict.specs.declared.verdict.Verdict.{Verdict}
-use Rattle.entry_judging.specs.Judging.{roleOf, turnOf, endOf, judgeOf}
-use Rattle.entry_verdict.specs.Verdict.{refused, accepted, isDone, lengthGood}
+use Rattle.paper_rules.specs.State.{Context, startContext}
+use Rattle.paper_entry.specs.declared.types.Verdict.{Verdict}
+use Rattle.paper_entry.specs.Judging.{roleOf, turnOf, endOf, judgeOf}
+use Rattle.paper_entry.specs.Verdict.{refused, accepted, isDone, lengthGood}
 use Rattle.entry_walk.proofs.GoingOn.{done-of, out-refused}
-use Rattle.entry_step.proofs.Numbered.{whole-records, of-whole}
+use Rattle.paper_entry.proofs.Lengths.{whole-records, of-whole}
 use Rattle.rules_plain.specs.Places.{Long}
 use Rattle.good.specs.Parts.{Record, recordsOf}
 use Rattle.good.specs.Good.{GoodBytes}

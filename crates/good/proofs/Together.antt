@@ -14,11 +14,11 @@ use Rattle.laws.specs.Walk.{All}
 use Rattle.laws.specs.Blocks.{joined}
 use Rattle.laws.proofs.Search.{either}
 use Rattle.laws.proofs.Members.{any-append, list-at, list-length}
-use Rattle.columns.specs.Text.{isBlank}
-use Rattle.record_words.specs.Word.{isWord, pointerOf}
-use Rattle.record_words.specs.Same.{SameColumns}
-use Rattle.rules_text.specs.Text.{pointersOf}
-use Rattle.rules_pointers.specs.Pointers.{headingPointerAt, headingPointers, pointersFor as pointersSeen}
+use Rattle.paper_record.specs.Text.{isBlank}
+use Rattle.paper_record.specs.Word.{isWord, pointerOf}
+use Rattle.paper_record.specs.Same.{SameColumns}
+use Rattle.paper_rules.specs.Text.{pointersOf}
+use Rattle.paper_rules.specs.Pointers.{headingPointerAt, headingPointers, pointersFor as pointersSeen}
 use Rattle.rules_plain.specs.Places.{pointersIn, cell, pointersOn, Long}
 use Rattle.rules_plain.specs.Repeated.{SameIn}
 use Rattle.rules_plain.proofs.Lists.{pointers-joined}
@@ -27,8 +27,8 @@ use Rattle.rules_plain.proofs.Somewhere.{at-some, some-at, some-left, some-righ
 use Rattle.good.specs.Parts.{Record}
 use Rattle.good.specs.Tables.{Heading, BlankCell}
 use Rattle.good.specs.Subentries.{headingIn, HeadingsFit}
-use Rattle.record.proofs.PlainColumns.{blank-exactly, equal-exactly, word-exactly}
-use Rattle.record_words.proofs.WordsAndBlanks.{heading-differs, blank-pointer}
+use Rattle.paper_record.proofs.PlainColumns.{blank-exactly, equal-exactly, word-exactly}
+use Rattle.paper_record.proofs.WordsAndBlanks.{heading-differs, blank-pointer}
 use Rattle.good.proofs.Earlier.{Fits}
 
 -- ---- headings

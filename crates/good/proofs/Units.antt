@@ -10,17 +10,17 @@ use borrow.Author.Tests.{lt-ltb, le-ltb, not-false}
 use lib.Dec.{eqb}
 use Rattle.laws.specs.Walk.{All}
 use Rattle.laws.proofs.Search.{either}
-use Rattle.columns_places.specs.Places.{recordsFor}
-use Rattle.columns.specs.Fields.{fieldAt, fieldsOf, inField}
-use Rattle.record_words.specs.Word.{blankTo}
-use Rattle.record_faults.specs.Faults.{isUnitWord, unitFault}
-use Rattle.record.proofs.PlainColumns.{blank-exactly, unit-exactly}
-use Rattle.rules_state.specs.State.{Context, used}
-use Rattle.rules_roles.specs.Roles.{NOT-DUE, isUnit as unitRole}
-use Rattle.rules_roles.specs.Fault.{fieldColumn}
-use Rattle.rules_section.specs.Headings.{rule12Unit}
-use Rattle.rules.proofs.NoColumns.{where-none, none-where}
-use Rattle.rules.proofs.ByKind.{clean-unit}
+use Rattle.paper_record.specs.Places.{recordsFor}
+use Rattle.paper_record.specs.Fields.{fieldAt, fieldsOf, inField}
+use Rattle.paper_record.specs.Word.{blankTo}
+use Rattle.paper_record.specs.Faults.{isUnitWord, unitFault}
+use Rattle.paper_record.proofs.PlainColumns.{blank-exactly, unit-exactly}
+use Rattle.paper_rules.specs.State.{Context, used}
+use Rattle.paper_rules.specs.Roles.{NOT-DUE, isUnit as unitRole}
+use Rattle.paper_rules.specs.Fault.{fieldColumn}
+use Rattle.paper_rules.specs.Headings.{rule12Unit}
+use Rattle.paper_rules.proofs.NoColumns.{where-none, none-where}
+use Rattle.paper_rules.proofs.ByKind.{clean-unit}
 use Rattle.rules_plain.specs.Places.{cell}
 use Rattle.good.specs.Parts.{Record}
 use Rattle.good.specs.Marks.{Following}

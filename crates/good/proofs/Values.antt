@@ -14,22 +14,22 @@ use Rattle.laws.proofs.Counting.{first-many, many-above, many-same}
 use Rattle.laws.specs.Search.{howMany}
 use Rattle.laws.specs.Walk.{All}
 use Rattle.laws.proofs.Search.{either, pass-first}
-use Rattle.number.specs.declared.form.Form.{Form}
-use Rattle.number.specs.declared.form.Form.the-variants as Form
-use Rattle.columns_places.specs.Places.{recordsFor}
-use Rattle.columns.specs.Fields.{fieldAt, fieldsOf, inField, firstField}
-use Rattle.record_values.specs.Numbers.{formAt, saysBlank, saysNumber, noValue, valueFault, isNumberAt, valuesOf}
-use Rattle.record.proofs.PlainColumns.{not-none}
-use Rattle.record.proofs.PlainValues.{value-exactly, unused-exactly}
-use Rattle.rules_state.specs.declared.state.Table.{Table}
-use Rattle.rules_state.specs.State.{Context, used}
-use Rattle.rules_roles.specs.Roles.{NOT-DUE, isValue}
-use Rattle.rules_roles.specs.Fault.{when, columnsWhere, fieldColumn}
-use Rattle.rules_values.proofs.BlankFields.{blank-form}
-use Rattle.rules_flags.specs.Flags.{rule17}
-use Rattle.rules_values.specs.Values.{optional, blankFields, lineBlank, rule15, valuesFor}
-use Rattle.rules.proofs.NoColumns.{when-none, append-none, where-none, none-where}
-use Rattle.rules.proofs.ByKind.{clean-value}
+use Rattle.paper_number.specs.declared.types.Form.{Form}
+use Rattle.paper_number.specs.declared.types.Form.the-variants as Form
+use Rattle.paper_record.specs.Places.{recordsFor}
+use Rattle.paper_record.specs.Fields.{fieldAt, fieldsOf, inField, firstField}
+use Rattle.paper_record.specs.Numbers.{formAt, saysBlank, saysNumber, noValue, valueFault, isNumberAt, valuesOf}
+use Rattle.paper_record.proofs.PlainColumns.{not-none}
+use Rattle.paper_record.proofs.PlainValues.{value-exactly, unused-exactly}
+use Rattle.paper_rules.specs.declared.types.Table.{Table}
+use Rattle.paper_rules.specs.State.{Context, used}
+use Rattle.paper_rules.specs.Roles.{NOT-DUE, isValue}
+use Rattle.paper_rules.specs.Fault.{when, columnsWhere, fieldColumn}
+use Rattle.paper_rules.proofs.BlankFields.{blank-form}
+use Rattle.paper_rules.specs.Flags.{rule17}
+use Rattle.paper_rules.specs.Values.{optional, blankFields, lineBlank, rule15, valuesFor}
+use Rattle.paper_rules.proofs.NoColumns.{when-none, append-none, where-none, none-where}
+use Rattle.paper_rules.proofs.ByKind.{clean-value}
 use Rattle.good.specs.Parts.{Record}
 use Rattle.good.specs.Marks.{Following}
 use Rattle.good.specs.Tables.{GoodValue, BlankValue}

@@ -12,9 +12,9 @@ use borrow.Author.Tests.{le-leb, lt-leb}
 use Rattle.laws.proofs.Booleans.{differ}
 use Rattle.laws.proofs.Counting.{many-same, many-split}
 use Rattle.laws.specs.Search.{howMany}
-use Rattle.columns_places.specs.Places.{recordsFor}
-use Rattle.record_values.specs.Numbers.{formAt, saysNumber}
-use Rattle.rules_state.specs.State.{Context, used}
+use Rattle.paper_record.specs.Places.{recordsFor}
+use Rattle.paper_record.specs.Numbers.{formAt, saysNumber}
+use Rattle.paper_rules.specs.State.{Context, used}
 use Rattle.rules_plain.specs.Places.{cell}
 use Rattle.rules_plain.proofs.Rows.{cell-here, cell-there}
 use Rattle.good.specs.Parts.{Record}

@@ -4,11 +4,11 @@ use mathlib.Core.Path.{_≡_}
 use mathlib.Core.List.{List, [], _∷_, map}
 use lib.ListN.{length}
 use Rattle.laws.specs.Walk.{All}
-use Rattle.columns.specs.Fields.{fieldsOf, n1, n2}
-use Rattle.record_words.specs.Word.{pointerOf}
-use Rattle.record_names.specs.Identifier.{BIB, NOBIB, ENDBIB, OTHER}
-use Rattle.record_words.specs.Same.{SameColumns}
-use Rattle.record.specs.Plain.{Word, PointerOrBlank}
+use Rattle.paper_record.specs.Fields.{fieldsOf, n1, n2}
+use Rattle.paper_record.specs.Word.{pointerOf}
+use Rattle.paper_record.specs.Identifier.{BIB, NOBIB, ENDBIB, OTHER}
+use Rattle.paper_record.specs.Same.{SameColumns}
+use Rattle.paper_record.specs.Plain.{Word, PointerOrBlank}
 use Rattle.rules_plain.specs.Places.{bibPlace, pointersIn}
 use Rattle.rules_plain.specs.Texts.{NoKeyword, SamePointer}
 use Rattle.good.specs.Parts.{Record, Keyword, Bib, Section, present, absent, textsOf}

@@ -6,7 +6,7 @@
 use Prim.Native.Nat.{ℕ, _<_}
 use mathlib.Core.List.{_∷_}
 use Rattle.laws.specs.Walk.{All}
-use Rattle.record_flags.specs.PlainFlags.{Code}
+use Rattle.paper_record.specs.PlainFlags.{Code}
 use Rattle.rules_plain.specs.Places.{Some, bibPlace, bibText, cell}
 use Rattle.rules_plain.specs.Flags.{FlagWord, FlagFits}
 use Rattle.good.specs.Parts.{Keyword, Bib, Table, Section, present, absent}

@@ -5,11 +5,11 @@ use mathlib.Core.List.{List}
 use lib.ListN.{length}
 use Rattle.laws.specs.Walk.{All}
 use Rattle.laws.specs.Blocks.{joined}
-use Rattle.columns.specs.Fields.{fieldsOf, n1, n2}
-use Rattle.record_names.specs.Identifier.{ENTRY, ENDENTRY}
-use Rattle.record.specs.Plain.{Date, EntryN1}
-use Rattle.record_expected.specs.Expected.{accessionOf, identificationFor, entryAccession}
-use Rattle.rules_state.specs.Limits.{MOST-RECORDS}
+use Rattle.paper_record.specs.Fields.{fieldsOf, n1, n2}
+use Rattle.paper_record.specs.Identifier.{ENTRY, ENDENTRY}
+use Rattle.paper_record.specs.Plain.{Date, EntryN1}
+use Rattle.paper_record.specs.Expected.{accessionOf, identificationFor, entryAccession}
+use Rattle.paper_rules.specs.Limits.{MOST-RECORDS}
 use Rattle.good.specs.Parts.{Record, Entry, recordsOf}
 use Rattle.good.specs.Marks.{Marked, nameOf, CountIs}
 use Rattle.good.specs.Subentries.{GoodFirst, GoodSubentry, NumbersRise}

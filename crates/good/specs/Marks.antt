@@ -6,13 +6,13 @@ use mathlib.Core.Bool.{true}
 use mathlib.Core.List.{List, [], _∷_, _++_}
 use lib.ListN.{length, getD}
 use Rattle.laws.specs.Walk.{All}
-use Rattle.columns.specs.Columns.{hasLineFeed}
-use Rattle.classes.specs.Class.{isPermitted}
-use Rattle.columns.specs.Fields.{fieldAt}
-use Rattle.record_names.specs.Identifier.{identifierOf}
-use Rattle.record_expected.specs.Expected.{identificationOf, sequenceOf, inDigits}
-use Rattle.record_words.specs.Same.{SameColumns}
-use Rattle.record.specs.Plain.{CountSays}
+use Rattle.paper_record.specs.Columns.{hasLineFeed}
+use Rattle.paper_record.specs.Class.{isPermitted}
+use Rattle.paper_record.specs.Fields.{fieldAt}
+use Rattle.paper_record.specs.Identifier.{identifierOf}
+use Rattle.paper_record.specs.Expected.{identificationOf, sequenceOf, inDigits}
+use Rattle.paper_record.specs.Same.{SameColumns}
+use Rattle.paper_record.specs.Plain.{CountSays}
 use Rattle.good.specs.Parts.{Record}
 
 -- ---- every record

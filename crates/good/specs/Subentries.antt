@@ -6,15 +6,15 @@ use mathlib.Core.List.{List, [], _∷_, _++_}
 use mathlib.Core.Logic.{_⊎_}
 use lib.ListN.{length, getD}
 use Rattle.laws.specs.Walk.{All}
-use Rattle.columns.specs.Fields.{fieldsOf, n1, n2}
-use Rattle.record_words.specs.Word.{pointerOf}
-use Rattle.record_repeats.specs.PlainRepeats.{MayRepeat}
-use Rattle.record_names.specs.Identifier.{SUBENT, NOSUBENT, ENDSUBENT}
-use Rattle.record.specs.System.{subentryOf}
-use Rattle.record_words.specs.Same.{SameColumns}
-use Rattle.record.specs.Plain.{Date, SubentN1}
-use Rattle.record_expected.specs.Expected.{identificationFor, subentIdentification, subentAccession}
-use Rattle.rules_state.specs.Limits.{LAST-SUBENTRY}
+use Rattle.paper_record.specs.Fields.{fieldsOf, n1, n2}
+use Rattle.paper_record.specs.Word.{pointerOf}
+use Rattle.paper_record.specs.PlainRepeats.{MayRepeat}
+use Rattle.paper_record.specs.Identifier.{SUBENT, NOSUBENT, ENDSUBENT}
+use Rattle.paper_record.specs.System.{subentryOf}
+use Rattle.paper_record.specs.Same.{SameColumns}
+use Rattle.paper_record.specs.Plain.{Date, SubentN1}
+use Rattle.paper_record.specs.Expected.{identificationFor, subentIdentification, subentAccession}
+use Rattle.paper_rules.specs.Limits.{LAST-SUBENTRY}
 use Rattle.rules_plain.specs.Places.{Some, pointersIn, pointersOn}
 use Rattle.rules_plain.specs.Repeated.{SameIn}
 use Rattle.good.specs.Parts.{Record, Subentry001, Later, Subentry, nosubent, subent, bodyOfFirst, bodyOf}

@@ -7,14 +7,14 @@ use lib.ListN.{length}
 use Rattle.laws.specs.Search.{howMany}
 use Rattle.laws.specs.Members.{listOf}
 use Rattle.laws.specs.Walk.{All}
-use Rattle.columns_places.specs.Places.{recordsFor}
-use Rattle.columns.specs.Fields.{fieldsOf, n1, n2}
-use Rattle.record_words.specs.Word.{pointerOf}
-use Rattle.record_names.specs.Identifier.{COMMON, NOCOMMON, ENDCOMMON, DATA, NODATA, ENDDATA, isEnd}
-use Rattle.record.specs.System.{countOf, numberOf}
-use Rattle.record_values.specs.Numbers.{formAt, saysNumber}
-use Rattle.record.specs.Plain.{BlankColumns, Word, UnitWord, PointerOrBlank, AllBlank, NumberField, NumberOrBlank}
-use Rattle.rules_state.specs.Limits.{MOST-COLUMNS, MOST-LINES}
+use Rattle.paper_record.specs.Places.{recordsFor}
+use Rattle.paper_record.specs.Fields.{fieldsOf, n1, n2}
+use Rattle.paper_record.specs.Word.{pointerOf}
+use Rattle.paper_record.specs.Identifier.{COMMON, NOCOMMON, ENDCOMMON, DATA, NODATA, ENDDATA, isEnd}
+use Rattle.paper_record.specs.System.{countOf, numberOf}
+use Rattle.paper_record.specs.Numbers.{formAt, saysNumber}
+use Rattle.paper_record.specs.Plain.{BlankColumns, Word, UnitWord, PointerOrBlank, AllBlank, NumberField, NumberOrBlank}
+use Rattle.paper_rules.specs.Limits.{MOST-COLUMNS, MOST-LINES}
 use Rattle.rules_plain.specs.Places.{cell}
 use Rattle.good.specs.Parts.{Record, Table, Section, present, absent, rowsOf}
 use Rattle.good.specs.Marks.{nameOf, CountIs}

@@ -4,7 +4,7 @@
 use Prim.Native.Nat.{ℕ, _+_}
 use mathlib.Core.List.{List, [], _∷_}
 use lib.ListN.{length}
-use Rattle.rules_state.specs.declared.state.Totals.{Totals}
+use Rattle.paper_rules.specs.declared.types.Totals.{Totals}
 use Rattle.good.specs.Parts.{Record, Bib, Table, Section, present, absent, Subentry, nosubent, subent, Entry}
 use Rattle.good.specs.Tables.{columnsOf, numbersInLine}
 use Rattle.good.specs.Good.{subentriesOf}

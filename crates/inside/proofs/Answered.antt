@@ -10,46 +10,46 @@ use lib.Dec.{eqb}
 use lib.ListN.{length, getD}
 use borrow.Author.Tests.{eqb-true, ne-eqb, le-leb}
 use Rattle.laws.specs.Blocks.{blockAt}
-use Rattle.columns_places.specs.Places.{recordsFor, placeOf}
-use Rattle.columns.specs.Fields.{fieldsOf}
-use Rattle.columns.specs.Text.{within}
-use Rattle.record_values.specs.Numbers.{noValue}
-use Rattle.number.specs.Form.{formOf}
-use Rattle.record_names.specs.Identifier.{COMMON, DATA}
-use Rattle.record.specs.System.{upTo}
-use Rattle.columns_places.specs.declared.places.RecordNo.{RecordNo}
-use Rattle.columns_places.specs.declared.places.LineNo.{LineNo}
-use Rattle.columns_places.specs.declared.places.Place.{Place}
-use Rattle.columns_places.proofs.TablePlaces.{place-at, place-field}
-use Rattle.number.specs.Reading.{readField}
-use Rattle.number_digits.specs.Digits.{fieldRead}
-use Rattle.number.specs.declared.value.Reading.{Reading}
-use Rattle.number.specs.declared.value.Reading.the-variants.{Blank, Number, Refused}
-use Rattle.rules_counts.specs.Counts.{countN1, countN2}
-use Rattle.rules_roles.specs.Roles.{NOT-DUE, isValue}
-use Rattle.rules_state.specs.Limits.{MOST-COLUMNS, MOST-LINES}
-use Rattle.entry_judging.specs.Judging.{roleOf, judgeOf, Accepted}
-use Rattle.rules.proofs.DueRecords.{fine-due}
-use Rattle.rules.proofs.WithoutFault.{fine-reads}
+use Rattle.paper_record.specs.Places.{recordsFor, placeOf}
+use Rattle.paper_record.specs.Fields.{fieldsOf}
+use Rattle.paper_record.specs.Text.{within}
+use Rattle.paper_record.specs.Numbers.{noValue}
+use Rattle.paper_number.specs.Form.{formOf}
+use Rattle.paper_record.specs.Identifier.{COMMON, DATA}
+use Rattle.paper_record.specs.System.{upTo}
+use Rattle.paper_record.specs.declared.types.RecordNo.{RecordNo}
+use Rattle.paper_record.specs.declared.types.LineNo.{LineNo}
+use Rattle.paper_record.specs.declared.types.Place.{Place}
+use Rattle.paper_record.proofs.TablePlaces.{place-at, place-field}
+use Rattle.paper_number.specs.Reading.{readField}
+use Rattle.paper_number.specs.Digits.{fieldRead}
+use Rattle.paper_number.specs.declared.types.Reading.{Reading}
+use Rattle.paper_number.specs.declared.types.Reading.the-variants.{Blank, Number, Refused}
+use Rattle.paper_rules.specs.Counts.{countN1, countN2}
+use Rattle.paper_rules.specs.Roles.{NOT-DUE, isValue}
+use Rattle.paper_rules.specs.Limits.{MOST-COLUMNS, MOST-LINES}
+use Rattle.paper_entry.specs.Judging.{roleOf, judgeOf, Accepted}
+use Rattle.paper_rules.proofs.DueRecords.{fine-due}
+use Rattle.paper_rules.proofs.WithoutFault.{fine-reads}
 use Rattle.entry_walk.proofs.GoingOn.{go-fine}
-use Rattle.entry_judging.specs.Contexts.{contextAt, roleAt}
-use Rattle.entry_verdict.specs.Answer.{firstOf, refusal}
-use Rattle.questions_noted.specs.declared.row.Row.{Row}
-use Rattle.questions_places.specs.declared.place.Shape.{Shape}
-use Rattle.questions_rows.specs.Row.{rowOf}
-use Rattle.questions_places.specs.Place.{COMMON-SECTION, DATA-SECTION, fieldsAt, shapeOf, headingPlace, unitPlace}
-use Rattle.questions_places.specs.Place.{fieldOf, byteOf}
-use Rattle.questions_refusals.specs.Refused.{sectionIn, noSection, noLine, noColumn, sectionRefusals, valueRefusal}
-use Rattle.questions_refusals.specs.Refused.{columnRefusal}
-use Rattle.questions_values.specs.Answers.{valueBy}
-use Rattle.questions_parts.specs.Answers.{headingBy, unitBy}
-use Rattle.questions.specs.Ask.{valueAsked, headingAsked, unitAsked}
+use Rattle.paper_entry.specs.Contexts.{contextAt, roleAt}
+use Rattle.paper_entry.specs.Answer.{firstOf, refusal}
+use Rattle.paper_questions.specs.declared.types.Row.{Row}
+use Rattle.paper_questions.specs.declared.types.Shape.{Shape}
+use Rattle.paper_questions.specs.Located.{rowOf}
+use Rattle.paper_questions.specs.Place.{COMMON-SECTION, DATA-SECTION, fieldsAt, shapeOf, headingPlace, unitPlace}
+use Rattle.paper_questions.specs.Place.{fieldOf, byteOf}
+use Rattle.paper_questions.specs.Refused.{sectionIn, noSection, noLine, noColumn, sectionRefusals, valueRefusal}
+use Rattle.paper_questions.specs.Refused.{columnRefusal}
+use Rattle.paper_questions.specs.ValueAnswers.{valueBy}
+use Rattle.paper_questions.specs.PartAnswers.{headingBy, unitBy}
+use Rattle.paper_questions.specs.Ask.{valueAsked, headingAsked, unitAsked}
 use Rattle.inside.specs.Inside.{OpensSection, isSaid, ValueAnswered, HeadingAnswered, UnitAnswered}
-use Rattle.questions_refusals.proofs.InOrder.{section-none}
+use Rattle.paper_questions.proofs.InOrder.{section-none}
 use Rattle.entry_walk.proofs.AcceptedWalk.{walked}
 use Rattle.entry_walk.proofs.Laid.{rowRole}
 use Rattle.entry_walk.proofs.TableLaid.{table-laid, sectionRole, linesOf, Opened, opened}
-use Rattle.questions_rows.proofs.RowChanges.{Section, common, table, opener, named}
+use Rattle.paper_questions.proofs.RowChanges.{Section, common, table, opener, named}
 use Rattle.inside.proofs.RowWalked.{fields-at}
 use Rattle.inside.proofs.RowFound.{Opening, row-names, row-subent, row-fields}
 

@@ -8,22 +8,22 @@ use mathlib.Core.List.{List, [], _∷_}
 use lib.Dec.{eqb}
 use borrow.Author.Tests.{eqb-true}
 use Rattle.laws.specs.Blocks.{blockAt}
-use Rattle.columns.specs.Fields.{fieldsOf}
-use Rattle.columns_places.specs.declared.places.LineNo.{LineNo}
-use Rattle.columns_places.specs.declared.places.RecordNo.{RecordNo}
-use Rattle.entry_judging.specs.Judging.{judgeOf, Accepted}
-use Rattle.entry_verdict.specs.Answer.{refusal}
-use Rattle.entry_verdict.proofs.Answers.{answer-number}
-use Rattle.questions_noted.specs.Row.{NONE}
-use Rattle.questions_rows.specs.Row.{rowOf}
-use Rattle.questions_places.specs.Place.{COMMON-SECTION, DATA-SECTION, shapeOf}
-use Rattle.questions_refusals.specs.Refused.{sectionIn, InShape, noLine, noColumn, valueRefusal, columnRefusal}
-use Rattle.questions_values.specs.Answers.{valueBy}
-use Rattle.questions_parts.specs.Answers.{headingBy, unitBy}
-use Rattle.questions.specs.Ask.{valueAsked, headingAsked, unitAsked}
-use Rattle.questions_parts.proofs.Parts.{part-number}
-use Rattle.questions_refusals.proofs.InOrder.{value-inside, column-inside}
-use Rattle.questions_rows.proofs.RowChanges.{common, table}
+use Rattle.paper_record.specs.Fields.{fieldsOf}
+use Rattle.paper_record.specs.declared.types.LineNo.{LineNo}
+use Rattle.paper_record.specs.declared.types.RecordNo.{RecordNo}
+use Rattle.paper_entry.specs.Judging.{judgeOf, Accepted}
+use Rattle.paper_entry.specs.Answer.{refusal}
+use Rattle.paper_entry.proofs.Answers.{answer-number}
+use Rattle.paper_questions.specs.Row.{NONE}
+use Rattle.paper_questions.specs.Located.{rowOf}
+use Rattle.paper_questions.specs.Place.{COMMON-SECTION, DATA-SECTION, shapeOf}
+use Rattle.paper_questions.specs.Refused.{sectionIn, InShape, noLine, noColumn, valueRefusal, columnRefusal}
+use Rattle.paper_questions.specs.ValueAnswers.{valueBy}
+use Rattle.paper_questions.specs.PartAnswers.{headingBy, unitBy}
+use Rattle.paper_questions.specs.Ask.{valueAsked, headingAsked, unitAsked}
+use Rattle.paper_questions.proofs.Parts.{part-number}
+use Rattle.paper_questions.proofs.InOrder.{value-inside, column-inside}
+use Rattle.paper_questions.proofs.RowChanges.{common, table}
 use Rattle.inside.specs.Inside.{OpensSection, InsideColumn, InsideValue, linesAnnounced}
 use Rattle.inside.specs.Asked.{ValueInside, HeadingInside, UnitInside, AnsweredSaid, AnsweredTen}
 use Rattle.entry_walk.proofs.TableLaid.{linesOf}

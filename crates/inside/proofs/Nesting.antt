@@ -10,26 +10,26 @@ use lib.ListN.{getD}
 use borrow.Author.Tests.{eqb-true, leb-true, ltb-true}
 use Rattle.laws.specs.Turns.{go}
 use Rattle.laws.proofs.Booleans.{and-left, and-right, or-other, either-as}
-use Rattle.columns.specs.Fields.{fieldsOf, n1}
-use Rattle.record_names.specs.Identifier.{ENTRY, SUBENT, NOSUBENT, BIB, NOBIB, ENDBIB, COMMON, NOCOMMON, ENDCOMMON, DATA}
-use Rattle.record_names.specs.Identifier.{NODATA, ENDDATA, ENDSUBENT, ENDENTRY, OTHER, identifierOf, isEnd}
-use Rattle.record.specs.System.{subentryOf}
-use Rattle.record_words.specs.Word.{blankTo}
-use Rattle.rules_state.specs.declared.state.Phase.{Phase}
-use Rattle.rules_state.specs.declared.state.Phase.the-variants.{Start, Opened, InSubentry, InBib, AfterBib, InCommon}
-use Rattle.rules_state.specs.declared.state.Phase.the-variants.{AfterCommon, InData, AfterData, Between, Done}
-use Rattle.rules_state.specs.declared.state.Track.{Track}
-use Rattle.rules_state.specs.State.{Context, HEADINGS, UNITS}
-use Rattle.rules_roles.specs.Roles.{TEXT, NOT-DUE, isSystem, opensSubentry, isHeading, isUnit, isValue}
-use Rattle.rules_state.specs.Role.{bibRole, allRead, tableRole, dataRole, roleIn}
-use Rattle.rules_system.specs.System.{numberDue}
-use Rattle.rules.proofs.DueRecords.{fine-due, fine-number}
-use Rattle.rules_state.proofs.EitherWay.{either-way}
-use Rattle.entry_next.specs.Due.{phaseAfter}
-use Rattle.entry_tally.specs.Tally.{textRead}
-use Rattle.entry_counted.specs.Counted.{afterSystem, afterInside, trackAfter}
-use Rattle.entry_next.specs.Next.{contextAfter}
-use Rattle.entry_judging.specs.Judging.{roleOf, turnOf}
+use Rattle.paper_record.specs.Fields.{fieldsOf, n1}
+use Rattle.paper_record.specs.Identifier.{ENTRY, SUBENT, NOSUBENT, BIB, NOBIB, ENDBIB, COMMON, NOCOMMON, ENDCOMMON, DATA}
+use Rattle.paper_record.specs.Identifier.{NODATA, ENDDATA, ENDSUBENT, ENDENTRY, OTHER, identifierOf, isEnd}
+use Rattle.paper_record.specs.System.{subentryOf}
+use Rattle.paper_record.specs.Word.{blankTo}
+use Rattle.paper_rules.specs.declared.types.Phase.{Phase}
+use Rattle.paper_rules.specs.declared.types.Phase.the-variants.{Start, Opened, InSubentry, InBib, AfterBib, InCommon}
+use Rattle.paper_rules.specs.declared.types.Phase.the-variants.{AfterCommon, InData, AfterData, Between, Done}
+use Rattle.paper_rules.specs.declared.types.Track.{Track}
+use Rattle.paper_rules.specs.State.{Context, HEADINGS, UNITS}
+use Rattle.paper_rules.specs.Roles.{TEXT, NOT-DUE, isSystem, opensSubentry, isHeading, isUnit, isValue}
+use Rattle.paper_rules.specs.Role.{bibRole, allRead, tableRole, dataRole, roleIn}
+use Rattle.paper_rules.specs.System.{numberDue}
+use Rattle.paper_rules.proofs.DueRecords.{fine-due, fine-number}
+use Rattle.paper_rules.proofs.EitherWay.{either-way}
+use Rattle.paper_entry.specs.Due.{phaseAfter}
+use Rattle.paper_entry.specs.Tally.{textRead}
+use Rattle.paper_entry.specs.Counted.{afterSystem, afterInside, trackAfter}
+use Rattle.paper_entry.specs.Next.{contextAfter}
+use Rattle.paper_entry.specs.Judging.{roleOf, turnOf}
 use Rattle.entry_walk.proofs.GoingOn.{go-fine}
 
 -- ---- ranks

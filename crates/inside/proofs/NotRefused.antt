@@ -9,15 +9,15 @@ use native.Mathlib.Omega.{arith}
 use lib.Dec.{eqb, leb}
 use lib.ListN.{length}
 use borrow.Author.Tests.{eqb-true, eqb-false}
-use Rattle.columns_places.specs.declared.places.RecordNo.{RecordNo}
-use Rattle.entry_verdict.specs.declared.verdict.Verdict.{Verdict}
-use Rattle.entry_judging.specs.Judging.{judgeOf, Accepted}
-use Rattle.entry_verdict.specs.Answer.{Refusal, refusal, firstOf, isRefused, answerOf, answerFor}
-use Rattle.entry_verdict.proofs.Answers.{answer-number}
-use Rattle.questions_noted.specs.declared.row.Row.{Row}
-use Rattle.questions_parts.specs.declared.answers.PartAnswer.{PartAnswer}
-use Rattle.questions_refusals.specs.Refused.{isSubent, noSection, sectionRefusals}
-use Rattle.questions_parts.specs.Answers.{noPart, partWith}
+use Rattle.paper_record.specs.declared.types.RecordNo.{RecordNo}
+use Rattle.paper_entry.specs.declared.types.Verdict.{Verdict}
+use Rattle.paper_entry.specs.Judging.{judgeOf, Accepted}
+use Rattle.paper_entry.specs.Answer.{Refusal, refusal, firstOf, isRefused, answerOf, answerFor}
+use Rattle.paper_entry.proofs.Answers.{answer-number}
+use Rattle.paper_questions.specs.declared.types.Row.{Row}
+use Rattle.paper_questions.specs.declared.types.PartAnswer.{PartAnswer}
+use Rattle.paper_questions.specs.Refused.{isSubent, noSection, sectionRefusals}
+use Rattle.paper_questions.specs.PartAnswers.{noPart, partWith}
 
 -- ---- a part that is handed back, or not
 

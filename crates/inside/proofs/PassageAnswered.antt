@@ -12,24 +12,24 @@ use borrow.Author.Tests.{eqb-true, eqb-false, eq-eqb, ne-eqb, le-leb, lt-ltb, no
 use Rattle.laws.proofs.Booleans.{differ, and-left, and-right, or-other, and-none}
 use Rattle.laws.proofs.Search.{first-from, first-to}
 use Rattle.laws.proofs.Counting.{first-before, first-past, first-holds, first-is}
-use Rattle.columns.specs.Text.{isBlank}
-use Rattle.record_words.specs.Word.{equalTo, pointerOf}
-use Rattle.columns_places.specs.declared.places.RecordNo.{RecordNo}
-use Rattle.record_words.proofs.EqualColumns.{equal-both, equal-taken}
-use Rattle.rules_text.specs.Text.{placeInPart}
-use Rattle.entry_judging.specs.Judging.{judgeOf, Accepted}
-use Rattle.entry_verdict.specs.Answer.{firstOf, refusal}
-use Rattle.questions_noted.specs.declared.row.Row.{Row}
-use Rattle.questions_passages.specs.declared.passage.Passage.{Passage}
-use Rattle.questions_rows.specs.Row.{rowOf}
-use Rattle.questions_places.specs.Place.{firstByte}
-use Rattle.questions_passages.specs.Passage.{textRecord, textAt, hasKeyword, isKeyword, begins, beginsWith, firstText}
-use Rattle.questions_passages.specs.Passage.{passageUnder, passageOf}
-use Rattle.questions_refusals.specs.Refused.{noSection, noPassage, sectionRefusals, passageRefusal}
-use Rattle.questions_parts.specs.Answers.{passageBy}
-use Rattle.questions.specs.Ask.{passageAsked}
-use Rattle.questions_refusals.proofs.InOrder.{section-none}
-use Rattle.questions_rows.proofs.RowChanges.{bib}
+use Rattle.paper_record.specs.Text.{isBlank}
+use Rattle.paper_record.specs.Word.{equalTo, pointerOf}
+use Rattle.paper_record.specs.declared.types.RecordNo.{RecordNo}
+use Rattle.paper_record.proofs.EqualColumns.{equal-both, equal-taken}
+use Rattle.paper_rules.specs.Text.{placeInPart}
+use Rattle.paper_entry.specs.Judging.{judgeOf, Accepted}
+use Rattle.paper_entry.specs.Answer.{firstOf, refusal}
+use Rattle.paper_questions.specs.declared.types.Row.{Row}
+use Rattle.paper_questions.specs.declared.types.Passage.{Passage}
+use Rattle.paper_questions.specs.Located.{rowOf}
+use Rattle.paper_questions.specs.Place.{firstByte}
+use Rattle.paper_questions.specs.Passage.{textRecord, textAt, hasKeyword, isKeyword, begins, beginsWith, firstText}
+use Rattle.paper_questions.specs.Passage.{passageUnder, passageOf}
+use Rattle.paper_questions.specs.Refused.{noSection, noPassage, sectionRefusals, passageRefusal}
+use Rattle.paper_questions.specs.PartAnswers.{passageBy}
+use Rattle.paper_questions.specs.Ask.{passageAsked}
+use Rattle.paper_questions.proofs.InOrder.{section-none}
+use Rattle.paper_questions.proofs.RowChanges.{bib}
 use Rattle.inside.specs.Inside.{TextOf, InsidePassage, RunFrom, PassageAnswered, BegunInside, OnePassage}
 use Rattle.inside.proofs.RecordsFrom.{place-field}
 use Rattle.inside.proofs.RowWalked.{fields-at}

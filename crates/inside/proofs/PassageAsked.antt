@@ -12,19 +12,19 @@ use borrow.Author.Tests.{eqb-false, ltb-true}
 use Rattle.laws.proofs.Booleans.{and-left, and-right}
 use Rattle.laws.proofs.Search.{first-from, first-to}
 use Rattle.laws.proofs.Counting.{first-before, first-holds}
-use Rattle.columns_places.specs.declared.places.RecordNo.{RecordNo}
-use Rattle.record_words.specs.Word.{equalTo}
-use Rattle.rules_text.specs.Text.{placeInPart}
-use Rattle.entry_judging.specs.Judging.{judgeOf, Accepted}
-use Rattle.questions_rows.specs.Row.{rowOf}
-use Rattle.questions_passages.specs.declared.passage.Passage.{Passage}
-use Rattle.questions_passages.specs.Passage.{textRecords, textRecord, textAt, hasKeyword, isKeyword, begins, beginsWith}
-use Rattle.questions_passages.specs.Passage.{firstText, NO-PASSAGE, passageUnder, passageOf}
-use Rattle.entry_verdict.specs.Answer.{refusal}
-use Rattle.questions_refusals.specs.Refused.{noPassage, passageRefusal}
-use Rattle.questions_parts.specs.Answers.{passageBy}
-use Rattle.questions.specs.Ask.{passageAsked}
-use Rattle.questions_parts.proofs.Parts.{part-number}
+use Rattle.paper_record.specs.declared.types.RecordNo.{RecordNo}
+use Rattle.paper_record.specs.Word.{equalTo}
+use Rattle.paper_rules.specs.Text.{placeInPart}
+use Rattle.paper_entry.specs.Judging.{judgeOf, Accepted}
+use Rattle.paper_questions.specs.Located.{rowOf}
+use Rattle.paper_questions.specs.declared.types.Passage.{Passage}
+use Rattle.paper_questions.specs.Passage.{textRecords, textRecord, textAt, hasKeyword, isKeyword, begins, beginsWith}
+use Rattle.paper_questions.specs.Passage.{firstText, NO-PASSAGE, passageUnder, passageOf}
+use Rattle.paper_entry.specs.Answer.{refusal}
+use Rattle.paper_questions.specs.Refused.{noPassage, passageRefusal}
+use Rattle.paper_questions.specs.PartAnswers.{passageBy}
+use Rattle.paper_questions.specs.Ask.{passageAsked}
+use Rattle.paper_questions.proofs.Parts.{part-number}
 use Rattle.inside.specs.Inside.{TextOf, InsidePassage}
 use Rattle.inside.proofs.RecordsFrom.{place-field}
 use Rattle.inside.proofs.RowWalked.{fields-at}

@@ -11,27 +11,27 @@ use native.Mathlib.Omega.{arith}
 use native.Mathlib.Nat.{suc-mul, zero-mul}
 use lib.ListN.{length}
 use Rattle.laws.specs.Blocks.{blockAt}
-use Rattle.number.specs.Reading.{readField}
-use Rattle.number_digits.specs.Digits.{digitCount, fieldRead}
-use Rattle.columns_places.specs.Places.{recordsFor, placeOf}
-use Rattle.columns.specs.Fields.{fieldsOf}
-use Rattle.columns_places.specs.declared.places.LineNo.{LineNo}
-use Rattle.columns_places.specs.declared.places.Place.{Place}
-use Rattle.columns_places.specs.declared.places.RecordNo.{RecordNo}
-use Rattle.columns.proofs.ReadColumns.{field-of}
-use Rattle.columns_places.proofs.TablePlaces.{place-at, place-field}
-use Rattle.record_words.specs.Word.{pointerOf}
-use Rattle.rules_roles.specs.Roles.{COMMON-HEADING, COMMON-UNIT, COMMON-VALUE, DATA-HEADING, DATA-UNIT, DATA-VALUE}
-use Rattle.rules_counts.specs.Counts.{countN1}
-use Rattle.entry_judging.specs.Judging.{judgeOf, Accepted}
-use Rattle.entry_judging.specs.Contexts.{contextAt, roleAt}
-use Rattle.questions_rows.specs.Row.{rowOf}
-use Rattle.questions_places.specs.declared.place.Shape.{Shape}
-use Rattle.questions_places.specs.Place.{shapeOf, headingPlace, unitPlace, fieldOf, byteOf}
-use Rattle.questions_refusals.specs.Refused.{sectionIn, valueRefusal, columnRefusal}
-use Rattle.questions_values.specs.Answers.{valueBy}
-use Rattle.questions_parts.specs.Answers.{headingBy, unitBy}
-use Rattle.questions.specs.Ask.{valueAsked, headingAsked, unitAsked}
+use Rattle.paper_number.specs.Reading.{readField}
+use Rattle.paper_number.specs.Digits.{digitCount, fieldRead}
+use Rattle.paper_record.specs.Places.{recordsFor, placeOf}
+use Rattle.paper_record.specs.Fields.{fieldsOf}
+use Rattle.paper_record.specs.declared.types.LineNo.{LineNo}
+use Rattle.paper_record.specs.declared.types.Place.{Place}
+use Rattle.paper_record.specs.declared.types.RecordNo.{RecordNo}
+use Rattle.paper_record.proofs.ReadColumns.{field-of}
+use Rattle.paper_record.proofs.TablePlaces.{place-at, place-field}
+use Rattle.paper_record.specs.Word.{pointerOf}
+use Rattle.paper_rules.specs.Roles.{COMMON-HEADING, COMMON-UNIT, COMMON-VALUE, DATA-HEADING, DATA-UNIT, DATA-VALUE}
+use Rattle.paper_rules.specs.Counts.{countN1}
+use Rattle.paper_entry.specs.Judging.{judgeOf, Accepted}
+use Rattle.paper_entry.specs.Contexts.{contextAt, roleAt}
+use Rattle.paper_questions.specs.Located.{rowOf}
+use Rattle.paper_questions.specs.declared.types.Shape.{Shape}
+use Rattle.paper_questions.specs.Place.{shapeOf, headingPlace, unitPlace, fieldOf, byteOf}
+use Rattle.paper_questions.specs.Refused.{sectionIn, valueRefusal, columnRefusal}
+use Rattle.paper_questions.specs.ValueAnswers.{valueBy}
+use Rattle.paper_questions.specs.PartAnswers.{headingBy, unitBy}
+use Rattle.paper_questions.specs.Ask.{valueAsked, headingAsked, unitAsked}
 use Rattle.inside.specs.Placed.{cellAt, Cell, inSection, ValueAt, ValuePlaced, HeadingAt, HeadingPlaced, UnitAt}
 use Rattle.inside.specs.Placed.{UnitPlaced}
 use Rattle.entry_walk.proofs.AcceptedWalk.{walked}

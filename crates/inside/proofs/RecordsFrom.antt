@@ -11,10 +11,10 @@ use lib.Seq.{length-take-le, take-add, take-take, drop-drop, drop-at, getD-take,
 use Rattle.laws.specs.Blocks.{blockAt}
 use Rattle.laws.specs.Members.{anyOf}
 use Rattle.laws.proofs.Listing.{any-none}
-use Rattle.columns.specs.Fields.{fieldsOf}
-use Rattle.record_words.specs.Word.{equalTo, pointerOf}
-use Rattle.columns.proofs.ReadColumns.{field-of}
-use Rattle.rules_text.specs.Text.{placeInPart, placesOf, pointersOf, pointerAt}
+use Rattle.paper_record.specs.Fields.{fieldsOf}
+use Rattle.paper_record.specs.Word.{equalTo, pointerOf}
+use Rattle.paper_record.proofs.ReadColumns.{field-of}
+use Rattle.paper_rules.specs.Text.{placeInPart, placesOf, pointersOf, pointerAt}
 
 -- columns 1 to 11 are the first field
 pub place-field : (s : List ℕ) (i : ℕ) → getD (fieldsOf (blockAt 81 s i)) 0 [] ≡ placeInPart s i

@@ -12,29 +12,29 @@ use lib.ListN.{length, getD}
 use borrow.Author.Tests.{eqb-true}
 use Rattle.laws.specs.Blocks.{blockAt}
 use Rattle.laws.proofs.Booleans.{either-as}
-use Rattle.columns_places.specs.Places.{recordOf}
-use Rattle.columns.specs.Fields.{fieldsOf, n1}
-use Rattle.record_names.specs.Identifier.{SUBENT, NOSUBENT, BIB, COMMON, DATA, ENTRY, NOBIB, ENDBIB, NOCOMMON, ENDCOMMON}
-use Rattle.record_names.specs.Identifier.{NODATA, ENDDATA, ENDSUBENT, ENDENTRY, OTHER, identifierOf, isEnd}
-use Rattle.record.specs.System.{subentryOf}
-use Rattle.columns_places.specs.declared.places.RecordNo.{RecordNo}
-use Rattle.rules_state.specs.declared.state.Phase.{Phase}
-use Rattle.rules_state.specs.declared.state.Phase.the-variants.{Start, Opened, InSubentry, InBib, AfterBib, InCommon}
-use Rattle.rules_state.specs.declared.state.Phase.the-variants.{AfterCommon, InData, AfterData, Between, Done}
-use Rattle.rules_state.specs.declared.state.Track.{Track}
-use Rattle.rules_state.specs.State.{Context, HEADINGS, UNITS}
-use Rattle.rules_roles.specs.Roles.{opensSubentry}
-use Rattle.rules_state.specs.Role.{bibRole, allRead, tableRole, dataRole, roleIn}
-use Rattle.rules_state.proofs.EitherWay.{either-way}
-use Rattle.entry_next.specs.Due.{phaseAfter}
-use Rattle.entry_judging.specs.Judging.{Accepted}
-use Rattle.entry_judging.specs.Contexts.{contextAt, roleAt}
+use Rattle.paper_record.specs.Places.{recordOf}
+use Rattle.paper_record.specs.Fields.{fieldsOf, n1}
+use Rattle.paper_record.specs.Identifier.{SUBENT, NOSUBENT, BIB, COMMON, DATA, ENTRY, NOBIB, ENDBIB, NOCOMMON, ENDCOMMON}
+use Rattle.paper_record.specs.Identifier.{NODATA, ENDDATA, ENDSUBENT, ENDENTRY, OTHER, identifierOf, isEnd}
+use Rattle.paper_record.specs.System.{subentryOf}
+use Rattle.paper_record.specs.declared.types.RecordNo.{RecordNo}
+use Rattle.paper_rules.specs.declared.types.Phase.{Phase}
+use Rattle.paper_rules.specs.declared.types.Phase.the-variants.{Start, Opened, InSubentry, InBib, AfterBib, InCommon}
+use Rattle.paper_rules.specs.declared.types.Phase.the-variants.{AfterCommon, InData, AfterData, Between, Done}
+use Rattle.paper_rules.specs.declared.types.Track.{Track}
+use Rattle.paper_rules.specs.State.{Context, HEADINGS, UNITS}
+use Rattle.paper_rules.specs.Roles.{opensSubentry}
+use Rattle.paper_rules.specs.Role.{bibRole, allRead, tableRole, dataRole, roleIn}
+use Rattle.paper_rules.proofs.EitherWay.{either-way}
+use Rattle.paper_entry.specs.Due.{phaseAfter}
+use Rattle.paper_entry.specs.Judging.{Accepted}
+use Rattle.paper_entry.specs.Contexts.{contextAt, roleAt}
 use Rattle.entry_walk.proofs.Contexts.{records-at}
-use Rattle.questions_rows.specs.Row.{rowAt, rowOf}
-use Rattle.questions_places.specs.Place.{fieldsAt, identifierAt}
-use Rattle.questions_rows.proofs.RowChanges.{Section, bib, common, table, opener, named, level, first-stays, first-set}
-use Rattle.questions_rows.proofs.RowChanges.{section-stays, section-set}
-use Rattle.questions_rows.proofs.RowNoted.{found-row}
+use Rattle.paper_questions.specs.Located.{rowAt, rowOf}
+use Rattle.paper_questions.specs.Place.{fieldsAt, identifierAt}
+use Rattle.paper_questions.proofs.RowChanges.{Section, bib, common, table, opener, named, level, first-stays, first-set}
+use Rattle.paper_questions.proofs.RowChanges.{section-stays, section-set}
+use Rattle.paper_questions.proofs.FoundRow.{found-row}
 use Rattle.inside.specs.Inside.{RecordOf}
 use Rattle.entry_walk.proofs.AcceptedWalk.{Walked, walked}
 use Rattle.inside.proofs.Nesting.{rank, Unnumbered, unnumbered-turn, key, Nested, nested-turn}

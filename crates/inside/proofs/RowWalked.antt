@@ -7,13 +7,13 @@ use native.Mathlib.Omega.{arith}
 use lib.ListN.{length}
 use borrow.Author.Tests.{ne-eqb, le-leb}
 use Rattle.laws.specs.Blocks.{blockAt}
-use Rattle.columns.specs.Fields.{fieldsOf}
-use Rattle.columns_places.specs.declared.places.RecordNo.{RecordNo}
-use Rattle.entry_judging.specs.Judging.{roleOf}
-use Rattle.entry_judging.specs.Contexts.{contextAt, roleAt}
-use Rattle.questions_rows.specs.Row.{notedAs, rowAt}
-use Rattle.questions_places.specs.Place.{fieldsAt}
-use Rattle.questions_rows.proofs.RowChanges.{number-stays}
+use Rattle.paper_record.specs.Fields.{fieldsOf}
+use Rattle.paper_record.specs.declared.types.RecordNo.{RecordNo}
+use Rattle.paper_entry.specs.Judging.{roleOf}
+use Rattle.paper_entry.specs.Contexts.{contextAt, roleAt}
+use Rattle.paper_questions.specs.Located.{notedAs, rowAt}
+use Rattle.paper_questions.specs.Place.{fieldsAt}
+use Rattle.paper_questions.proofs.RowChanges.{number-stays}
 
 pub number-of : (s : List ℕ) (number i : ℕ) → rowAt s number i .number ≡ number
 unfolding rowAt

@@ -14,35 +14,34 @@ use Rattle.laws.specs.Turns.{go}
 use Rattle.laws.specs.Blocks.{blockAt}
 use Rattle.laws.proofs.Search.{either}
 use Rattle.laws.proofs.Booleans.{either-as}
-use Rattle.columns.specs.Fields.{fieldsOf}
-use Rattle.record_names.specs.Identifier.{BIB, OTHER, identifierOf}
-use Rattle.record_words.specs.Word.{blankTo}
-use Rattle.columns_places.specs.declared.places.RecordNo.{RecordNo}
-use Rattle.rules_state.specs.declared.state.Phase.{Phase}
-use Rattle.rules_state.specs.declared.state.Phase.the-variants.{InBib}
-use Rattle.rules_state.specs.declared.state.Track.{Track}
-use Rattle.rules_state.specs.State.{Context}
-use Rattle.rules_state.specs.Limits.{MOST-RECORDS}
-use Rattle.rules_counts.specs.Counts.{countN2}
-use Rattle.rules_roles.specs.Roles.{TEXT, NOT-DUE, isValue}
-use Rattle.rules_state.specs.Role.{bibRole, roleIn}
-use Rattle.rules.proofs.DueRecords.{fine-due}
-use Rattle.entry_next.specs.Due.{phaseAfter}
-use Rattle.entry_tally.specs.Tally.{textRead}
-use Rattle.entry_counted.specs.Counted.{afterSystem, afterInside, trackAfter}
-use Rattle.entry_next.specs.Next.{contextAfter}
-use Rattle.entry_judging.specs.Judging.{roleOf, turnOf, Accepted}
-use Rattle.entry_verdict.specs.Verdict.{isDone}
+use Rattle.paper_record.specs.Fields.{fieldsOf}
+use Rattle.paper_record.specs.Identifier.{BIB, OTHER, identifierOf}
+use Rattle.paper_record.specs.Word.{blankTo}
+use Rattle.paper_record.specs.declared.types.RecordNo.{RecordNo}
+use Rattle.paper_rules.specs.declared.types.Phase.{Phase}
+use Rattle.paper_rules.specs.declared.types.Phase.the-variants.{InBib}
+use Rattle.paper_rules.specs.declared.types.Track.{Track}
+use Rattle.paper_rules.specs.State.{Context}
+use Rattle.paper_rules.specs.Limits.{MOST-RECORDS}
+use Rattle.paper_rules.specs.Counts.{countN2}
+use Rattle.paper_rules.specs.Roles.{TEXT, NOT-DUE, isValue}
+use Rattle.paper_rules.specs.Role.{bibRole, roleIn}
+use Rattle.paper_rules.proofs.DueRecords.{fine-due}
+use Rattle.paper_entry.specs.Due.{phaseAfter}
+use Rattle.paper_entry.specs.Tally.{textRead}
+use Rattle.paper_entry.specs.Counted.{afterSystem, afterInside, trackAfter}
+use Rattle.paper_entry.specs.Next.{contextAfter}
+use Rattle.paper_entry.specs.Judging.{roleOf, turnOf, Accepted}
+use Rattle.paper_entry.specs.Verdict.{isDone}
 use Rattle.entry_walk.proofs.GoingOn.{go-fine}
-use Rattle.entry_step.proofs.Numbered.{whole-records}
-use Rattle.entry_step.proofs.Walking.{accepted-good}
-use Rattle.entry_judging.specs.Contexts.{behind, contextAt, roleAt}
+use Rattle.paper_entry.proofs.Lengths.{whole-records, accepted-good}
+use Rattle.paper_entry.specs.Contexts.{behind, contextAt, roleAt}
 use Rattle.entry_walk.proofs.Contexts.{records-at}
-use Rattle.questions_noted.specs.declared.row.Row.{Row}
-use Rattle.questions_rows.specs.Row.{notedAs, rowAt, rowOf}
-use Rattle.questions_passages.specs.Passage.{textRecords}
-use Rattle.questions_rows.proofs.RowChanges.{Section, bib, common, table, opener, named, section-stays, section-set}
-use Rattle.questions_rows.proofs.RowNoted.{found-row}
+use Rattle.paper_questions.specs.declared.types.Row.{Row}
+use Rattle.paper_questions.specs.Located.{notedAs, rowAt, rowOf}
+use Rattle.paper_questions.specs.Passage.{textRecords}
+use Rattle.paper_questions.proofs.RowChanges.{Section, bib, common, table, opener, named, section-stays, section-set}
+use Rattle.paper_questions.proofs.FoundRow.{found-row}
 use Rattle.inside.specs.Inside.{TextOf}
 use Rattle.entry_walk.proofs.AcceptedWalk.{walked}
 use Rattle.inside.proofs.RowWalked.{number-of, row-next}

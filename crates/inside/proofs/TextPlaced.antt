@@ -10,18 +10,18 @@ use lib.ListN.{length, getD}
 use borrow.Author.Tests.{eqb-true, eqb-false, eq-eqb}
 use Rattle.laws.specs.Blocks.{blockAt}
 use Rattle.laws.proofs.Booleans.{differ, either-as, or-either}
-use Rattle.columns.specs.Fields.{fieldsOf}
-use Rattle.record_names.specs.Identifier.{BIB, ENDBIB, OTHER, identifierOf}
-use Rattle.rules_state.specs.State.{Context}
-use Rattle.rules_roles.specs.Roles.{TEXT, NOT-DUE}
-use Rattle.rules_state.specs.Role.{only, bibRole, roleIn}
-use Rattle.rules_state.proofs.RolePlaces.{inBib, text-in-bib}
-use Rattle.entry_next.specs.Due.{phaseAfter}
-use Rattle.entry_next.specs.Next.{contextAfter}
-use Rattle.entry_next.proofs.Following.{bib-led}
-use Rattle.entry_judging.specs.Judging.{Accepted}
-use Rattle.entry_judging.specs.Contexts.{contextAt, roleAt}
-use Rattle.questions_rows.proofs.RowChanges.{bib}
+use Rattle.paper_record.specs.Fields.{fieldsOf}
+use Rattle.paper_record.specs.Identifier.{BIB, ENDBIB, OTHER, identifierOf}
+use Rattle.paper_rules.specs.State.{Context}
+use Rattle.paper_rules.specs.Roles.{TEXT, NOT-DUE}
+use Rattle.paper_rules.specs.Role.{only, bibRole, roleIn}
+use Rattle.paper_rules.proofs.RolePlaces.{inBib, text-in-bib}
+use Rattle.paper_entry.specs.Due.{phaseAfter}
+use Rattle.paper_entry.specs.Next.{contextAfter}
+use Rattle.paper_entry.proofs.Leads.{bib-led}
+use Rattle.paper_entry.specs.Judging.{Accepted}
+use Rattle.paper_entry.specs.Contexts.{contextAt, roleAt}
+use Rattle.paper_questions.proofs.RowChanges.{bib}
 use Rattle.inside.specs.Inside.{TextOf}
 use Rattle.inside.proofs.RowFound.{Opening, row-names}
 use Rattle.inside.proofs.TextLaid.{InTexts, textsOf, texts-stand, text-laid}

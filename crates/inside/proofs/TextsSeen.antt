@@ -14,24 +14,24 @@ use Rattle.laws.specs.Blocks.{blockAt}
 use Rattle.laws.specs.Members.{anyOf}
 use Rattle.laws.proofs.Booleans.{differ, or-right}
 use Rattle.laws.proofs.Search.{either}
-use Rattle.columns.specs.Fields.{fieldsOf}
-use Rattle.columns.specs.Text.{isBlank}
-use Rattle.record_words.specs.Word.{blankTo, equalTo, isWord, pointerOf}
-use Rattle.record_faults.specs.Faults.{badPointer}
-use Rattle.rules_roles.specs.declared.fault.Fault.the-variants.{Fine}
-use Rattle.rules_state.specs.declared.state.Track.{Track}
-use Rattle.rules_state.specs.State.{Seen}
-use Rattle.rules_roles.specs.Roles.{TEXT}
-use Rattle.rules_text.specs.Text.{placeInPart, placesOf, pointersOf, keywordFault, rule10, pointerRepeated, rule11Text}
-use Rattle.rules.specs.Order.{faultOf}
-use Rattle.rules.specs.Clean.{Clean}
-use Rattle.rules.proofs.NoColumns.{when-none}
-use Rattle.rules.proofs.Clean.{fine-clean}
-use Rattle.entry_judging.specs.Judging.{Accepted}
+use Rattle.paper_record.specs.Fields.{fieldsOf}
+use Rattle.paper_record.specs.Text.{isBlank}
+use Rattle.paper_record.specs.Word.{blankTo, equalTo, isWord, pointerOf}
+use Rattle.paper_record.specs.Faults.{badPointer}
+use Rattle.paper_rules.specs.declared.types.Fault.the-variants.{Fine}
+use Rattle.paper_rules.specs.declared.types.Track.{Track}
+use Rattle.paper_rules.specs.State.{Seen}
+use Rattle.paper_rules.specs.Roles.{TEXT}
+use Rattle.paper_rules.specs.Text.{placeInPart, placesOf, pointersOf, keywordFault, rule10, pointerRepeated, rule11Text}
+use Rattle.paper_rules.specs.Order.{faultOf}
+use Rattle.paper_rules.specs.Clean.{Clean}
+use Rattle.paper_rules.proofs.NoColumns.{when-none}
+use Rattle.paper_rules.proofs.Clean.{fine-clean}
+use Rattle.paper_entry.specs.Judging.{Accepted}
 use Rattle.entry_walk.proofs.GoingOn.{go-fine}
-use Rattle.entry_judging.specs.Contexts.{contextAt, roleAt}
-use Rattle.questions_passages.specs.Passage.{hasKeyword}
-use Rattle.questions_rows.proofs.RowChanges.{bib}
+use Rattle.paper_entry.specs.Contexts.{contextAt, roleAt}
+use Rattle.paper_questions.specs.Passage.{hasKeyword}
+use Rattle.paper_questions.proofs.RowChanges.{bib}
 use Rattle.inside.specs.Inside.{TextOf, Under}
 use Rattle.entry_walk.proofs.AcceptedWalk.{walked}
 use Rattle.entry_walk.proofs.Contexts.{context-after}

@@ -4,9 +4,9 @@ use Prim.Native.Nat.{ℕ}
 use mathlib.Core.Path.{_≡_}
 use mathlib.Core.Bool.{true}
 use mathlib.Core.List.{List}
-use Rattle.columns_places.specs.declared.places.LineNo.{LineNo}
-use Rattle.entry_judging.specs.Judging.{Accepted}
-use Rattle.questions.specs.Ask.{valueAsked, headingAsked, unitAsked, passageAsked}
+use Rattle.paper_record.specs.declared.types.LineNo.{LineNo}
+use Rattle.paper_entry.specs.Judging.{Accepted}
+use Rattle.paper_questions.specs.Ask.{valueAsked, headingAsked, unitAsked, passageAsked}
 use Rattle.inside.specs.Inside.{InsideValue, InsideColumn, InsidePassage, isSaid}
 
 abbrev pub ValueInside : Type 0

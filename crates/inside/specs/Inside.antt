@@ -11,21 +11,21 @@ use mathlib.Core.List.{List}
 use lib.Dec.{eqb}
 use lib.ListN.{length, take}
 use Rattle.laws.specs.Blocks.{blockAt}
-use Rattle.number.specs.declared.value.Reading.{Reading}
-use Rattle.number.specs.declared.value.Reading.the-variants.{Blank, Number, Refused}
-use Rattle.columns.specs.Fields.{fieldsOf}
-use Rattle.record_words.specs.Word.{equalTo, pointerOf}
-use Rattle.record_names.specs.Identifier.{COMMON, DATA}
-use Rattle.columns_places.specs.declared.places.LineNo.{LineNo}
-use Rattle.rules_counts.specs.Counts.{countN1, countN2}
-use Rattle.rules_text.specs.Text.{placeInPart}
-use Rattle.rules_roles.specs.Roles.{TEXT, NOT-DUE}
-use Rattle.entry_judging.specs.Judging.{Accepted}
-use Rattle.entry_judging.specs.Contexts.{contextAt, roleAt}
-use Rattle.questions_places.specs.Place.{COMMON-SECTION, DATA-SECTION}
-use Rattle.questions_parts.specs.declared.answers.PartAnswer.{PartAnswer}
-use Rattle.questions_passages.specs.Passage.{hasKeyword, begins, beginsWith}
-use Rattle.questions.specs.Ask.{valueAsked, headingAsked, unitAsked, passageAsked}
+use Rattle.paper_number.specs.declared.types.Reading.{Reading}
+use Rattle.paper_number.specs.declared.types.Reading.the-variants.{Blank, Number, Refused}
+use Rattle.paper_record.specs.Fields.{fieldsOf}
+use Rattle.paper_record.specs.Word.{equalTo, pointerOf}
+use Rattle.paper_record.specs.Identifier.{COMMON, DATA}
+use Rattle.paper_record.specs.declared.types.LineNo.{LineNo}
+use Rattle.paper_rules.specs.Counts.{countN1, countN2}
+use Rattle.paper_rules.specs.Text.{placeInPart}
+use Rattle.paper_rules.specs.Roles.{TEXT, NOT-DUE}
+use Rattle.paper_entry.specs.Judging.{Accepted}
+use Rattle.paper_entry.specs.Contexts.{contextAt, roleAt}
+use Rattle.paper_questions.specs.Place.{COMMON-SECTION, DATA-SECTION}
+use Rattle.paper_questions.specs.declared.types.PartAnswer.{PartAnswer}
+use Rattle.paper_questions.specs.Passage.{hasKeyword, begins, beginsWith}
+use Rattle.paper_questions.specs.Ask.{valueAsked, headingAsked, unitAsked, passageAsked}
 
 -- ---- a record of a subentry
 

@@ -9,18 +9,18 @@ use mathlib.Core.List.{List}
 use lib.Dec.{eqb}
 use lib.ListN.{length}
 use Rattle.laws.specs.Blocks.{blockAt}
-use Rattle.number.specs.Reading.{readField}
-use Rattle.number_digits.specs.Digits.{digitCount}
-use Rattle.questions_values.specs.declared.answers.ValueAnswer.{ValueAnswer}
-use Rattle.columns.specs.Fields.{fieldAt}
-use Rattle.columns_places.specs.declared.places.LineNo.{LineNo}
-use Rattle.record_words.specs.Word.{pointerOf}
-use Rattle.rules_roles.specs.Roles.{COMMON-HEADING, COMMON-UNIT, COMMON-VALUE, DATA-HEADING, DATA-UNIT, DATA-VALUE}
-use Rattle.entry_judging.specs.Judging.{Accepted}
-use Rattle.entry_judging.specs.Contexts.{contextAt, roleAt}
-use Rattle.questions_parts.specs.declared.answers.PartAnswer.{PartAnswer}
-use Rattle.questions_places.specs.Place.{COMMON-SECTION}
-use Rattle.questions.specs.Ask.{valueAsked, headingAsked, unitAsked}
+use Rattle.paper_number.specs.Reading.{readField}
+use Rattle.paper_number.specs.Digits.{digitCount}
+use Rattle.paper_questions.specs.declared.types.ValueAnswer.{ValueAnswer}
+use Rattle.paper_record.specs.Fields.{fieldAt}
+use Rattle.paper_record.specs.declared.types.LineNo.{LineNo}
+use Rattle.paper_record.specs.Word.{pointerOf}
+use Rattle.paper_rules.specs.Roles.{COMMON-HEADING, COMMON-UNIT, COMMON-VALUE, DATA-HEADING, DATA-UNIT, DATA-VALUE}
+use Rattle.paper_entry.specs.Judging.{Accepted}
+use Rattle.paper_entry.specs.Contexts.{contextAt, roleAt}
+use Rattle.paper_questions.specs.declared.types.PartAnswer.{PartAnswer}
+use Rattle.paper_questions.specs.Place.{COMMON-SECTION}
+use Rattle.paper_questions.specs.Ask.{valueAsked, headingAsked, unitAsked}
 use Rattle.inside.specs.Inside.{InsideValue, InsideColumn}
 
 -- ---- cells

@@ -3,7 +3,7 @@
 ghost use Prim.Native.Nat.{_<_};
 ghost use lib.ListN.{length};
 use entry::judge::judge;
-use entry_verdict::verdict::Verdict;
+use paper_entry::types::Verdict;
 use program_text::say_line;
 use std::num::wrapping_add_u32;
 

@@ -1,15 +1,1 @@
-pub mod Tens
-pub mod Sums
-pub mod Equation
-pub mod Spelling
-pub mod Bytes
-pub mod Reach
-pub mod Ended
-pub mod Follow
-pub mod Agree
-pub mod Bounds
-pub mod Letters
-pub mod Difference
-pub mod Zeros
 pub mod Tables
-pub mod Laws

@@ -9,11 +9,11 @@ use native.Mathlib.Omega.{arith}
 use lib.ListN.{length, getD, take}
 use Rattle.laws.specs.Members.{listOf}
 use Rattle.laws.proofs.Members.{list-at}
-use Rattle.number.specs.Reading as R
-use Rattle.number.specs.Reading.{Kind, Column, columnOf, Scan, Lead, Signed, Whole, Point, Fraction, Gap, Mark}
-use Rattle.number.specs.Reading.{MarkGap, PowerSign, Power, Bad, scanStep, scanOf, finish}
-use Rattle.number.specs.Form.{formOf, kindNumber, placeNumber, kindTable, nextTable, formAtEnd}
-use Rattle.number.proofs.Bytes.{on-each}
+use Rattle.paper_number.specs.Reading as R
+use Rattle.paper_number.specs.Reading.{Kind, Column, columnOf, Scan, Lead, Signed, Whole, Point, Fraction, Gap, Mark}
+use Rattle.paper_number.specs.Reading.{MarkGap, PowerSign, Power, Bad, scanStep, scanOf, finish}
+use Rattle.paper_number.specs.Form.{formOf, kindNumber, placeNumber, kindTable, nextTable, formAtEnd}
+use Rattle.paper_number.proofs.Bytes.{on-each}
 
 -- ---- the kinds
 

@@ -2,14 +2,9 @@
 // table of the places to which they lead.
 ghost use mathlib.Core.Path.{_≡_};
 ghost use Prim.Native.Nat.{_<_};
-ghost use Rattle.number.specs.Reading.{Scan, columnOf, scanStep, readField, answer};
-ghost use Rattle.number.specs.Form.{formOf, formRefusal, kindTable, nextTable, placeNumber, formAtEnd, Tables};
-
-pub enum Form {
-    Blank,
-    Number,
-    Malformed,
-}
+ghost use Rattle.paper_number.specs.Reading.{Scan, columnOf, scanStep, readField, answer};
+ghost use Rattle.paper_number.specs.Form.{formOf, formRefusal, kindTable, nextTable, placeNumber, formAtEnd, Tables};
+use paper_number::types::Form;
 
 // The tables are written out where they are made, so a caller makes them once and lends them.
 

@@ -1,15 +1,8 @@
 // How many digits were written in a field.
 ghost use mathlib.Core.Path.{_≡_};
 ghost use Prim.Native.Nat.{_<_, _^_};
-ghost use Rattle.number_digits.specs.Count.{significant};
-use number::value::Reading;
-
-// What a field says, and how many digits were written in it, from the first that is not zero to the last: 0 where it is
-// no number.
-pub struct FieldRead {
-    pub reading: Reading,
-    pub digits: u8,
-}
+ghost use Rattle.paper_number.specs.Count.{significant};
+use paper_number::types::Reading;
 
 // Of a number below 100,000. A few tests in place of a loop: it is done for every value that is asked for.
 fn few_digits(n: u64) -> u8

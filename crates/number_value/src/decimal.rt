@@ -2,10 +2,10 @@
 ghost use mathlib.Core.Path.{_≡_};
 ghost use Prim.Native.Nat.{_+_, _<_, _≤_, _^_};
 ghost use lib.IntN.{pos, _-ℤ_};
-ghost use Rattle.number.specs.Value.{signedBy, valueOf};
+ghost use Rattle.paper_number.specs.Value.{signedBy, valueOf};
 use crate::signed::difference;
-use number::value::Decimal;
 use number::value::without_zeros;
+use paper_number::types::Decimal;
 
 pub fn value(negative: bool, number: u64, places: u32, below: bool, size: u32) -> Decimal
     requires { ⌜ (places ≤ 11) × (size < 10 ^ 8) ⌝ }

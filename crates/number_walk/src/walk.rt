@@ -3,37 +3,11 @@
 ghost use mathlib.Core.Path.{_≡_};
 ghost use Prim.Native.Nat.{_+_, _*_, _<_, _≤_, _^_};
 ghost use lib.ListN.{length};
-ghost use Rattle.number.specs.Reading.{Signed, Whole, Point, Gap, Mark, MarkGap, PowerSign, Power};
-ghost use Rattle.number_walk.specs.Walk.{digital, pastSign, badFront, badExponent, Reached, Raises, Points};
-ghost use Rattle.number_walk.specs.Walk.{Passes, Leads};
-
-// The digits read so far, how many of them stand behind the point, and the column that comes next.
-pub struct Front {
-    pub formed: bool,
-    pub at: usize,
-    pub number: u64,
-    pub places: u32,
-}
-
-// What stands behind the digits: an exponent, 0 where none is written; `raised` where one is, be it 0.
-pub struct Exponent {
-    pub formed: bool,
-    pub raised: bool,
-    pub below: bool,
-    pub size: u32,
-}
-
-// What the columns of a field spell: a number where `formed`, blanks where `blank`, else nothing.
-pub struct Spelt {
-    pub formed: bool,
-    pub blank: bool,
-    pub negative: bool,
-    pub number: u64,
-    pub places: u32,
-    pub raised: bool,
-    pub below: bool,
-    pub size: u32,
-}
+ghost use Rattle.paper_number.specs.Reading.{Signed, Whole, Point, Gap, Mark, MarkGap, PowerSign, Power};
+ghost use Rattle.paper_number.specs.Walk.{digital, pastSign, badFront, badExponent, Reached, Raises, Points};
+ghost use Rattle.paper_number.specs.Walk.{Passes, Leads};
+use paper_number::types::Exponent;
+use paper_number::types::Front;
 
 fn is_digit(b: u8) -> bool
     ensures { λ r. ⌜ r ≡ digital b ⌝ }

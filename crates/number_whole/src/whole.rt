@@ -1,16 +1,8 @@
 // The whole number that a field says.
 ghost use mathlib.Core.Path.{_≡_};
-ghost use Rattle.number_whole.specs.Whole.{belowZero, wholeFrom, wholeRead, Few};
-use number_reading::read::spelt_in;
-
-// No number: blank or malformed. Raised: a number with an exponent written, be it zero. Broken: a number without one
-// that is below zero or has a fraction. Else the whole number.
-pub enum WholeRead {
-    NoNumber,
-    Raised,
-    Broken,
-    Whole(u64),
-}
+ghost use Rattle.paper_number.specs.Whole.{belowZero, wholeFrom, wholeRead, Few};
+use number_spelling::spell::spelt_in;
+use paper_number::types::WholeRead;
 
 // Zero is not below zero, however signed.
 fn below_zero(negative: bool, number: u64) -> bool

@@ -2,7 +2,7 @@
 -- has its place besides.
 -- Assumes nothing.
 use Rattle.laws.proofs.Promise.{one-answer}
-use Rattle.entry_verdict.proofs.PartPlace.{one-place}
+use Rattle.paper_entry.proofs.PartPlace.{one-place}
 use Rattle.one_answer.specs.OneAnswer.{OneAnswer}
 
 pub one-answers : OneAnswer

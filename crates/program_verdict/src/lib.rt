@@ -1,5 +1,5 @@
 // A verdict as programs write it.
-use entry_verdict::verdict::Verdict;
+use paper_entry::types::Verdict;
 use program_text::say_line;
 use program_text::say_numbers;
 

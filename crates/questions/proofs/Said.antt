@@ -3,17 +3,17 @@
 use Prim.Native.Nat.{ℕ}
 use mathlib.Core.Path.{_≡_, sym, _∙_, ap}
 use borrow.Author.Tests.{ne-eqb}
-use Rattle.number_digits.specs.declared.digits.FieldRead.{FieldRead}
-use Rattle.number_digits.specs.Digits.{fieldRead}
-use Rattle.columns_places.specs.Places.{placeOf}
-use Rattle.entry_verdict.specs.declared.verdict.Verdict.{Verdict}
-use Rattle.entry_judging.specs.Judging.{judgeOf}
-use Rattle.entry_verdict.proofs.Answers.{answer-number}
-use Rattle.questions_places.specs.Place.{shapeOf, fieldOf}
-use Rattle.questions_rows.specs.Row.{rowOf}
-use Rattle.questions_refusals.specs.Refused.{sectionIn, valueRefusal}
-use Rattle.questions_values.specs.Answers.{valueWith, valueBy, valueSaid, blankBeside}
-use Rattle.questions.specs.Ask.{valueAsked, RefusedSaid}
+use Rattle.paper_number.specs.declared.types.FieldRead.{FieldRead}
+use Rattle.paper_number.specs.Digits.{fieldRead}
+use Rattle.paper_record.specs.Places.{placeOf}
+use Rattle.paper_entry.specs.declared.types.Verdict.{Verdict}
+use Rattle.paper_entry.specs.Judging.{judgeOf}
+use Rattle.paper_entry.proofs.Answers.{answer-number}
+use Rattle.paper_questions.specs.Place.{shapeOf, fieldOf}
+use Rattle.paper_questions.specs.Located.{rowOf}
+use Rattle.paper_questions.specs.Refused.{sectionIn, valueRefusal}
+use Rattle.paper_questions.specs.ValueAnswers.{valueWith, valueBy, valueSaid, blankBeside}
+use Rattle.paper_questions.specs.Ask.{valueAsked, RefusedSaid}
 
 with-said : (v : Verdict) (number : ℕ) (field : FieldRead) → (number ≡ 0 → ⊥)
     → valueSaid (valueWith v number field) ≡ blankBeside number

@@ -2,17 +2,17 @@
 // call hands the part itself out of the caller's entry.
 ghost use mathlib.Core.Path.{_≡_};
 ghost use Prim.Native.Nat.{_+_};
-ghost use Rattle.entry_verdict.specs.Part.{Behind};
-ghost use Rattle.questions_values.specs.Answers.{valueSaid};
-ghost use Rattle.questions_parts.specs.Answers.{Lies, bytesIn};
-ghost use Rattle.questions.specs.Ask.{valueAsked, headingAsked, unitAsked, passageAsked};
-use columns_places::places::LineNo;
-use questions_parts::answers::PartAnswer;
+ghost use Rattle.paper_entry.specs.Part.{Behind};
+ghost use Rattle.paper_questions.specs.ValueAnswers.{valueSaid};
+ghost use Rattle.paper_questions.specs.PartAnswers.{Lies, bytesIn};
+ghost use Rattle.paper_questions.specs.Ask.{valueAsked, headingAsked, unitAsked, passageAsked};
+use paper_questions::types::PartAnswer;
+use paper_questions::types::ValueAnswer;
+use paper_record::types::LineNo;
 use questions_parts::answers::heading_by;
 use questions_parts::answers::passage_by;
 use questions_parts::answers::unit_by;
 use questions_rows::row::locate;
-use questions_values::answers::ValueAnswer;
 use questions_values::answers::value_by;
 
 // The part itself.

@@ -1,20 +1,12 @@
 // Where a subentry stands, noted record by record.
 ghost use mathlib.Core.Path.{_≡_};
-ghost use Rattle.questions_noted.specs.Row.{emptyRow, noted, notedIn};
-use columns_places::places::RecordNo;
+ghost use Rattle.paper_questions.specs.Row.{emptyRow, noted, notedIn};
+use paper_questions::types::Row;
+use paper_record::types::RecordNo;
 use record_names::identifier::BIB;
 use record_names::identifier::COMMON;
 use record_names::identifier::DATA;
 use rules_roles::roles::opens_subentry;
-
-// A subentry's number, its first record, and the records BIB, COMMON and DATA, 0 where there is none.
-pub struct Row {
-    pub number: u32,
-    pub first: RecordNo,
-    pub bib: RecordNo,
-    pub common: RecordNo,
-    pub data: RecordNo,
-}
 
 pub fn empty_row(number: u32) -> Row
     ensures { λ r. ⌜ r ≡ emptyRow number ⌝ }

@@ -1,14 +1,15 @@
 // The answers about a part of the entry, by the verdict on the entry and the row of the subentry. Of a part an answer
 // says the place.
 ghost use mathlib.Core.Path.{_≡_};
-ghost use Rattle.entry_verdict.specs.Answer.{answerOf};
-ghost use Rattle.questions_noted.specs.Row.{Met};
-ghost use Rattle.questions_parts.specs.Answers.{noPart, partFrom, headingBy, unitBy, passageBy};
-use entry_verdict::answer::Answer;
+ghost use Rattle.paper_entry.specs.Answer.{answerOf};
+ghost use Rattle.paper_questions.specs.Row.{Met};
+ghost use Rattle.paper_questions.specs.PartAnswers.{noPart, partFrom, headingBy, unitBy, passageBy};
 use entry_verdict::answer::answer_for;
 use entry_verdict::answer::answer_of;
-use entry_verdict::verdict::Verdict;
-use questions_noted::row::Row;
+use paper_entry::types::Answer;
+use paper_entry::types::Verdict;
+use paper_questions::types::PartAnswer;
+use paper_questions::types::Row;
 use questions_passages::passage::passage_of;
 use questions_places::place::byte_of;
 use questions_places::place::field_of;
@@ -19,14 +20,6 @@ use questions_places::place::unit_place;
 use questions_refusals::refusals::column_refusal;
 use questions_refusals::refusals::passage_refusal;
 use questions_refusals::refusals::section_in;
-
-// A part of the entry by its first byte and its length, and a pointer. The number of each answer is 0 or 31 to 36.
-pub struct PartAnswer {
-    pub answer: Answer,
-    pub first: usize,
-    pub length: usize,
-    pub pointer: u8,
-}
 
 fn no_part(answer: Answer) -> PartAnswer
     ensures { λ r. ⌜ r ≡ noPart answer ⌝ }

@@ -1,21 +1,16 @@
 // The passages of a BIB section.
 ghost use mathlib.Core.Path.{_≡_};
 ghost use Prim.Native.Nat.{ℕ, _+_, _≤_, _<_};
-ghost use Rattle.rules_state.specs.Limits.{MOST-RECORDS};
-ghost use Rattle.questions_passages.specs.Passage.{textAt, isKeyword, begins, beginsWith, sought, firstText, Span};
-ghost use Rattle.questions_passages.specs.Passage.{passageUnder, passageOf};
-use columns_places::places::RecordNo;
+ghost use Rattle.paper_rules.specs.Limits.{MOST-RECORDS};
+ghost use Rattle.paper_questions.specs.Passage.{textAt, isKeyword, begins, beginsWith, sought, firstText, Span};
+ghost use Rattle.paper_questions.specs.Passage.{passageUnder, passageOf};
+use paper_questions::types::Passage;
+use paper_record::types::RecordNo;
 use questions_places::place::fields_at;
 use record::system::count_to;
 use record_words::word::is_keyword_blank;
 use record_words::word::same_keyword;
 use rules_state::state::MOST_RECORDS;
-
-// The first record of a passage, and how many it has; none where there is no such passage.
-pub struct Passage {
-    pub first: RecordNo,
-    pub records: u32,
-}
 
 // What is looked for in the first eleven columns of a text record: this keyword, any keyword, a passage with this
 // pointer, any passage.

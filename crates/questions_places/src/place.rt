@@ -3,22 +3,17 @@ ghost use mathlib.Core.Path.{_≡_};
 ghost use Prim.Native.Nat.{ℕ, _≤_};
 ghost use lib.ListN.{getD};
 ghost use mathlib.Core.List.{[]};
-ghost use Rattle.rules_state.specs.Limits.{MOST-COLUMNS, MOST-LINES};
-ghost use Rattle.questions_places.specs.Place.{hasRecord, fieldsAt, shapeOf, headingPlace, unitPlace, fieldOf};
-ghost use Rattle.questions_places.specs.Place.{firstByte, byteOf, InSection};
+ghost use Rattle.paper_rules.specs.Limits.{MOST-COLUMNS, MOST-LINES};
+ghost use Rattle.paper_questions.specs.Place.{hasRecord, fieldsAt, shapeOf, headingPlace, unitPlace, fieldOf};
+ghost use Rattle.paper_questions.specs.Place.{firstByte, byteOf, InSection};
 use columns::fields::fields;
-use columns_places::places::Place;
-use columns_places::places::RecordNo;
 use columns_places::places::records_for;
+use paper_questions::types::Shape;
+use paper_record::types::Place;
+use paper_record::types::RecordNo;
 use record::system::count_to;
-use rules_counts::counts::MOST_COLUMNS;
-use rules_counts::counts::MOST_LINES;
-
-// How many columns a table has, and how many lines.
-pub struct Shape {
-    pub columns: u32,
-    pub lines: u32,
-}
+use rules_limits::limits::MOST_COLUMNS;
+use rules_limits::limits::MOST_LINES;
 
 // The sections of a table.
 pub const COMMON_SECTION: u32 = 1;

@@ -1,17 +1,17 @@
 // The refusals of a question, in their order: 31 to 36, 0 where none is given.
 ghost use mathlib.Core.Path.{_≡_};
-ghost use Rattle.columns.specs.Text.{within};
-ghost use Rattle.entry_verdict.specs.Answer.{firstOf};
-ghost use Rattle.questions_refusals.specs.Refused.{isSubent, sectionIn, sectionRefusals, valueRefusal};
-ghost use Rattle.questions_refusals.specs.Refused.{columnRefusal, passageRefusal};
-use columns_places::places::LineNo;
-use columns_places::places::RecordNo;
-use entry_verdict::verdict::Verdict;
-use questions_noted::row::Row;
-use questions_passages::passage::Passage;
+ghost use Rattle.paper_record.specs.Text.{within};
+ghost use Rattle.paper_entry.specs.Answer.{firstOf};
+ghost use Rattle.paper_questions.specs.Refused.{isSubent, sectionIn, sectionRefusals, valueRefusal};
+ghost use Rattle.paper_questions.specs.Refused.{columnRefusal, passageRefusal};
+use paper_entry::types::Verdict;
+use paper_questions::types::Passage;
+use paper_questions::types::Row;
+use paper_questions::types::Shape;
+use paper_record::types::LineNo;
+use paper_record::types::RecordNo;
 use questions_places::place::COMMON_SECTION;
 use questions_places::place::DATA_SECTION;
-use questions_places::place::Shape;
 use questions_places::place::fields_at;
 use record_names::identifier::SUBENT;
 use record_names::identifier::identifier_of;

@@ -1,3 +1,2 @@
 pub mod Rows
-pub mod RowChanges
 pub mod RowNoted

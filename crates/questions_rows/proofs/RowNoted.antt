@@ -11,27 +11,27 @@ use lib.Dec.{eqb}
 use lib.ListN.{length, getD}
 use Rattle.laws.specs.Blocks.{blockAt}
 use Rattle.laws.proofs.Booleans.{differ, either-as, or-either}
-use Rattle.columns_places.specs.Places.{recordOf}
-use Rattle.columns.specs.Fields.{fieldsOf}
-use Rattle.record_names.specs.Identifier.{ENTRY, SUBENT, NOSUBENT, BIB, COMMON, DATA}
-use Rattle.record_words.specs.Word.{blankTo}
-use Rattle.rules_state.specs.declared.state.Track.{Track}
-use Rattle.rules_state.specs.State.{Context}
-use Rattle.rules_state.specs.Limits.{MOST-RECORDS}
-use Rattle.rules_roles.specs.Roles.{TEXT, isSystem, opensSubentry, isHeading, isUnit, isValue}
-use Rattle.rules_state.proofs.EitherWay.{either-way}
-use Rattle.entry_counted.specs.Counted.{trackAfter, afterSystem, afterInside}
-use Rattle.entry_tally.specs.Tally.{textRead}
-use Rattle.entry_next.specs.Next.{contextAfter}
+use Rattle.paper_record.specs.Places.{recordOf}
+use Rattle.paper_record.specs.Fields.{fieldsOf}
+use Rattle.paper_record.specs.Identifier.{ENTRY, SUBENT, NOSUBENT, BIB, COMMON, DATA}
+use Rattle.paper_record.specs.Word.{blankTo}
+use Rattle.paper_rules.specs.declared.types.Track.{Track}
+use Rattle.paper_rules.specs.State.{Context}
+use Rattle.paper_rules.specs.Limits.{MOST-RECORDS}
+use Rattle.paper_rules.specs.Roles.{TEXT, isSystem, opensSubentry, isHeading, isUnit, isValue}
+use Rattle.paper_rules.proofs.EitherWay.{either-way}
+use Rattle.paper_entry.specs.Counted.{trackAfter, afterSystem, afterInside}
+use Rattle.paper_entry.specs.Tally.{textRead}
+use Rattle.paper_entry.specs.Next.{contextAfter}
 use Rattle.entry_step.specs.declared.step.Judge.{Judge}
 use Rattle.entry_step.specs.declared.pass.Passed.{Passed}
-use Rattle.entry_judging.specs.Judging.{judgeOf, Accepted}
-use Rattle.entry_judging.specs.Contexts.{contextAt, roleAt}
+use Rattle.paper_entry.specs.Judging.{judgeOf, Accepted}
+use Rattle.paper_entry.specs.Contexts.{contextAt, roleAt}
 use Rattle.entry_step.specs.Pass.{Walking, PassedAt}
 use Rattle.entry_walk.proofs.Contexts.{records-at, context-next}
 use Rattle.entry_step.proofs.Walking.{track-stands}
-use Rattle.questions_noted.specs.Row.{emptyRow, notedIn, Met}
-use Rattle.questions_rows.specs.Row.{subentryIn, notedAs, rowAt, rowOf}
+use Rattle.paper_questions.specs.Row.{emptyRow, notedIn, Met}
+use Rattle.paper_questions.specs.Located.{subentryIn, notedAs, rowAt, rowOf}
 use Rattle.questions_rows.proofs.Rows.{met-empty, met-next}
 
 -- behind a record the state has the number of the subentry that the record belongs to
@@ -98,12 +98,3 @@ met-rows s number (suc i) l =
 pub row-start : (s : List ℕ) (number : ℕ) → rowAt s number 0 ≡ emptyRow number
 unfolding rowAt
 row-start s number = refl
-
--- in a refused entry the row is empty
-pub refused-row : (s : List ℕ) (number : ℕ) → (judgeOf s .refusal ≡ 0 → ⊥) → rowOf s number ≡ emptyRow number
-unfolding rowOf
-refused-row s number h = rw (ne-eqb (judgeOf s .refusal) 0 h)
-
-pub found-row : (s : List ℕ) (number : ℕ) → Accepted s → rowOf s number ≡ rowAt s number (length s / 81)
-unfolding rowOf
-found-row s number a = rw (eq-eqb (judgeOf s .refusal) 0 a)

@@ -5,15 +5,15 @@ use mathlib.Core.Bool.{Bool, true, false, cond}
 use mathlib.Core.List.{List}
 use native.Mathlib.Omega.{arith}
 use lib.Dec.{eqb}
-use Rattle.columns_places.specs.Places.{recordOf}
-use Rattle.record_names.specs.Identifier.{BIB, COMMON, DATA}
-use Rattle.columns_places.specs.declared.places.RecordNo.{RecordNo}
-use Rattle.rules_state.specs.declared.state.Track.{Track}
-use Rattle.rules_state.specs.Limits.{MOST-RECORDS}
-use Rattle.rules_roles.specs.Roles.{opensSubentry}
-use Rattle.questions_noted.specs.declared.row.Row.{Row}
-use Rattle.questions_noted.specs.Row.{emptyRow, withFirstAt, withBibAt, withCommonAt, withDataAt, noted, Met}
-use Rattle.questions_rows.specs.Row.{subentryIn, notedAs}
+use Rattle.paper_record.specs.Places.{recordOf}
+use Rattle.paper_record.specs.Identifier.{BIB, COMMON, DATA}
+use Rattle.paper_record.specs.declared.types.RecordNo.{RecordNo}
+use Rattle.paper_rules.specs.declared.types.Track.{Track}
+use Rattle.paper_rules.specs.Limits.{MOST-RECORDS}
+use Rattle.paper_rules.specs.Roles.{opensSubentry}
+use Rattle.paper_questions.specs.declared.types.Row.{Row}
+use Rattle.paper_questions.specs.Row.{emptyRow, withFirstAt, withBibAt, withCommonAt, withDataAt, noted, Met}
+use Rattle.paper_questions.specs.Located.{subentryIn, notedAs}
 
 pub met-empty : (number : ℕ) → Met (emptyRow number)
 met-empty number = record { first = omega arith; bib = omega arith; common = omega arith; «data» = omega arith }

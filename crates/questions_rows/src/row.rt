@@ -3,24 +3,20 @@ ghost use mathlib.Core.Path.{_≡_};
 ghost use mathlib.Core.Bool.{true};
 ghost use Prim.Native.Nat.{_/_};
 ghost use lib.ListN.{length};
-ghost use Rattle.entry_verdict.specs.Verdict.{lengthGood};
-ghost use Rattle.questions_noted.specs.Row.{Met};
-ghost use Rattle.questions_rows.specs.Row.{rowAt, locate as locateOf};
+ghost use Rattle.paper_entry.specs.Verdict.{lengthGood};
+ghost use Rattle.paper_questions.specs.Row.{Met};
+ghost use Rattle.paper_questions.specs.Located.{rowAt, locate as locateOf};
 use columns_places::places::record_of;
 use entry::judge::judge;
 use entry_step::step::Judge;
-use entry_verdict::verdict::Verdict;
 use number::form::kinds;
 use number::form::nexts;
-use questions_noted::row::Row;
+use paper_entry::types::Verdict;
+use paper_questions::types::Located;
+use paper_questions::types::Row;
 use questions_noted::row::empty_row;
 use questions_noted::row::noted_in;
 use record_names::identifier::names;
-
-pub struct Located {
-    pub verdict: Verdict,
-    pub row: Row,
-}
 
 // The row of a subentry in an accepted entry.
 fn row_of(entry: &[u8], number: u32) -> Row

@@ -1,28 +1,21 @@
 // The answer about a value, by the verdict on the entry and the row of the subentry.
 ghost use mathlib.Core.Path.{_≡_};
-ghost use Rattle.questions_noted.specs.Row.{Met};
-ghost use Rattle.questions_values.specs.Answers.{valueBy};
-use columns_places::places::LineNo;
+ghost use Rattle.paper_questions.specs.Row.{Met};
+ghost use Rattle.paper_questions.specs.ValueAnswers.{valueBy};
 use columns_places::places::place_of;
-use entry_verdict::answer::Answer;
 use entry_verdict::answer::answer_for;
 use entry_verdict::answer::answer_of;
-use entry_verdict::verdict::Verdict;
-use number::value::Reading;
 use number_reading::read::read_digits;
-use questions_noted::row::Row;
+use paper_entry::types::Answer;
+use paper_entry::types::Verdict;
+use paper_number::types::Reading;
+use paper_questions::types::Row;
+use paper_questions::types::ValueAnswer;
+use paper_record::types::LineNo;
 use questions_places::place::field_of;
 use questions_places::place::shape_of;
 use questions_refusals::refusals::section_in;
 use questions_refusals::refusals::value_refusal;
-
-// The number of each answer is 0 or 31 to 36. Beside a value stands how many digits were written in its field: 0 beside a
-// blank and beside a refusal.
-pub struct ValueAnswer {
-    pub answer: Answer,
-    pub value: Reading,
-    pub digits: u8,
-}
 
 // The answers, by the verdict on the entry and the row of the subentry.
 pub fn value_by(

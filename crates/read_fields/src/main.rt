@@ -3,9 +3,9 @@
 use bytes::scan::find;
 use libc::STDIN_FILENO;
 use libc::STDOUT_FILENO;
-use number::value::Decimal;
-use number::value::Reading;
 use number_reading::read::read_number;
+use paper_number::types::Decimal;
+use paper_number::types::Reading;
 use program_text::say;
 use program_text::say_power;
 

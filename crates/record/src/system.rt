@@ -2,19 +2,14 @@
 ghost use mathlib.Core.Path.{_≡_};
 ghost use Prim.Native.Nat.{ℕ, _+_, _*_, _^_, _≤_};
 ghost use mathlib.Core.Bool.{_||_};
-ghost use Rattle.columns.specs.Text.{isCapital, isDigit};
-ghost use Rattle.record.specs.System.{digitOf, digitsIn, numberIn, countOf, isCount, numberOf, countAnswer, upTo};
-ghost use Rattle.record.specs.System.{isDate, isAccession, isEntryN1, isSubentN1, subentryOf};
+ghost use Rattle.paper_record.specs.Text.{isCapital, isDigit};
+ghost use Rattle.paper_record.specs.System.{digitOf, digitsIn, numberIn, countOf, isCount, numberOf, countAnswer, upTo};
+ghost use Rattle.paper_record.specs.System.{isDate, isAccession, isEntryN1, isSubentN1, subentryOf};
+use paper_record::types::Count;
 use record_words::word::blank_to;
 use record_words::word::filled_from;
 use record_words::word::is_from;
 use record_words::word::is_within;
-
-// A whole number written as blanks, then digits up to the last column; or a field that is none.
-pub enum Count {
-    Number(u64),
-    Bad,
-}
 
 // Whether a field is a count.
 pub fn is_count(c: Count) -> bool

@@ -1,23 +1,23 @@
 // Says of each record of the input what the record layer says of it, a line for each. Column 80 tells how many of the
 // six fields are to be taken as used.
 ghost use Prim.Native.Nat.{_≤_};
-ghost use Rattle.number.specs.Form.{Tables};
-ghost use Rattle.classes.specs.Class.{ClassesLent};
-ghost use Rattle.columns.specs.Columns.{Whole};
-ghost use Rattle.record_names.specs.Identifier.{NamesLent};
+ghost use Rattle.paper_number.specs.Form.{Tables};
+ghost use Rattle.paper_record.specs.Class.{ClassesLent};
+ghost use Rattle.paper_record.specs.Columns.{Whole};
+ghost use Rattle.paper_record.specs.Identifier.{NamesLent};
 use classes::class::class_of;
 use classes::class::classes;
 use classes::class::permitted_to;
 use columns::columns::has_line_feed;
 use columns::fields::fields;
-use columns_places::places::LineNo;
-use columns_places::places::RecordNo;
 use columns_places::places::place_of;
 use columns_places::places::records_for;
 use number::form::kinds;
 use number::form::nexts;
+use paper_record::types::Count;
+use paper_record::types::LineNo;
+use paper_record::types::RecordNo;
 use program_text::say;
-use record::system::Count;
 use record::system::count_of;
 use record::system::is_date;
 use record::system::is_entry_n1;

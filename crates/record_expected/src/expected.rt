@@ -1,10 +1,10 @@
 // What is written in columns 67 to 79, and what is expected there.
 ghost use mathlib.Core.Path.{_≡_};
-ghost use Rattle.columns.specs.Columns.{Whole};
-ghost use Rattle.record_words.specs.Word.{equalTo};
-ghost use Rattle.record_expected.specs.Expected.{accessionOf, identificationOf, sequenceOf, inDigits};
-ghost use Rattle.record_expected.specs.Expected.{identificationFor, entryAccession, subentAccession};
-ghost use Rattle.record_expected.specs.Expected.{subentIdentification};
+ghost use Rattle.paper_record.specs.Columns.{Whole};
+ghost use Rattle.paper_record.specs.Word.{equalTo};
+ghost use Rattle.paper_record.specs.Expected.{accessionOf, identificationOf, sequenceOf, inDigits};
+ghost use Rattle.paper_record.specs.Expected.{identificationFor, entryAccession, subentAccession};
+ghost use Rattle.paper_record.specs.Expected.{subentIdentification};
 use record_words::word::equal_to;
 
 // Columns 67 to 71.

@@ -1,10 +1,10 @@
 // Pointers, headings and units: which field is not what it is to be.
 ghost use mathlib.Core.Path.{_≡_};
 ghost use Prim.Native.Nat.{ℕ};
-ghost use Rattle.columns.specs.Fields.{firstField};
-ghost use Rattle.record_words.specs.Word.{blankTo};
-ghost use Rattle.record_faults.specs.Faults.{isPointer, badPointer, isUnitWord};
-ghost use Rattle.record_faults.specs.Faults.{pointerFault, headingFault, unitFault, faultIn};
+ghost use Rattle.paper_record.specs.Fields.{firstField};
+ghost use Rattle.paper_record.specs.Word.{blankTo};
+ghost use Rattle.paper_record.specs.Faults.{isPointer, badPointer, isUnitWord};
+ghost use Rattle.paper_record.specs.Faults.{pointerFault, headingFault, unitFault, faultIn};
 use record_words::word::blank_to;
 use record_words::word::is_from;
 use record_words::word::is_word;

@@ -4,12 +4,12 @@ ghost use mathlib.Core.Bool.{_&&_};
 ghost use Prim.Native.Nat.{_≤_};
 ghost use lib.Dec.{eqb};
 ghost use Rattle.laws.specs.Members.{listOf};
-ghost use Rattle.number.specs.Grammar.{num};
-ghost use Rattle.columns.specs.Text.{isDigit};
-ghost use Rattle.record_flags.specs.Flags.{isFlag, isDecayFlag, isFlagHeading, codeDigits, codeDigit, isCode};
-ghost use Rattle.record_flags.specs.Flags.{codeNumber};
-ghost use Rattle.number_whole.specs.Whole.{Short};
-ghost use Rattle.record_flags.specs.PlainFlags.{TextColumns};
+ghost use Rattle.paper_number.specs.Grammar.{num};
+ghost use Rattle.paper_record.specs.Text.{isDigit};
+ghost use Rattle.paper_record.specs.Flags.{isFlag, isDecayFlag, isFlagHeading, codeDigits, codeDigit, isCode};
+ghost use Rattle.paper_record.specs.Flags.{codeNumber};
+ghost use Rattle.paper_number.specs.Whole.{Short};
+ghost use Rattle.paper_record.specs.PlainFlags.{TextColumns};
 use record_words::word::equal_to;
 
 // Whether columns 1 to 10 of a field are the word FLAG.

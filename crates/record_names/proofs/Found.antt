@@ -3,7 +3,7 @@
 use mathlib.Core.List.{List}
 use Prim.Native.Nat.{ℕ, _≤_}
 use Rattle.laws.proofs.Search.{first-to}
-use Rattle.record_names.specs.Identifier.{OTHER, isName, identifierOf}
+use Rattle.paper_record.specs.Identifier.{OTHER, isName, identifierOf}
 
 pub identifier-upto : (f : List ℕ) → identifierOf f ≤ OTHER
 unfolding identifierOf

@@ -1,3 +1,1 @@
-pub mod NameTable
 pub mod Found
-pub mod PlainNames

@@ -1,7 +1,7 @@
 // The sixteen system identifiers.
 ghost use mathlib.Core.Path.{_≡_};
 ghost use Prim.Native.Nat.{ℕ, _<_};
-ghost use Rattle.record_names.specs.Identifier.{OTHER, nameTable, NamesLent, isName, identifierOf, isEnd};
+ghost use Rattle.paper_record.specs.Identifier.{OTHER, nameTable, NamesLent, isName, identifierOf, isEnd};
 
 pub const ENTRY: usize = 0;
 

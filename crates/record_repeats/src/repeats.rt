@@ -2,8 +2,8 @@
 ghost use mathlib.Core.Path.{_≡_};
 ghost use Prim.Native.Nat.{_+_, _≤_};
 ghost use lib.ListN.{length};
-ghost use Rattle.record_repeats.specs.Repeats.{lettersAt, spells, endsIn, startsWith};
-ghost use Rattle.record_repeats.specs.Repeats.{listedWord, listedEnding, listedStart, mayRepeat};
+ghost use Rattle.paper_record.specs.Repeats.{lettersAt, spells, endsIn, startsWith};
+ghost use Rattle.paper_record.specs.Repeats.{listedWord, listedEnding, listedStart, mayRepeat};
 use record_words::word::equal_to;
 use record_words::word::word_end;
 

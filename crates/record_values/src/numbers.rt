@@ -3,16 +3,11 @@ ghost use mathlib.Core.Path.{_≡_};
 ghost use mathlib.Core.Bool.{cond, not, _&&_};
 ghost use Prim.Native.Nat.{_≤_};
 ghost use lib.Dec.{ltb};
-ghost use Rattle.number.specs.Form.{Tables};
-ghost use Rattle.record_values.specs.Numbers.{saysBlank, noValue, saysNumber, valuesOf};
-use number::form::Form;
+ghost use Rattle.paper_number.specs.Form.{Tables};
+ghost use Rattle.paper_record.specs.Numbers.{saysBlank, noValue, saysNumber, valuesOf};
 use number::form::form_of_field;
-
-// The first field at fault, or 6, and how many numbers stand before it.
-pub struct Values {
-    pub fault: usize,
-    pub numbers: u32,
-}
+use paper_number::types::Form;
+use paper_record::types::Values;
 
 // Whether a form is blank.
 fn is_blank_form(form: Form) -> bool

@@ -2,9 +2,9 @@
 ghost use mathlib.Core.Path.{_≡_};
 ghost use Prim.Native.Nat.{ℕ, _+_, _*_, _≤_};
 ghost use lib.ListN.{length};
-ghost use Rattle.columns.specs.Text.{within};
-ghost use Rattle.record_words.specs.Word.{blankTo, equalTo, wordEnd, filledFrom, isWord};
-ghost use Rattle.record_words.specs.Word.{fourAt, eightAt};
+ghost use Rattle.paper_record.specs.Text.{within};
+ghost use Rattle.paper_record.specs.Word.{blankTo, equalTo, wordEnd, filledFrom, isWord};
+ghost use Rattle.paper_record.specs.Word.{fourAt, eightAt};
 
 // The first filled one of the columns of a field from `from` up to `w`, or `w`.
 pub fn filled_from(f: [u8; 11], from: usize, w: usize) -> usize

@@ -8,13 +8,13 @@ use native.Mathlib.Omega.{arith}
 use borrow.Author.Tests.{eqb-true, ltb-true, ltb-false}
 use lib.Dec.{eqb, ltb}
 use lib.ListN.{getD}
-use Rattle.rules_state.specs.declared.state.Track.{Track}
-use Rattle.rules_state.specs.State.{Seen}
-use Rattle.rules_roles.specs.Fault.{on, leftmost}
-use Rattle.rules.specs.Order.{findings, noFinding, Least}
+use Rattle.paper_rules.specs.declared.types.Track.{Track}
+use Rattle.paper_rules.specs.State.{Seen}
+use Rattle.paper_rules.specs.Fault.{on, leftmost}
+use Rattle.paper_rules.specs.Order.{findings, noFinding, Least}
 use Rattle.rules_plain.specs.Places.{Some, here}
-use Rattle.entry_verdict.specs.declared.verdict.Verdict.{Verdict}
-use Rattle.entry_verdict.specs.Verdict.{refused}
+use Rattle.paper_entry.specs.declared.types.Verdict.{Verdict}
+use Rattle.paper_entry.specs.Verdict.{refused}
 use Rattle.entry_walk.specs.First.{First, FirstAt, by-length, by-record, by-end, by-none}
 use Rattle.refusal_table.proofs.Columns.{computed}
 

@@ -10,9 +10,9 @@ use lib.Dec.{T}
 use lib.ListN.{length, replicate}
 use Rattle.laws.specs.Table.{every}
 use Rattle.laws.proofs.Table.{at}
-use Rattle.record.proofs.NumberFields.{true-of}
-use Rattle.rules_roles.specs.Fault.{on, when, columnsFrom, columnsWhere, leftmost}
-use Rattle.rules_state.proofs.EitherWay.{either-way, no}
+use Rattle.paper_record.proofs.NumberFields.{true-of}
+use Rattle.paper_rules.specs.Fault.{on, when, columnsFrom, columnsWhere, leftmost}
+use Rattle.paper_rules.proofs.EitherWay.{either-way, no}
 
 -- ---- each column
 

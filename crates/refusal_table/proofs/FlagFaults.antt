@@ -4,11 +4,11 @@ use mathlib.Core.Path.{_≡_, refl}
 use mathlib.Core.List.{List}
 use native.Mathlib.Omega.{arith}
 use Rattle.laws.specs.Blocks.{blockAt}
-use Rattle.rules_roles.specs.Roles.{isValue}
-use Rattle.rules_flags.specs.Flags.{rule17}
+use Rattle.paper_rules.specs.Roles.{isValue}
+use Rattle.paper_rules.specs.Flags.{rule17}
 use Rattle.rules_plain.proofs.Flags.{flags-exactly}
-use Rattle.entry_judging.specs.Judging.{judgeOf}
-use Rattle.entry_judging.specs.Contexts.{contextAt, roleAt}
+use Rattle.paper_entry.specs.Judging.{judgeOf}
+use Rattle.paper_entry.specs.Contexts.{contextAt, roleAt}
 use Rattle.entry_walk.specs.First.{FirstAt}
 use Rattle.entry_walk.proofs.FirstRefused.{refused-first}
 use Rattle.refusal_table.specs.Table.{values}

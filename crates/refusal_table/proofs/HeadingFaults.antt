@@ -7,20 +7,20 @@ use native.Mathlib.Omega.{arith}
 use lib.Dec.{eqb}
 use lib.ListN.{length, getD}
 use Rattle.laws.specs.Blocks.{blockAt}
-use Rattle.rules_roles.specs.declared.fault.Fault.{Fault}
-use Rattle.rules_roles.specs.declared.fault.Fault.the-variants.{Fine, At}
-use Rattle.rules_roles.specs.Fault.{on}
-use Rattle.rules_roles.specs.Roles.{DATA-HEADING, isHeading}
-use Rattle.rules_section.specs.Headings.{rule13}
-use Rattle.rules_pointers.specs.Pointers.{rule14}
-use Rattle.rules.specs.Order.{faultOf, Before, noFinding, Least}
-use Rattle.rules.proofs.Least.{fault-least, fault-none}
+use Rattle.paper_rules.specs.declared.types.Fault.{Fault}
+use Rattle.paper_rules.specs.declared.types.Fault.the-variants.{Fine, At}
+use Rattle.paper_rules.specs.Fault.{on}
+use Rattle.paper_rules.specs.Roles.{DATA-HEADING, isHeading}
+use Rattle.paper_rules.specs.Headings.{rule13}
+use Rattle.paper_rules.specs.Pointers.{rule14}
+use Rattle.paper_rules.specs.Order.{faultOf, Before, noFinding, Least}
+use Rattle.paper_rules.proofs.Least.{fault-least, fault-none}
 use Rattle.rules_plain.specs.Places.{Some}
 use Rattle.rules_plain.proofs.Somewhere.{some-at}
 use Rattle.rules_plain.proofs.Repeated.{repeated-exactly, lost-exactly}
-use Rattle.entry_verdict.specs.Verdict.{refused}
-use Rattle.entry_judging.specs.Judging.{judgeOf}
-use Rattle.entry_judging.specs.Contexts.{contextAt, roleAt}
+use Rattle.paper_entry.specs.Verdict.{refused}
+use Rattle.paper_entry.specs.Judging.{judgeOf}
+use Rattle.paper_entry.specs.Contexts.{contextAt, roleAt}
 use Rattle.entry_walk.specs.First.{foundAt, FirstAt, by-record}
 use Rattle.entry_walk.proofs.FirstRefused.{refused-first}
 use Rattle.entry_walk.proofs.FirstAlone.{first-alone}

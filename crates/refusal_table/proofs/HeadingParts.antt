@@ -13,15 +13,15 @@ use Rattle.laws.specs.Blocks.{blockAt, joined}
 use Rattle.laws.specs.Walk.{All}
 use Rattle.laws.proofs.Booleans.{either-as}
 use Rattle.laws.proofs.Listing.{all-append, joined-one}
-use Rattle.record_names.specs.Identifier.{COMMON, ENDCOMMON, DATA}
-use Rattle.rules_roles.specs.Fault.{Record}
-use Rattle.rules_state.specs.State.{Seen}
-use Rattle.rules_roles.specs.Roles.{TEXT, opensSubentry, isHeading}
-use Rattle.entry_next.specs.declared.parts.Change.{Change}
-use Rattle.entry_next.specs.declared.parts.Change.the-variants.{Kept, Emptied, Joined}
-use Rattle.entry_next.specs.Parts.{partAfter, emptiesBib, bibChange, tableChange, ends001, seenAfter}
-use Rattle.entry_next.specs.Next.{contextAfter}
-use Rattle.entry_judging.specs.Contexts.{contextAt, roleAt}
+use Rattle.paper_record.specs.Identifier.{COMMON, ENDCOMMON, DATA}
+use Rattle.paper_rules.specs.Fault.{Record}
+use Rattle.paper_rules.specs.State.{Seen}
+use Rattle.paper_rules.specs.Roles.{TEXT, opensSubentry, isHeading}
+use Rattle.paper_entry.specs.declared.types.Change.{Change}
+use Rattle.paper_entry.specs.declared.types.Change.the-variants.{Kept, Emptied, Joined}
+use Rattle.paper_entry.specs.Parts.{partAfter, emptiesBib, bibChange, tableChange, ends001, seenAfter}
+use Rattle.paper_entry.specs.Next.{contextAfter}
+use Rattle.paper_entry.specs.Contexts.{contextAt, roleAt}
 use Rattle.rules_plain.specs.Places.{Long}
 use Rattle.rules_plain.specs.Repeated.{RecordsBefore}
 use Rattle.refusal_table.specs.Table.{among, headings}

@@ -14,28 +14,28 @@ use Rattle.laws.specs.Members.{listOf}
 use Rattle.laws.proofs.Booleans.{differ}
 use Rattle.laws.proofs.Listing.{all-append, joined-one, list-split}
 use Rattle.laws.proofs.Search.{either}
-use Rattle.columns.specs.Fields.{fieldsOf}
-use Rattle.columns.proofs.ReadColumns.{field-of}
-use Rattle.record_names.specs.Identifier.{BIB, OTHER}
-use Rattle.record.proofs.PlainColumns.{blank-exactly}
-use Rattle.record_words.specs.Word.{blankTo}
-use Rattle.rules_roles.specs.declared.fault.Fault.the-variants.{Fine}
-use Rattle.rules_state.specs.declared.state.Track.{Track}
-use Rattle.rules_roles.specs.Fault.{Record}
-use Rattle.rules_state.specs.State.{Context}
-use Rattle.rules_roles.specs.Roles.{TEXT}
-use Rattle.rules_state.proofs.EitherWay.{either-way}
-use Rattle.rules_counts.specs.Counts.{countN2}
-use Rattle.rules.specs.Order.{faultOf}
-use Rattle.rules.proofs.WithoutFault.{fine-long}
+use Rattle.paper_record.specs.Fields.{fieldsOf}
+use Rattle.paper_record.proofs.ReadColumns.{field-of}
+use Rattle.paper_record.specs.Identifier.{BIB, OTHER}
+use Rattle.paper_record.proofs.PlainColumns.{blank-exactly}
+use Rattle.paper_record.specs.Word.{blankTo}
+use Rattle.paper_rules.specs.declared.types.Fault.the-variants.{Fine}
+use Rattle.paper_rules.specs.declared.types.Track.{Track}
+use Rattle.paper_rules.specs.Fault.{Record}
+use Rattle.paper_rules.specs.State.{Context}
+use Rattle.paper_rules.specs.Roles.{TEXT}
+use Rattle.paper_rules.proofs.EitherWay.{either-way}
+use Rattle.paper_rules.specs.Counts.{countN2}
+use Rattle.paper_rules.specs.Order.{faultOf}
+use Rattle.paper_rules.proofs.WithoutFault.{fine-long}
 use Rattle.rules_plain.specs.Places.{Long, bibPlace}
 use Rattle.rules_plain.specs.Texts.{UnderKeyword, BehindTexts}
 use Rattle.rules_plain.proofs.UnderNext.{under-none, under-joins, under-begins}
-use Rattle.entry_counted.specs.Counted.{trackAfter, afterSystem, afterInside}
-use Rattle.entry_tally.specs.Tally.{textRead}
-use Rattle.entry_next.specs.Next.{contextAfter}
-use Rattle.entry_judging.specs.Judging.{roleOf}
-use Rattle.entry_judging.specs.Contexts.{behind, contextAt, roleAt}
+use Rattle.paper_entry.specs.Counted.{trackAfter, afterSystem, afterInside}
+use Rattle.paper_entry.specs.Tally.{textRead}
+use Rattle.paper_entry.specs.Next.{contextAfter}
+use Rattle.paper_entry.specs.Judging.{roleOf}
+use Rattle.paper_entry.specs.Contexts.{behind, contextAt, roleAt}
 use Rattle.entry_walk.proofs.Contexts.{context-after}
 use Rattle.entry_walk.proofs.TextsAdded.{bib-joined, under-begun, under-joined, bib-emptied, under-emptied}
 use Rattle.refusal_table.specs.KindOf.{fieldsIn, nameIn, announcedN2}

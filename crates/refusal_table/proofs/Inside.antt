@@ -13,22 +13,22 @@ use Rattle.laws.specs.Turns.{go}
 use Rattle.laws.specs.Blocks.{blockAt}
 use Rattle.laws.proofs.Search.{either}
 use Rattle.laws.proofs.Booleans.{either-as}
-use Rattle.columns_places.specs.Places.{recordsFor}
-use Rattle.record_names.specs.Identifier.{ENTRY, SUBENT, NOSUBENT, BIB, NOBIB, ENDBIB, COMMON, NOCOMMON, ENDCOMMON, DATA}
-use Rattle.record_names.specs.Identifier.{NODATA, ENDDATA, ENDSUBENT, ENDENTRY, OTHER, isEnd}
-use Rattle.rules_state.specs.declared.state.Phase.{Phase}
-use Rattle.rules_state.specs.declared.state.Phase.the-variants.{Start, Opened, InSubentry, InBib, AfterBib, InCommon}
-use Rattle.rules_state.specs.declared.state.Phase.the-variants.{AfterCommon, InData, AfterData, Between, Done}
-use Rattle.rules_state.specs.declared.state.Track.{Track}
-use Rattle.rules_state.specs.State.{Context}
-use Rattle.rules_roles.specs.Roles.{TEXT, NOT-DUE}
-use Rattle.rules_state.specs.Role.{allRead, only, either as eitherOf, bibRole, tableRole, dataRole, roleIn}
-use Rattle.rules_state.proofs.EitherWay.{either-way}
-use Rattle.rules.proofs.DueRecords.{fine-common, fine-data}
-use Rattle.entry_next.specs.Due.{phaseAfter}
-use Rattle.entry_next.specs.Next.{contextAfter}
-use Rattle.entry_judging.specs.Judging.{turnOf}
-use Rattle.entry_judging.specs.Contexts.{contextAt, roleAt}
+use Rattle.paper_record.specs.Places.{recordsFor}
+use Rattle.paper_record.specs.Identifier.{ENTRY, SUBENT, NOSUBENT, BIB, NOBIB, ENDBIB, COMMON, NOCOMMON, ENDCOMMON, DATA}
+use Rattle.paper_record.specs.Identifier.{NODATA, ENDDATA, ENDSUBENT, ENDENTRY, OTHER, isEnd}
+use Rattle.paper_rules.specs.declared.types.Phase.{Phase}
+use Rattle.paper_rules.specs.declared.types.Phase.the-variants.{Start, Opened, InSubentry, InBib, AfterBib, InCommon}
+use Rattle.paper_rules.specs.declared.types.Phase.the-variants.{AfterCommon, InData, AfterData, Between, Done}
+use Rattle.paper_rules.specs.declared.types.Track.{Track}
+use Rattle.paper_rules.specs.State.{Context}
+use Rattle.paper_rules.specs.Roles.{TEXT, NOT-DUE}
+use Rattle.paper_rules.specs.Role.{allRead, only, either as eitherOf, bibRole, tableRole, dataRole, roleIn}
+use Rattle.paper_rules.proofs.EitherWay.{either-way}
+use Rattle.paper_rules.proofs.DueRecords.{fine-common, fine-data}
+use Rattle.paper_entry.specs.Due.{phaseAfter}
+use Rattle.paper_entry.specs.Next.{contextAfter}
+use Rattle.paper_entry.specs.Judging.{turnOf}
+use Rattle.paper_entry.specs.Contexts.{contextAt, roleAt}
 use Rattle.entry_walk.proofs.GoingOn.{fine-go}
 use Rattle.entry_walk.proofs.Laid.{phaseIn, rowRole, lineOf, Laid, row-role, laid-on, laid-over}
 use Rattle.entry_walk.proofs.TableLaid.{sectionRole, linesOf, opened-common, opened-data}

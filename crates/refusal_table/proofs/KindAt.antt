@@ -10,18 +10,18 @@ use lib.Dec.{eqb}
 use Rattle.laws.specs.Blocks.{blockAt}
 use Rattle.laws.proofs.Search.{either}
 use Rattle.laws.proofs.Booleans.{either-as}
-use Rattle.columns_places.specs.Places.{recordsFor}
-use Rattle.record_names.specs.Identifier.{ENTRY, SUBENT, NOSUBENT, BIB, NOBIB, ENDBIB, COMMON, NOCOMMON, DATA, NODATA}
-use Rattle.record_names.specs.Identifier.{ENDSUBENT, ENDENTRY, TRANS, OTHER, isEnd}
-use Rattle.rules_state.specs.declared.state.Phase.{Phase}
-use Rattle.rules_state.specs.declared.state.Phase.the-variants.{Start, Opened, InSubentry, InBib, AfterBib, InCommon}
-use Rattle.rules_state.specs.declared.state.Phase.the-variants.{AfterCommon, InData, AfterData, Between, Done}
-use Rattle.rules_roles.specs.Roles.{TEXT, NOT-DUE}
-use Rattle.rules_state.specs.Role.{allRead, only, either as eitherOf, bibRole, dataRole, roleIn}
-use Rattle.rules_state.proofs.EitherWay.{either-way}
-use Rattle.rules.specs.Order.{Nothing}
-use Rattle.rules.proofs.FaultSaid.{nothing-fine}
-use Rattle.entry_judging.specs.Contexts.{contextAt, roleAt}
+use Rattle.paper_record.specs.Places.{recordsFor}
+use Rattle.paper_record.specs.Identifier.{ENTRY, SUBENT, NOSUBENT, BIB, NOBIB, ENDBIB, COMMON, NOCOMMON, DATA, NODATA}
+use Rattle.paper_record.specs.Identifier.{ENDSUBENT, ENDENTRY, TRANS, OTHER, isEnd}
+use Rattle.paper_rules.specs.declared.types.Phase.{Phase}
+use Rattle.paper_rules.specs.declared.types.Phase.the-variants.{Start, Opened, InSubentry, InBib, AfterBib, InCommon}
+use Rattle.paper_rules.specs.declared.types.Phase.the-variants.{AfterCommon, InData, AfterData, Between, Done}
+use Rattle.paper_rules.specs.Roles.{TEXT, NOT-DUE}
+use Rattle.paper_rules.specs.Role.{allRead, only, either as eitherOf, bibRole, dataRole, roleIn}
+use Rattle.paper_rules.proofs.EitherWay.{either-way}
+use Rattle.paper_rules.specs.Order.{Nothing}
+use Rattle.paper_rules.proofs.FaultSaid.{nothing-fine}
+use Rattle.paper_entry.specs.Contexts.{contextAt, roleAt}
 use Rattle.entry_walk.specs.First.{foundAt}
 use Rattle.entry_walk.proofs.Laid.{phaseIn, rowRole, lineOf, row-role}
 use Rattle.entry_walk.proofs.TableLaid.{sectionRole, linesOf}

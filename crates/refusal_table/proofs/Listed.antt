@@ -10,23 +10,23 @@ use lib.ListN.{length}
 use Rattle.laws.specs.Blocks.{blockAt}
 use Rattle.laws.specs.Search.{first}
 use Rattle.laws.proofs.Booleans.{differ, and-none}
-use Rattle.record_names.specs.Identifier.{ENDBIB, ENDCOMMON, DATA, NODATA, ENDDATA, ENDSUBENT, ENDENTRY, isEnd}
-use Rattle.record_words.specs.Word.{equalTo}
-use Rattle.rules_state.specs.declared.state.Phase.{Phase}
-use Rattle.rules_state.specs.declared.state.Phase.the-variants.{Start, Opened, InSubentry, InBib, AfterBib, InCommon}
-use Rattle.rules_state.specs.declared.state.Phase.the-variants.{AfterCommon, InData, AfterData, Between, Done}
-use Rattle.rules_state.specs.declared.state.Track.{Track}
-use Rattle.rules_state.specs.State.{Context}
-use Rattle.rules_state.specs.Limits.{MOST-RECORDS}
-use Rattle.rules_roles.specs.Roles.{NOT-DUE}
-use Rattle.rules_state.specs.Role.{allRead, only, either, bibRole, tableRole, dataRole, roleIn}
-use Rattle.rules_state.proofs.EitherWay.{either-way}
-use Rattle.entry_next.specs.Due.{phaseAfter}
-use Rattle.entry_next.specs.Next.{contextAfter}
-use Rattle.entry_verdict.specs.declared.verdict.Verdict.{Verdict}
-use Rattle.entry_verdict.specs.Verdict.{refused, isDone, lengthGood}
-use Rattle.entry_judging.specs.Judging.{judgeOf}
-use Rattle.entry_judging.specs.Contexts.{contextAt, roleAt}
+use Rattle.paper_record.specs.Identifier.{ENDBIB, ENDCOMMON, DATA, NODATA, ENDDATA, ENDSUBENT, ENDENTRY, isEnd}
+use Rattle.paper_record.specs.Word.{equalTo}
+use Rattle.paper_rules.specs.declared.types.Phase.{Phase}
+use Rattle.paper_rules.specs.declared.types.Phase.the-variants.{Start, Opened, InSubentry, InBib, AfterBib, InCommon}
+use Rattle.paper_rules.specs.declared.types.Phase.the-variants.{AfterCommon, InData, AfterData, Between, Done}
+use Rattle.paper_rules.specs.declared.types.Track.{Track}
+use Rattle.paper_rules.specs.State.{Context}
+use Rattle.paper_rules.specs.Limits.{MOST-RECORDS}
+use Rattle.paper_rules.specs.Roles.{NOT-DUE}
+use Rattle.paper_rules.specs.Role.{allRead, only, either, bibRole, tableRole, dataRole, roleIn}
+use Rattle.paper_rules.proofs.EitherWay.{either-way}
+use Rattle.paper_entry.specs.Due.{phaseAfter}
+use Rattle.paper_entry.specs.Next.{contextAfter}
+use Rattle.paper_entry.specs.declared.types.Verdict.{Verdict}
+use Rattle.paper_entry.specs.Verdict.{refused, isDone, lengthGood}
+use Rattle.paper_entry.specs.Judging.{judgeOf}
+use Rattle.paper_entry.specs.Contexts.{contextAt, roleAt}
 use Rattle.entry_walk.specs.First.{First, by-length, by-record, by-end, by-none}
 use Rattle.entry_walk.proofs.Contexts.{context-next}
 use Rattle.entry_walk.proofs.FirstRefused.{refused-first}

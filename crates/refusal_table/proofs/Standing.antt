@@ -14,32 +14,32 @@ use Rattle.laws.specs.Search.{first}
 use Rattle.laws.specs.Walk.{All}
 use Rattle.laws.proofs.Booleans.{either-as}
 use Rattle.laws.proofs.Walk.{all-at}
-use Rattle.classes.specs.Class.{notPermitted}
-use Rattle.columns.specs.Columns.{hasLineFeed}
-use Rattle.columns.specs.Fields.{n1, n2}
-use Rattle.columns.specs.Text.{within}
-use Rattle.record_expected.specs.Expected.{identificationOf, sequenceOf, inDigits}
-use Rattle.record_names.specs.Identifier.{SUBENT, NOSUBENT, TRANS, isEnd}
-use Rattle.record.specs.System.{subentryOf}
-use Rattle.record_words.specs.Word.{equalTo}
-use Rattle.record_faults.specs.Faults.{badPointer}
-use Rattle.rules_state.specs.declared.state.Track.{Track}
-use Rattle.rules_state.specs.State.{Seen, used}
-use Rattle.rules_roles.specs.Roles.{TEXT, DATA-HEADING, NOT-DUE, isSystem, opensSubentry, opensSection, isHeading}
-use Rattle.rules_roles.specs.Roles.{isUnit, isValue}
-use Rattle.rules_roles.specs.Fault.{Finding, when, fieldColumn, pointerColumn}
-use Rattle.rules_state.proofs.EitherWay.{no}
-use Rattle.rules_every.specs.Every.{rule2, rule3, rule4, expectedIdentification, rule5, expectedSequence, rule6}
-use Rattle.rules_system.specs.System.{FREE, formN1, formN2, inForm, rule7, accessionN1, numberDue, rule9}
-use Rattle.rules_counts.specs.Counts.{countN1, countN2, limitN1, limitN2, meets, announcedFault, countTrue, rule8}
-use Rattle.rules_text.specs.Text.{keywordFault, rule10, pointerRepeated, rule11Text}
-use Rattle.rules_section.specs.Headings.{rule11Heading, rule12Heading, rule12Unit, rule13}
-use Rattle.rules_pointers.specs.Pointers.{rule14}
-use Rattle.rules_values.specs.Values.{lineBlank, rule15}
-use Rattle.rules_flags.specs.Flags.{rule17}
-use Rattle.rules.specs.Order.{findings, Before, noFinding, Least}
-use Rattle.rules_section.proofs.SomeColumns.{used-few}
-use Rattle.rules.proofs.ByKind.{of-two, of-headings, of-units, of-values}
+use Rattle.paper_record.specs.Class.{notPermitted}
+use Rattle.paper_record.specs.Columns.{hasLineFeed}
+use Rattle.paper_record.specs.Fields.{n1, n2}
+use Rattle.paper_record.specs.Text.{within}
+use Rattle.paper_record.specs.Expected.{identificationOf, sequenceOf, inDigits}
+use Rattle.paper_record.specs.Identifier.{SUBENT, NOSUBENT, TRANS, isEnd}
+use Rattle.paper_record.specs.System.{subentryOf}
+use Rattle.paper_record.specs.Word.{equalTo}
+use Rattle.paper_record.specs.Faults.{badPointer}
+use Rattle.paper_rules.specs.declared.types.Track.{Track}
+use Rattle.paper_rules.specs.State.{Seen, used}
+use Rattle.paper_rules.specs.Roles.{TEXT, DATA-HEADING, NOT-DUE, isSystem, opensSubentry, opensSection, isHeading}
+use Rattle.paper_rules.specs.Roles.{isUnit, isValue}
+use Rattle.paper_rules.specs.Fault.{Finding, when, fieldColumn, pointerColumn}
+use Rattle.paper_rules.proofs.EitherWay.{no}
+use Rattle.paper_rules.specs.Every.{rule2, rule3, rule4, expectedIdentification, rule5, expectedSequence, rule6}
+use Rattle.paper_rules.specs.System.{FREE, formN1, formN2, inForm, rule7, accessionN1, numberDue, rule9}
+use Rattle.paper_rules.specs.Counts.{countN1, countN2, limitN1, limitN2, meets, announcedFault, countTrue, rule8}
+use Rattle.paper_rules.specs.Text.{keywordFault, rule10, pointerRepeated, rule11Text}
+use Rattle.paper_rules.specs.Headings.{rule11Heading, rule12Heading, rule12Unit, rule13}
+use Rattle.paper_rules.specs.Pointers.{rule14}
+use Rattle.paper_rules.specs.Values.{lineBlank, rule15}
+use Rattle.paper_rules.specs.Flags.{rule17}
+use Rattle.paper_rules.specs.Order.{findings, Before, noFinding, Least}
+use Rattle.paper_rules.proofs.SomeColumns.{used-few}
+use Rattle.paper_rules.proofs.ByKind.{of-two, of-headings, of-units, of-values}
 use Rattle.refusal_table.specs.Table.{everyDue, withN1, withN2, countedN1, countedN2, headings, headingsAndUnits}
 use Rattle.refusal_table.specs.Table.{values, among, fieldsFirst, fieldsEleventh, refusals, noRow, TableAllows}
 use Rattle.refusal_table.proofs.Columns.{Each, each-when, each-on, each-append, each-where, each-leftmost}

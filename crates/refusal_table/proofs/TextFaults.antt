@@ -9,27 +9,27 @@ use borrow.Author.Tests.{eqb-true, eq-eqb}
 use lib.Dec.{eqb}
 use lib.ListN.{getD}
 use Rattle.laws.specs.Blocks.{blockAt}
-use Rattle.record_faults.specs.Faults.{badPointer}
-use Rattle.record_names.specs.Identifier.{BIB, OTHER, ENDBIB}
-use Rattle.rules_state.specs.declared.state.Phase.{Phase}
-use Rattle.rules_state.specs.declared.state.Phase.the-variants.{Start, Opened, InSubentry, InBib, AfterBib, InCommon}
-use Rattle.rules_state.specs.declared.state.Phase.the-variants.{AfterCommon, InData, AfterData, Between, Done}
-use Rattle.rules_state.specs.declared.state.Track.{Track}
-use Rattle.rules_roles.specs.Fault.{on, when}
-use Rattle.rules_roles.specs.Roles.{TEXT, NOT-DUE, isHeading}
-use Rattle.rules_state.specs.Role.{bibRole, roleIn}
-use Rattle.rules_state.specs.State.{Context}
-use Rattle.rules_state.proofs.EitherWay.{no}
-use Rattle.rules_state.proofs.RolePlaces.{inBib, text-in-bib}
-use Rattle.rules_text.specs.Text.{keywordFault, rule10, pointerRepeated, rule11Text}
-use Rattle.rules_section.specs.Headings.{rule11Heading}
+use Rattle.paper_record.specs.Faults.{badPointer}
+use Rattle.paper_record.specs.Identifier.{BIB, OTHER, ENDBIB}
+use Rattle.paper_rules.specs.declared.types.Phase.{Phase}
+use Rattle.paper_rules.specs.declared.types.Phase.the-variants.{Start, Opened, InSubentry, InBib, AfterBib, InCommon}
+use Rattle.paper_rules.specs.declared.types.Phase.the-variants.{AfterCommon, InData, AfterData, Between, Done}
+use Rattle.paper_rules.specs.declared.types.Track.{Track}
+use Rattle.paper_rules.specs.Fault.{on, when}
+use Rattle.paper_rules.specs.Roles.{TEXT, NOT-DUE, isHeading}
+use Rattle.paper_rules.specs.Role.{bibRole, roleIn}
+use Rattle.paper_rules.specs.State.{Context}
+use Rattle.paper_rules.proofs.EitherWay.{no}
+use Rattle.paper_rules.proofs.RolePlaces.{inBib, text-in-bib}
+use Rattle.paper_rules.specs.Text.{keywordFault, rule10, pointerRepeated, rule11Text}
+use Rattle.paper_rules.specs.Headings.{rule11Heading}
 use Rattle.rules_plain.specs.Places.{Some}
 use Rattle.rules_plain.specs.Texts.{WrongKeyword, WrongPointer, BehindTexts}
 use Rattle.rules_plain.proofs.Texts.{keyword-exactly, text-pointer-exactly}
-use Rattle.entry_verdict.specs.declared.verdict.Verdict.{Verdict}
-use Rattle.entry_verdict.specs.Verdict.{refused}
-use Rattle.entry_judging.specs.Judging.{judgeOf}
-use Rattle.entry_judging.specs.Contexts.{contextAt, roleAt}
+use Rattle.paper_entry.specs.declared.types.Verdict.{Verdict}
+use Rattle.paper_entry.specs.Verdict.{refused}
+use Rattle.paper_entry.specs.Judging.{judgeOf}
+use Rattle.paper_entry.specs.Contexts.{contextAt, roleAt}
 use Rattle.entry_walk.specs.First.{NothingBefore, FirstAt, First, by-length, by-record, by-end, by-none}
 use Rattle.entry_walk.proofs.FirstRefused.{refused-first}
 use Rattle.refusal_table.specs.KindOf.{fieldsIn, nameIn, BehindBib}

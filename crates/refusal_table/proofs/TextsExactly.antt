@@ -10,21 +10,21 @@ use borrow.Author.Tests.{eq-eqb}
 use lib.ListN.{length, getD}
 use Rattle.laws.specs.Blocks.{blockAt}
 use Rattle.laws.proofs.Search.{either}
-use Rattle.record_names.specs.Identifier.{BIB, OTHER}
-use Rattle.rules_state.specs.declared.state.Track.{Track}
-use Rattle.rules_roles.specs.Fault.{Record, Finding, on, leftmost}
-use Rattle.rules_roles.specs.Roles.{TEXT, isHeading}
-use Rattle.rules_state.specs.State.{Seen, Context}
-use Rattle.rules_text.specs.Text.{rule10, rule11Text}
-use Rattle.rules_section.specs.Headings.{rule11Heading}
-use Rattle.rules.specs.Clean.{CleanEvery}
-use Rattle.rules.specs.Order.{findings, noFinding, Before, Least}
+use Rattle.paper_record.specs.Identifier.{BIB, OTHER}
+use Rattle.paper_rules.specs.declared.types.Track.{Track}
+use Rattle.paper_rules.specs.Fault.{Record, Finding, on, leftmost}
+use Rattle.paper_rules.specs.Roles.{TEXT, isHeading}
+use Rattle.paper_rules.specs.State.{Seen, Context}
+use Rattle.paper_rules.specs.Text.{rule10, rule11Text}
+use Rattle.paper_rules.specs.Headings.{rule11Heading}
+use Rattle.paper_rules.specs.Clean.{CleanEvery}
+use Rattle.paper_rules.specs.Order.{findings, noFinding, Before, Least}
 use Rattle.rules_plain.specs.Places.{Some}
 use Rattle.rules_plain.specs.Texts.{WrongKeyword, WrongPointer}
 use Rattle.rules_plain.proofs.Texts.{keyword-exactly, keyword-fine, text-pointer-exactly}
-use Rattle.entry_verdict.specs.Verdict.{refused}
-use Rattle.entry_judging.specs.Judging.{judgeOf}
-use Rattle.entry_judging.specs.Contexts.{contextAt, roleAt}
+use Rattle.paper_entry.specs.Verdict.{refused}
+use Rattle.paper_entry.specs.Judging.{judgeOf}
+use Rattle.paper_entry.specs.Contexts.{contextAt, roleAt}
 use Rattle.entry_walk.specs.First.{FirstAt, by-record}
 use Rattle.entry_walk.proofs.FirstRefused.{refused-first}
 use Rattle.entry_walk.proofs.FirstAlone.{first-alone}

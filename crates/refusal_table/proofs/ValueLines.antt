@@ -7,19 +7,19 @@ use mathlib.Core.List.{List}
 use native.Mathlib.Omega.{arith}
 use borrow.Author.Tests.{ne-eqb}
 use lib.Dec.{eqb}
-use Rattle.columns_places.specs.Places.{recordsFor}
-use Rattle.record_names.specs.Identifier.{ENTRY, SUBENT, NOSUBENT, BIB, NOBIB, ENDBIB, COMMON, NOCOMMON, DATA, NODATA}
-use Rattle.record_names.specs.Identifier.{ENDSUBENT, ENDENTRY, OTHER, isEnd}
-use Rattle.rules_state.specs.declared.state.Phase.{Phase}
-use Rattle.rules_state.specs.declared.state.Phase.the-variants.{Start, Opened, InSubentry, InBib, AfterBib, InCommon}
-use Rattle.rules_state.specs.declared.state.Phase.the-variants.{AfterCommon, InData, AfterData, Between, Done}
-use Rattle.rules_state.specs.declared.state.Track.{Track}
-use Rattle.rules_roles.specs.Roles.{TEXT, COMMON-VALUE, DATA-VALUE, NOT-DUE, isValue}
-use Rattle.rules_state.specs.Role.{allRead, only, either as eitherOf, bibRole, dataRole, roleIn}
-use Rattle.rules_state.proofs.EitherWay.{either-way, no}
-use Rattle.rules_flags.specs.Flags.{columnOver}
+use Rattle.paper_record.specs.Places.{recordsFor}
+use Rattle.paper_record.specs.Identifier.{ENTRY, SUBENT, NOSUBENT, BIB, NOBIB, ENDBIB, COMMON, NOCOMMON, DATA, NODATA}
+use Rattle.paper_record.specs.Identifier.{ENDSUBENT, ENDENTRY, OTHER, isEnd}
+use Rattle.paper_rules.specs.declared.types.Phase.{Phase}
+use Rattle.paper_rules.specs.declared.types.Phase.the-variants.{Start, Opened, InSubentry, InBib, AfterBib, InCommon}
+use Rattle.paper_rules.specs.declared.types.Phase.the-variants.{AfterCommon, InData, AfterData, Between, Done}
+use Rattle.paper_rules.specs.declared.types.Track.{Track}
+use Rattle.paper_rules.specs.Roles.{TEXT, COMMON-VALUE, DATA-VALUE, NOT-DUE, isValue}
+use Rattle.paper_rules.specs.Role.{allRead, only, either as eitherOf, bibRole, dataRole, roleIn}
+use Rattle.paper_rules.proofs.EitherWay.{either-way, no}
+use Rattle.paper_rules.specs.Flags.{columnOver}
 use Rattle.rules_plain.specs.Places.{cell}
-use Rattle.entry_judging.specs.Contexts.{contextAt}
+use Rattle.paper_entry.specs.Contexts.{contextAt}
 use Rattle.entry_walk.proofs.Laid.{phaseIn, rowRole, lineOf, row-role}
 use Rattle.entry_walk.proofs.TableLaid.{sectionRole, linesOf}
 use Rattle.refusal_table.specs.KindOf.{fieldsIn, nameIn, announcedN1}

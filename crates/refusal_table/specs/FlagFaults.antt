@@ -4,17 +4,17 @@ use Prim.Native.Nat.{ℕ, suc, _+_, _*_, _≤_}
 use mathlib.Core.Path.{_≡_}
 use mathlib.Core.Bool.{true}
 use mathlib.Core.List.{List}
-use Rattle.columns.specs.Fields.{fieldAt}
-use Rattle.record_names.specs.Identifier.{COMMON, DATA}
-use Rattle.rules_state.specs.declared.state.Track.{Track}
-use Rattle.rules_roles.specs.Fault.{Record}
-use Rattle.rules_roles.specs.Roles.{isValue}
+use Rattle.paper_record.specs.Fields.{fieldAt}
+use Rattle.paper_record.specs.Identifier.{COMMON, DATA}
+use Rattle.paper_rules.specs.declared.types.Track.{Track}
+use Rattle.paper_rules.specs.Fault.{Record}
+use Rattle.paper_rules.specs.Roles.{isValue}
 use Rattle.rules_plain.specs.Places.{cell}
 use Rattle.rules_plain.specs.Repeated.{RecordsBefore}
 use Rattle.rules_plain.specs.Flags.{CodeMet, WrongFlag, overField}
-use Rattle.entry_verdict.specs.Verdict.{refused}
-use Rattle.entry_judging.specs.Judging.{judgeOf}
-use Rattle.entry_judging.specs.Contexts.{contextAt, roleAt}
+use Rattle.paper_entry.specs.Verdict.{refused}
+use Rattle.paper_entry.specs.Judging.{judgeOf}
+use Rattle.paper_entry.specs.Contexts.{contextAt, roleAt}
 use Rattle.entry_walk.specs.First.{NothingBefore}
 use Rattle.refusal_table.specs.Table.{values}
 use Rattle.refusal_table.specs.KindOf.{announcedN2, InRow}

@@ -10,14 +10,14 @@ use lib.Dec.{eqb}
 use lib.ListN.{length}
 use Rattle.laws.specs.Blocks.{blockAt}
 use Rattle.laws.specs.Walk.{All}
-use Rattle.columns.specs.Fields.{fieldAt}
-use Rattle.rules_roles.specs.Roles.{TEXT, DATA-HEADING, isHeading}
-use Rattle.rules_roles.specs.Fault.{Record}
-use Rattle.rules.specs.Order.{Before}
+use Rattle.paper_record.specs.Fields.{fieldAt}
+use Rattle.paper_rules.specs.Roles.{TEXT, DATA-HEADING, isHeading}
+use Rattle.paper_rules.specs.Fault.{Record}
+use Rattle.paper_rules.specs.Order.{Before}
 use Rattle.rules_plain.specs.Repeated.{RecordsBefore, SeenBefore, Repeated, Lost, FirstOf}
-use Rattle.entry_verdict.specs.Verdict.{refused, lengthGood}
-use Rattle.entry_judging.specs.Judging.{judgeOf}
-use Rattle.entry_judging.specs.Contexts.{contextAt, roleAt}
+use Rattle.paper_entry.specs.Verdict.{refused, lengthGood}
+use Rattle.paper_entry.specs.Judging.{judgeOf}
+use Rattle.paper_entry.specs.Contexts.{contextAt, roleAt}
 use Rattle.entry_walk.specs.First.{NothingBefore}
 use Rattle.refusal_table.specs.Table.{among, headings}
 use Rattle.refusal_table.specs.KindOf.{KindOf}

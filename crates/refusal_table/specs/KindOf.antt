@@ -5,12 +5,12 @@ use mathlib.Core.Path.{_≡_}
 use mathlib.Core.List.{List, []}
 use lib.ListN.{getD}
 use Rattle.laws.specs.Blocks.{blockAt}
-use Rattle.columns_places.specs.Places.{recordsFor}
-use Rattle.columns.specs.Fields.{fieldsOf}
-use Rattle.record_names.specs.Identifier.{BIB, COMMON, DATA, TRANS, OTHER, identifierOf}
-use Rattle.rules_roles.specs.Roles.{TEXT, COMMON-HEADING, COMMON-UNIT, COMMON-VALUE, DATA-HEADING, DATA-UNIT}
-use Rattle.rules_roles.specs.Roles.{DATA-VALUE, NOT-DUE}
-use Rattle.rules_counts.specs.Counts.{countN1, countN2}
+use Rattle.paper_record.specs.Places.{recordsFor}
+use Rattle.paper_record.specs.Fields.{fieldsOf}
+use Rattle.paper_record.specs.Identifier.{BIB, COMMON, DATA, TRANS, OTHER, identifierOf}
+use Rattle.paper_rules.specs.Roles.{TEXT, COMMON-HEADING, COMMON-UNIT, COMMON-VALUE, DATA-HEADING, DATA-UNIT}
+use Rattle.paper_rules.specs.Roles.{DATA-VALUE, NOT-DUE}
+use Rattle.paper_rules.specs.Counts.{countN1, countN2}
 
 -- ---- the record with the index i
 

@@ -10,11 +10,11 @@ use mathlib.Core.List.{List, [], _∷_}
 use lib.Dec.{eqb}
 use lib.ListN.{length, getD}
 use Rattle.laws.specs.Members.{anyOf}
-use Rattle.columns.specs.Text.{within}
-use Rattle.record_names.specs.Identifier.{ENTRY, SUBENT, NOSUBENT, BIB, ENDBIB, COMMON, ENDCOMMON, DATA, ENDDATA, ENDSUBENT}
-use Rattle.record_names.specs.Identifier.{ENDENTRY}
-use Rattle.rules_roles.specs.Roles.{TEXT, COMMON-HEADING, COMMON-UNIT, COMMON-VALUE, DATA-HEADING, DATA-UNIT}
-use Rattle.rules_roles.specs.Roles.{DATA-VALUE, NOT-DUE}
+use Rattle.paper_record.specs.Text.{within}
+use Rattle.paper_record.specs.Identifier.{ENTRY, SUBENT, NOSUBENT, BIB, ENDBIB, COMMON, ENDCOMMON, DATA, ENDDATA, ENDSUBENT}
+use Rattle.paper_record.specs.Identifier.{ENDENTRY}
+use Rattle.paper_rules.specs.Roles.{TEXT, COMMON-HEADING, COMMON-UNIT, COMMON-VALUE, DATA-HEADING, DATA-UNIT}
+use Rattle.paper_rules.specs.Roles.{DATA-VALUE, NOT-DUE}
 
 -- a number with the kinds and the columns that it can have
 pub record Row : Type 0 where

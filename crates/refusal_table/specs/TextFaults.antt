@@ -8,13 +8,13 @@ use mathlib.Core.Logic.{_↔_}
 use lib.ListN.{length}
 use Rattle.laws.specs.Blocks.{blockAt}
 use Rattle.laws.specs.Members.{listOf}
-use Rattle.rules_roles.specs.Fault.{Record}
-use Rattle.rules_roles.specs.Roles.{TEXT}
-use Rattle.rules.specs.Clean.{CleanEvery}
+use Rattle.paper_rules.specs.Fault.{Record}
+use Rattle.paper_rules.specs.Roles.{TEXT}
+use Rattle.paper_rules.specs.Clean.{CleanEvery}
 use Rattle.rules_plain.specs.Texts.{WrongKeyword, WrongPointer}
-use Rattle.entry_verdict.specs.Verdict.{refused, lengthGood}
-use Rattle.entry_judging.specs.Judging.{judgeOf}
-use Rattle.entry_judging.specs.Contexts.{contextAt, roleAt}
+use Rattle.paper_entry.specs.Verdict.{refused, lengthGood}
+use Rattle.paper_entry.specs.Judging.{judgeOf}
+use Rattle.paper_entry.specs.Contexts.{contextAt, roleAt}
 use Rattle.entry_walk.specs.First.{NothingBefore}
 use Rattle.refusal_table.specs.Table.{headings}
 use Rattle.refusal_table.specs.KindOf.{fieldsIn, BehindBib, KindOf}

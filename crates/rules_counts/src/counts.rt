@@ -1,82 +1,22 @@
 // The rule for counts: refusal 8. It gives the leftmost column at fault, 0 where there is none.
 ghost use mathlib.Core.Path.{_≡_};
-ghost use Prim.Native.Nat.{_-_, _*_, _<_};
-ghost use Rattle.record_names.specs.Identifier.{NamesLent};
-ghost use Rattle.rules_roles.specs.Roles.{isSystem};
-ghost use Rattle.rules_roles.specs.Fault.{leftmost, on};
-ghost use Rattle.rules_counts.specs.Counts.{limitN1, limitN2, Few, meets, announcedFault, trueCount};
-ghost use Rattle.rules_counts.specs.Counts.{keywordsTrue, countTrue, rule8};
-use columns_places::places::records_for;
+ghost use Prim.Native.Nat.{_-_};
+ghost use Rattle.paper_record.specs.Identifier.{NamesLent};
+ghost use Rattle.paper_rules.specs.Roles.{isSystem};
+ghost use Rattle.paper_rules.specs.Fault.{leftmost, on};
+ghost use Rattle.paper_rules.specs.Counts.{trueCount};
+ghost use Rattle.paper_rules.specs.Counts.{keywordsTrue, countTrue, rule8};
+use paper_rules::types::Track;
 use record::system::count_of;
 use record::system::number_of;
-use record_names::identifier::BIB;
-use record_names::identifier::COMMON;
 use record_names::identifier::ENDBIB;
 use record_names::identifier::ENDENTRY;
 use record_names::identifier::ENDSUBENT;
 use record_names::identifier::Names;
 use record_names::identifier::is_end;
-use record_words::word::is_within;
+use rules_limits::limits::announced;
 use rules_roles::roles::is_system;
 use rules_roles::roles::opens_section;
-use rules_state::state::Track;
-
-// The limits of document 01.
-pub const MOST_COLUMNS: u64 = 18;
-
-pub const MOST_LINES: u64 = 20000;
-
-// What a count may be.
-pub enum Limit {
-    AtLeast(u64),
-    Between(u64, u64),
-}
-
-fn limit_n1(role: usize) -> Limit
-    ensures { λ r. ⌜ r ≡ limitN1 role ⌝ }
-{
-    if role == BIB {
-        return Limit::AtLeast(1);
-    }
-    Limit::Between(1, MOST_COLUMNS)
-}
-
-fn limit_n2(role: usize, n: u64) -> Limit
-    requires { ⌜ Few role n ⌝ }
-    ensures { λ r. ⌜ r ≡ limitN2 role n ⌝ }
-{
-    if role == BIB {
-        return Limit::AtLeast(n);
-    }
-    if role == COMMON {
-        let k = records_for(n as u32) as u64;
-        let records = 3 * k;
-        return Limit::Between(records, records);
-    }
-    Limit::Between(1, MOST_LINES)
-}
-
-fn meets(limit: Limit, n: u64) -> bool
-    ensures { λ r. ⌜ r ≡ meets limit n ⌝ }
-{
-    match limit {
-        Limit::AtLeast(least) => least <= n,
-        Limit::Between(least, greatest) => is_within(least, greatest, n),
-    }
-}
-
-// Of a record that opens a section.
-fn announced(role: usize, a: u64, b: u64) -> u8
-    ensures { λ r. ⌜ r ≡ leftmost (announcedFault role a b) ⌝ }
-{
-    if !meets(limit_n1(role), a) {
-        return 12;
-    }
-    if !meets(limit_n2(role, a), b) {
-        return 23;
-    }
-    0
-}
 
 // The count that an END record must give.
 fn true_count(track: Track, role: usize) -> u64

@@ -5,7 +5,7 @@ use mathlib.Core.Path.{_≡_, _∙_, ap}
 use mathlib.Core.List.{List}
 use native.Mathlib.Omega.{arith}
 use lib.ListN.{length}
-use Rattle.rules_earlier.specs.Earlier.{earlier, partOf, Left}
+use Rattle.paper_rules.specs.Earlier.{earlier, partOf, Left}
 
 pub left-fits : (common001 common table here part : List ℕ) (left s : ℕ)
     → part ≡ partOf (earlier common001 common table here 0) s → length here ≡ 81 → left ≤ 6 → Left part left s

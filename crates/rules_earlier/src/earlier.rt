@@ -1,17 +1,12 @@
 // The search for an earlier heading that is equal, section by section.
 ghost use mathlib.Core.Path.{_≡_};
 ghost use Prim.Native.Nat.{_+_, _*_, _/_, _%_, _≤_, _<_};
-ghost use Rattle.columns.specs.Columns.{Whole};
-ghost use Rattle.rules_earlier.specs.Earlier.{headingsIn, earlier, partOf, headingCount, Left, FAR, Near};
-ghost use Rattle.rules_earlier.specs.Earlier.{headingFound, equalHeading};
+ghost use Rattle.paper_record.specs.Columns.{Whole};
+ghost use Rattle.paper_rules.specs.Earlier.{headingsIn, earlier, partOf, headingCount, Left, FAR, Near};
+ghost use Rattle.paper_rules.specs.Earlier.{headingFound, equalHeading};
 use columns::fields::field;
+use paper_rules::types::Found;
 use record_words::word::same_heading;
-
-// A section and a column of it, both from 1, or nothing.
-pub enum Found {
-    At(usize, usize),
-    Nothing,
-}
 
 // The headings of a part of heading records, six to a record.
 pub fn headings_in(part: &[u8]) -> usize

@@ -2,14 +2,15 @@
 ghost use mathlib.Core.Path.{_≡_};
 ghost use Prim.Native.Nat.{ℕ, _+_, _-_, _*_, _≤_, _<_};
 ghost use lib.ListN.{length, getD};
-ghost use Rattle.columns.specs.Columns.{Whole};
-ghost use Rattle.classes.specs.Class.{ClassesLent};
-ghost use Rattle.rules_state.specs.Ranging.{Bounded};
-ghost use Rattle.rules_roles.specs.Fault.{leftmost};
-ghost use Rattle.rules_every.specs.Every.{rule2, rule3, rule4, expectedIdentification, rule5, expectedSequence};
-ghost use Rattle.rules_every.specs.Every.{rule6};
+ghost use Rattle.paper_record.specs.Columns.{Whole};
+ghost use Rattle.paper_record.specs.Class.{ClassesLent};
+ghost use Rattle.paper_rules.specs.Ranging.{Bounded};
+ghost use Rattle.paper_rules.specs.Fault.{leftmost};
+ghost use Rattle.paper_rules.specs.Every.{rule2, rule3, rule4, expectedIdentification, rule5, expectedSequence};
+ghost use Rattle.paper_rules.specs.Every.{rule6};
 use classes::class::permitted_to;
 use columns::columns::has_line_feed;
+use paper_rules::types::Track;
 use record_expected::expected::entry_accession;
 use record_expected::expected::five_digits;
 use record_expected::expected::identification;
@@ -23,7 +24,6 @@ use record_names::identifier::ENDSUBENT;
 use record_names::identifier::ENTRY;
 use rules_roles::roles::NOT_DUE;
 use rules_roles::roles::opens_subentry;
-use rules_state::state::Track;
 
 pub fn rule2(rec: &[u8]) -> u8
     requires { ⌜ Whole (now rec) ⌝ }

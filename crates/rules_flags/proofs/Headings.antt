@@ -11,17 +11,17 @@ use lib.Seq.{getD-take, getD-drop, length-take-le}
 use Rattle.laws.specs.Search.{first}
 use Rattle.laws.proofs.Search.{either, first-same, pass-first}
 use Rattle.laws.proofs.Booleans.{differ, or-left, or-right}
-use Rattle.columns.specs.Columns.{columnsAt}
-use Rattle.record_flags.specs.Flags.{isFlagHeading}
-use Rattle.record_flags.proofs.Words.{no-columns, no-letter}
-use Rattle.rules_state.specs.declared.state.Track.{Track}
-use Rattle.rules_roles.specs.declared.ranging.Range.{Range}
-use Rattle.rules_roles.specs.declared.ranging.Ranges.{Ranges}
-use Rattle.rules_roles.specs.Parts.{bytesOf, Lent}
-use Rattle.rules_state.specs.Ranging.{Stands}
-use Rattle.rules_earlier.specs.Earlier.{headingAt}
-use Rattle.rules_state.specs.State.{Seen}
-use Rattle.rules_flags.specs.Flags.{recordsOver, flagFault, flagFaultAt}
+use Rattle.paper_record.specs.Columns.{columnsAt}
+use Rattle.paper_record.specs.Flags.{isFlagHeading}
+use Rattle.paper_record.proofs.FlagWords.{no-columns, no-letter}
+use Rattle.paper_rules.specs.declared.types.Track.{Track}
+use Rattle.paper_rules.specs.declared.types.Range.{Range}
+use Rattle.paper_rules.specs.declared.types.Ranges.{Ranges}
+use Rattle.paper_rules.specs.Parts.{bytesOf, Lent}
+use Rattle.paper_rules.specs.Ranging.{Stands}
+use Rattle.paper_rules.specs.Earlier.{headingAt}
+use Rattle.paper_rules.specs.State.{Seen}
+use Rattle.paper_rules.specs.Flags.{recordsOver, flagFault, flagFaultAt}
 use Rattle.rules_flags.specs.Below.{faultBelow, startsFlag, letterIn}
 use Rattle.rules_flags.specs.Lent.{WholeRecords, Room, RecordAt}
 

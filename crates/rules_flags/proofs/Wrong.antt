@@ -8,15 +8,15 @@ use lib.Dec.{eqb}
 use Rattle.laws.specs.Members.{anyOf}
 use Rattle.laws.proofs.Booleans.{and-with-true}
 use Rattle.laws.proofs.Listing.{any-same, any-never}
-use Rattle.number.specs.Form.{formOf}
-use Rattle.number.specs.Reading.{readField}
-use Rattle.number_whole.specs.declared.whole.WholeRead.the-variants.{NoNumber, Raised, Broken, Whole}
-use Rattle.number_whole.specs.Whole.{hasExponent, wholeRead, wholeIs}
-use Rattle.number_whole.proofs.Told.{tellsNumber, tellsExponent, number-told, exponent-told, told-broken, told-whole}
-use Rattle.record_values.specs.Numbers.{formAt, saysNumber}
-use Rattle.record_flags.specs.Flags.{isFlag}
-use Rattle.rules_codes.specs.Codes.{codesOf}
-use Rattle.rules_flags.specs.Flags.{hasCode, flagWrong}
+use Rattle.paper_number.specs.Form.{formOf}
+use Rattle.paper_number.specs.Reading.{readField}
+use Rattle.paper_number.specs.declared.types.WholeRead.the-variants.{NoNumber, Raised, Broken, Whole}
+use Rattle.paper_number.specs.Whole.{hasExponent, wholeRead, wholeIs}
+use Rattle.paper_number.proofs.WholeTold.{tellsNumber, tellsExponent, number-told, exponent-told, told-broken, told-whole}
+use Rattle.paper_record.specs.Numbers.{formAt, saysNumber}
+use Rattle.paper_record.specs.Flags.{isFlag}
+use Rattle.paper_rules.specs.Codes.{codesOf}
+use Rattle.paper_rules.specs.Flags.{hasCode, flagWrong}
 
 number-says : (f : List ℕ) → saysNumber (formAt f) ≡ tellsNumber (wholeRead f)
 number-says f = number-told f saysNumber refl refl refl

@@ -6,9 +6,9 @@ use mathlib.Core.Bool.{Bool, _||_}
 use mathlib.Core.List.{List, []}
 use lib.Dec.{eqb}
 use lib.ListN.{getD}
-use Rattle.columns.specs.Columns.{columnsAt}
-use Rattle.rules_roles.specs.Fault.{Fields}
-use Rattle.rules_flags.specs.Flags.{flagFault}
+use Rattle.paper_record.specs.Columns.{columnsAt}
+use Rattle.paper_rules.specs.Fault.{Fields}
+use Rattle.paper_rules.specs.Flags.{flagFault}
 
 -- the field k is at fault under its heading, in the heading record at `from`
 abbrev pub faultBelow : List ℕ → List ℕ → List ℕ → ℕ → Fields → ℕ → Bool

@@ -3,25 +3,26 @@
 ghost use mathlib.Core.Path.{_≡_};
 ghost use Prim.Native.Nat.{_*_, _≤_, _<_};
 ghost use Rattle.laws.specs.Search.{first};
-ghost use Rattle.columns.specs.Columns.{columnsAt};
-ghost use Rattle.record_flags.specs.Flags.{isFlagHeading};
-ghost use Rattle.rules_state.specs.Ranging.{Stands, seenOf};
-ghost use Rattle.rules_roles.specs.Roles.{isValue};
-ghost use Rattle.rules_roles.specs.Fault.{leftmost, on};
-ghost use Rattle.rules_flags.specs.Flags.{recordsOver, flagColumn, flagWrong, flagFault, rule17};
+ghost use Rattle.paper_record.specs.Columns.{columnsAt};
+ghost use Rattle.paper_record.specs.Flags.{isFlagHeading};
+ghost use Rattle.paper_rules.specs.Ranging.{Stands, seenOf};
+ghost use Rattle.paper_rules.specs.Roles.{isValue};
+ghost use Rattle.paper_rules.specs.Fault.{leftmost, on};
+ghost use Rattle.paper_rules.specs.Flags.{recordsOver, flagColumn, flagWrong, flagFault, rule17};
 ghost use Rattle.rules_flags.specs.Below.{faultBelow, startsFlag, letterIn};
 ghost use Rattle.rules_flags.specs.Lent.{WholeRecords, Room, RecordAt};
 use columns::fields::field;
-use number_whole::whole::WholeRead;
 use number_whole::whole::whole_read;
+use paper_number::types::WholeRead;
+use paper_rules::types::Ranges;
+use paper_rules::types::Track;
 use record_flags::flags::is_flag;
 use record_flags::flags::is_flag_heading;
 use rules_codes::codes::code_met;
 use rules_roles::fault::field_column;
-use rules_roles::ranging::Ranges;
 use rules_roles::ranging::part;
 use rules_roles::roles::is_value;
-use rules_state::state::Track;
+use rules_state::state::used;
 
 // Where the heading record over a value record stands in the heading records of its table.
 fn heading_record(track: Track) -> usize
@@ -172,7 +173,7 @@ pub fn rule17(track: Track, ranges: Ranges, before: &[u8], role: usize, fs: [[u8
     if !is_value(role) {
         return 0;
     }
-    let n = track.used();
+    let n = used(track);
     let from = heading_record(track);
     let a = ranges.table;
     let table = part(before, a);

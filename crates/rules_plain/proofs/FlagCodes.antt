@@ -15,14 +15,14 @@ use Rattle.laws.specs.Walk.{All}
 use Rattle.laws.proofs.Blocks.{blocks-joined, length-joined}
 use Rattle.laws.proofs.Booleans.{differ}
 use Rattle.laws.proofs.Members.{any-append}
-use Rattle.record_words.specs.Word.{blankTo}
-use Rattle.record.proofs.PlainColumns.{blank-exactly, blank-columns}
-use Rattle.record_flags.specs.Flags.{isFlag, isCode, codeNumber}
-use Rattle.record_flags.specs.PlainFlags.{Code, TextColumns}
-use Rattle.record_flags.proofs.CodeExactly.{code-exactly}
-use Rattle.rules_roles.specs.Fault.{Record}
-use Rattle.rules_codes.specs.Codes.{textOf, underFlag, codeOf, codesFrom, codesOf}
-use Rattle.rules_codes.proofs.CodesNext.{one-code}
+use Rattle.paper_record.specs.Word.{blankTo}
+use Rattle.paper_record.proofs.PlainColumns.{blank-exactly, blank-columns}
+use Rattle.paper_record.specs.Flags.{isFlag, isCode, codeNumber}
+use Rattle.paper_record.specs.PlainFlags.{Code, TextColumns}
+use Rattle.paper_record.proofs.CodeExactly.{code-exactly}
+use Rattle.paper_rules.specs.Fault.{Record}
+use Rattle.paper_rules.specs.Codes.{textOf, underFlag, codeOf, codesFrom, codesOf}
+use Rattle.paper_rules.proofs.CodesNext.{one-code}
 use Rattle.rules_plain.specs.Places.{Long, bibPlace, bibText}
 use Rattle.rules_plain.specs.Texts.{NoKeyword, earlier}
 use Rattle.rules_plain.specs.Flags.{FlagWord, UnderFlag, CodeAmong, CodesAre}

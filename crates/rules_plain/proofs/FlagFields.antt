@@ -11,22 +11,22 @@ use lib.Dec.{eqb}
 use lib.ListN.{getD}
 use Rattle.laws.specs.Members.{anyOf}
 use Rattle.laws.proofs.Booleans.{differ, and-left, and-right, or-first, or-second, or-either}
-use Rattle.columns.specs.Text.{text}
-use Rattle.number.specs.declared.value.Decimal.{Decimal}
-use Rattle.number.specs.declared.value.Reading.{Reading}
-use Rattle.number.specs.declared.value.Reading.the-variants.{Blank, Number, Refused}
-use Rattle.number.specs.Form.{formOf}
-use Rattle.number.specs.Reading.{readField}
-use Rattle.number_whole.specs.declared.whole.WholeRead.{WholeRead}
-use Rattle.number_whole.specs.declared.whole.WholeRead.the-variants as W
-use Rattle.number_whole.specs.Whole.{hasExponent, wholeRead, wholeIs}
-use Rattle.number_whole.proofs.Told.{tellsNumber, tellsExponent, exponent-told, number-told}
-use Rattle.number_whole.proofs.Laws.{exponent-exactly, whole-exactly}
-use Rattle.record_flags.proofs.Words.{flag-columns, decay-columns, either-word}
-use Rattle.record_values.specs.Numbers.{formAt, saysNumber}
-use Rattle.record_flags.specs.Flags.{isFlag, isDecayFlag, isFlagHeading}
-use Rattle.rules_codes.specs.Codes.{codesOf}
-use Rattle.rules_flags.specs.Flags.{hasCode, flagWrong, flagFault}
+use Rattle.paper_record.specs.Text.{text}
+use Rattle.paper_number.specs.declared.types.Decimal.{Decimal}
+use Rattle.paper_number.specs.declared.types.Reading.{Reading}
+use Rattle.paper_number.specs.declared.types.Reading.the-variants.{Blank, Number, Refused}
+use Rattle.paper_number.specs.Form.{formOf}
+use Rattle.paper_number.specs.Reading.{readField}
+use Rattle.paper_number.specs.declared.types.WholeRead.{WholeRead}
+use Rattle.paper_number.specs.declared.types.WholeRead.the-variants as W
+use Rattle.paper_number.specs.Whole.{hasExponent, wholeRead, wholeIs}
+use Rattle.paper_number.proofs.WholeTold.{tellsNumber, tellsExponent, exponent-told, number-told}
+use Rattle.paper_number.proofs.WholeLaws.{exponent-exactly, whole-exactly}
+use Rattle.paper_record.proofs.FlagWords.{flag-columns, decay-columns, either-word}
+use Rattle.paper_record.specs.Numbers.{formAt, saysNumber}
+use Rattle.paper_record.specs.Flags.{isFlag, isDecayFlag, isFlagHeading}
+use Rattle.paper_rules.specs.Codes.{codesOf}
+use Rattle.paper_rules.specs.Flags.{hasCode, flagWrong, flagFault}
 use Rattle.rules_plain.specs.Places.{Some}
 use Rattle.rules_plain.specs.Flags.{FlagWord, FlagHeading, flag, decay-flag, wholeValue, WrongFlag, raised}
 use Rattle.rules_plain.specs.Flags.{no-code, FlagFits, CodesAre, FlagWrongExactly, FlagFitsExactly}

@@ -9,13 +9,13 @@ use lib.Dec.{eqb}
 use Rattle.laws.specs.Blocks.{joined}
 use Rattle.laws.specs.Members.{anyOf}
 use Rattle.laws.proofs.Members.{any-append}
-use Rattle.columns.specs.Fields.{fieldAt, fieldsOf}
-use Rattle.columns.proofs.ReadColumns.{field-of}
-use Rattle.rules_state.specs.declared.state.Track.{Track}
-use Rattle.rules_state.specs.State.{Seen, used}
-use Rattle.rules_roles.specs.Fault.{Record, fieldColumn}
-use Rattle.rules_codes.specs.Codes.{codesOf}
-use Rattle.rules_flags.specs.Flags.{columnOver, headingOver, flagFaultAt, rule17}
+use Rattle.paper_record.specs.Fields.{fieldAt, fieldsOf}
+use Rattle.paper_record.proofs.ReadColumns.{field-of}
+use Rattle.paper_rules.specs.declared.types.Track.{Track}
+use Rattle.paper_rules.specs.State.{Seen, used}
+use Rattle.paper_rules.specs.Fault.{Record, fieldColumn}
+use Rattle.paper_rules.specs.Codes.{codesOf}
+use Rattle.paper_rules.specs.Flags.{columnOver, headingOver, flagFaultAt, rule17}
 use Rattle.rules_plain.specs.Repeated.{RecordsBefore, SeenBefore, Finds}
 use Rattle.rules_plain.specs.Flags.{CodeAmong, CodeMet, WrongFlag, overField, CodesAre, FlagsExactly}
 use Rattle.rules_plain.proofs.Rows.{heading-over}

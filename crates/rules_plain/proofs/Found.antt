@@ -9,11 +9,11 @@ use native.Mathlib.Omega.{arith}
 use lib.ListN.{length, getD}
 use Rattle.laws.proofs.Booleans.{differ}
 use Rattle.laws.proofs.Search.{either}
-use Rattle.record.proofs.PlainColumns.{equal-exactly}
-use Rattle.rules_roles.specs.Fault.{Record}
-use Rattle.rules_earlier.specs.declared.earlier.Found.{Found}
-use Rattle.rules_earlier.specs.declared.earlier.Found.the-variants.{At, Nothing}
-use Rattle.rules_earlier.specs.Earlier.{equalHeading}
+use Rattle.paper_record.proofs.PlainColumns.{equal-exactly}
+use Rattle.paper_rules.specs.Fault.{Record}
+use Rattle.paper_rules.specs.declared.types.Found.{Found}
+use Rattle.paper_rules.specs.declared.types.Found.the-variants.{At, Nothing}
+use Rattle.paper_rules.specs.Earlier.{equalHeading}
 use Rattle.rules_plain.specs.Repeated.{RecordsBefore, headingsOn, tableSoFar}
 use Rattle.rules_plain.specs.Found.{headingsOfSection, EqualAt, Sooner, FirstEqual, searched, FoundExactly}
 use Rattle.rules_plain.specs.Found.{NothingExactly}

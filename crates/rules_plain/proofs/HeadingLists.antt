@@ -10,12 +10,12 @@ use Rattle.laws.specs.Walk.{All}
 use Rattle.laws.specs.Blocks.{joined}
 use Rattle.laws.specs.Members.{listOf}
 use Rattle.laws.proofs.Search.{either}
-use Rattle.columns.specs.Fields.{fieldsOf}
-use Rattle.columns.proofs.ReadColumns.{field-of}
-use Rattle.rules_roles.specs.Fault.{Record}
-use Rattle.record_words.specs.Word.{pointerOf}
-use Rattle.rules_earlier.specs.Earlier.{headingAt, headingsIn}
-use Rattle.rules_pointers.specs.Pointers.{headingPointerAt, headingPointers}
+use Rattle.paper_record.specs.Fields.{fieldsOf}
+use Rattle.paper_record.proofs.ReadColumns.{field-of}
+use Rattle.paper_rules.specs.Fault.{Record}
+use Rattle.paper_record.specs.Word.{pointerOf}
+use Rattle.paper_rules.specs.Earlier.{headingAt, headingsIn}
+use Rattle.paper_rules.specs.Pointers.{headingPointerAt, headingPointers}
 use Rattle.rules_plain.specs.Places.{Long, concat, cell, pointersOn}
 use Rattle.rules_plain.specs.Repeated.{headingsOn}
 use Rattle.rules_plain.proofs.Rows.{cell-here, cell-there, heading-cell, heading-here, headings-in, pointer-cell}

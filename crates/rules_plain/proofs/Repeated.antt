@@ -14,24 +14,24 @@ use Rattle.laws.specs.Blocks.{joined}
 use Rattle.laws.specs.Members.{anyOf}
 use Rattle.laws.specs.Walk.{All}
 use Rattle.laws.proofs.Booleans.{differ, and-left, and-right, and-none}
-use Rattle.columns.specs.Fields.{fieldAt, fieldsOf}
-use Rattle.columns.specs.Text.{isBlank}
-use Rattle.columns.proofs.ReadColumns.{field-of}
-use Rattle.record_words.specs.Word.{equalTo, pointerOf}
-use Rattle.record_words.specs.Same.{SameColumns}
-use Rattle.record_repeats.specs.Repeats.{mayRepeat}
-use Rattle.record_repeats.proofs.PlainRepeats.{repeat-exactly}
-use Rattle.record.proofs.PlainColumns.{equal-exactly}
-use Rattle.rules_state.specs.declared.state.Track.{Track}
-use Rattle.rules_state.specs.State.{Seen, used}
-use Rattle.rules_roles.specs.Fault.{Record, fieldColumn}
-use Rattle.rules_section.proofs.SomeColumns.{used-few}
-use Rattle.rules_earlier.specs.declared.earlier.Found.{Found}
-use Rattle.rules_roles.specs.Roles.{DATA-HEADING}
-use Rattle.rules_earlier.specs.Earlier.{headingAt, headingsIn, equalHeading}
-use Rattle.rules_repeats.specs.Repeats.{leftOf, clash, headingRepeated}
-use Rattle.rules_section.specs.Headings.{rule13}
-use Rattle.rules_pointers.specs.Pointers.{pointersFor, pointerLost, lostAt, rule14}
+use Rattle.paper_record.specs.Fields.{fieldAt, fieldsOf}
+use Rattle.paper_record.specs.Text.{isBlank}
+use Rattle.paper_record.proofs.ReadColumns.{field-of}
+use Rattle.paper_record.specs.Word.{equalTo, pointerOf}
+use Rattle.paper_record.specs.Same.{SameColumns}
+use Rattle.paper_record.specs.Repeats.{mayRepeat}
+use Rattle.paper_record.proofs.PlainRepeats.{repeat-exactly}
+use Rattle.paper_record.proofs.PlainColumns.{equal-exactly}
+use Rattle.paper_rules.specs.declared.types.Track.{Track}
+use Rattle.paper_rules.specs.State.{Seen, used}
+use Rattle.paper_rules.specs.Fault.{Record, fieldColumn}
+use Rattle.paper_rules.proofs.SomeColumns.{used-few}
+use Rattle.paper_rules.specs.declared.types.Found.{Found}
+use Rattle.paper_rules.specs.Roles.{DATA-HEADING}
+use Rattle.paper_rules.specs.Earlier.{headingAt, headingsIn, equalHeading}
+use Rattle.paper_rules.specs.Repeats.{leftOf, clash, headingRepeated}
+use Rattle.paper_rules.specs.Headings.{rule13}
+use Rattle.paper_rules.specs.Pointers.{pointersFor, pointerLost, lostAt, rule14}
 use Rattle.rules_plain.specs.Places.{Some, Long}
 use Rattle.rules_plain.specs.Repeated.{RecordsBefore, LongHeadings, SeenBefore, headingsOn, tableSoFar}
 use Rattle.rules_plain.specs.Repeated.{SameIn, leftIn, Repeated, elsewhere, not-listed, apart, pointersMet, Lost}

@@ -10,11 +10,11 @@ use Rattle.laws.specs.Walk.{All}
 use Rattle.laws.specs.Blocks.{joined}
 use Rattle.laws.proofs.Search.{either}
 use Rattle.laws.proofs.Blocks.{length-joined}
-use Rattle.columns.specs.Fields.{fieldAt}
-use Rattle.rules_roles.specs.Fault.{Record}
-use Rattle.record_words.specs.Word.{pointerOf}
-use Rattle.rules_earlier.specs.Earlier.{headingAt, headingsIn}
-use Rattle.rules_pointers.specs.Pointers.{headingPointerAt}
+use Rattle.paper_record.specs.Fields.{fieldAt}
+use Rattle.paper_rules.specs.Fault.{Record}
+use Rattle.paper_record.specs.Word.{pointerOf}
+use Rattle.paper_rules.specs.Earlier.{headingAt, headingsIn}
+use Rattle.paper_rules.specs.Pointers.{headingPointerAt}
 use Rattle.rules_plain.specs.Places.{Long, cell}
 use Rattle.rules_plain.proofs.Lists.{drop-record}
 

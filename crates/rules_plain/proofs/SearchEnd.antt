@@ -13,12 +13,12 @@ use Rattle.laws.specs.Walk.{All}
 use Rattle.laws.specs.Blocks.{joined}
 use Rattle.laws.proofs.Search.{either}
 use Rattle.laws.proofs.Counting.{first-before, first-holds}
-use Rattle.columns.specs.Fields.{fieldsOf}
-use Rattle.record_words.specs.Word.{equalTo}
-use Rattle.rules_roles.specs.Fault.{Record}
-use Rattle.rules_earlier.specs.declared.earlier.Found.{Found}
-use Rattle.rules_earlier.specs.declared.earlier.Found.the-variants.{At, Nothing}
-use Rattle.rules_earlier.specs.Earlier.{headingAt, headingsIn, equalAt, equalIn, equalHeading, sectionTurn, nowhere}
+use Rattle.paper_record.specs.Fields.{fieldsOf}
+use Rattle.paper_record.specs.Word.{equalTo}
+use Rattle.paper_rules.specs.Fault.{Record}
+use Rattle.paper_rules.specs.declared.types.Found.{Found}
+use Rattle.paper_rules.specs.declared.types.Found.the-variants.{At, Nothing}
+use Rattle.paper_rules.specs.Earlier.{headingAt, headingsIn, equalAt, equalIn, equalHeading, sectionTurn, nowhere}
 use Rattle.rules_plain.specs.Places.{Long}
 use Rattle.rules_plain.specs.Repeated.{RecordsBefore, LongHeadings, headingsOn, tableSoFar}
 use Rattle.rules_plain.specs.Found.{searched}

@@ -15,20 +15,20 @@ use Rattle.laws.specs.Walk.{All}
 use Rattle.laws.proofs.Booleans.{differ, and-left, and-right, and-both, or-first, or-second}
 use Rattle.laws.proofs.Listing.{all-right, any-map}
 use Rattle.laws.proofs.Search.{either}
-use Rattle.columns.specs.Fields.{fieldsOf}
-use Rattle.columns.specs.Text.{isBlank}
-use Rattle.columns.proofs.ReadColumns.{field-of}
-use Rattle.record_words.proofs.WordsAndBlanks.{word-blank}
-use Rattle.record_words.specs.Word.{blankTo, equalTo, isWord, pointerOf}
-use Rattle.record_faults.specs.Faults.{badPointer}
-use Rattle.record_words.specs.Same.{SameColumns}
-use Rattle.record.specs.Plain.{Word}
-use Rattle.record.proofs.PlainColumns.{blank-exactly, equal-exactly, word-exactly}
-use Rattle.record.proofs.PlainColumns.{pointer-exactly}
-use Rattle.rules_state.specs.declared.state.Track.{Track}
-use Rattle.rules_roles.specs.Fault.{Record}
-use Rattle.rules_state.specs.State.{Seen}
-use Rattle.rules_text.specs.Text.{keywordFault, rule10, pointerRepeated, rule11Text}
+use Rattle.paper_record.specs.Fields.{fieldsOf}
+use Rattle.paper_record.specs.Text.{isBlank}
+use Rattle.paper_record.proofs.ReadColumns.{field-of}
+use Rattle.paper_record.proofs.WordsAndBlanks.{word-blank}
+use Rattle.paper_record.specs.Word.{blankTo, equalTo, isWord, pointerOf}
+use Rattle.paper_record.specs.Faults.{badPointer}
+use Rattle.paper_record.specs.Same.{SameColumns}
+use Rattle.paper_record.specs.Plain.{Word}
+use Rattle.paper_record.proofs.PlainColumns.{blank-exactly, equal-exactly, word-exactly}
+use Rattle.paper_record.proofs.PlainColumns.{pointer-exactly}
+use Rattle.paper_rules.specs.declared.types.Track.{Track}
+use Rattle.paper_rules.specs.Fault.{Record}
+use Rattle.paper_rules.specs.State.{Seen}
+use Rattle.paper_rules.specs.Text.{keywordFault, rule10, pointerRepeated, rule11Text}
 use Rattle.rules_plain.specs.Places.{Some, Long, bibPlace}
 use Rattle.rules_plain.specs.Texts.{NoKeyword, earlier, NoneBehind, WrongKeyword, missing, malformed, repeated}
 use Rattle.rules_plain.specs.Texts.{WrongPointer, bad-pointer, pointer-again, UnderKeyword, from-keyword}

@@ -15,20 +15,20 @@ use lib.Dec.{eqb}
 use lib.IntN.{pos}
 use lib.ListN.{length}
 use Rattle.laws.specs.Members.{anyOf}
-use Rattle.columns.specs.Text.{text}
-use Rattle.columns.specs.Fields.{fieldAt, fieldsOf}
-use Rattle.number.specs.declared.value.Decimal.{Decimal}
-use Rattle.number.specs.declared.value.Reading.the-variants.{Number}
-use Rattle.number.specs.Reading.{readField}
-use Rattle.number.specs.Value.{valueOf}
-use Rattle.number_whole.specs.Claims.{Raised}
-use Rattle.record_words.specs.Same.{SameColumns}
-use Rattle.record_flags.specs.PlainFlags.{Code}
-use Rattle.rules_state.specs.declared.state.Track.{Track}
-use Rattle.rules_state.specs.State.{Seen}
-use Rattle.rules_roles.specs.Fault.{Record}
-use Rattle.rules_codes.specs.Codes.{codesOf}
-use Rattle.rules_flags.specs.Flags.{columnOver, flagFault, rule17}
+use Rattle.paper_record.specs.Text.{text}
+use Rattle.paper_record.specs.Fields.{fieldAt, fieldsOf}
+use Rattle.paper_number.specs.declared.types.Decimal.{Decimal}
+use Rattle.paper_number.specs.declared.types.Reading.the-variants.{Number}
+use Rattle.paper_number.specs.Reading.{readField}
+use Rattle.paper_number.specs.Value.{valueOf}
+use Rattle.paper_number.specs.WholeClaims.{Raised}
+use Rattle.paper_record.specs.Same.{SameColumns}
+use Rattle.paper_record.specs.PlainFlags.{Code}
+use Rattle.paper_rules.specs.declared.types.Track.{Track}
+use Rattle.paper_rules.specs.State.{Seen}
+use Rattle.paper_rules.specs.Fault.{Record}
+use Rattle.paper_rules.specs.Codes.{codesOf}
+use Rattle.paper_rules.specs.Flags.{columnOver, flagFault, rule17}
 use Rattle.rules_plain.specs.Places.{bibPlace, bibText, cell}
 use Rattle.rules_plain.specs.Texts.{NoKeyword, earlier}
 use Rattle.rules_plain.specs.Repeated.{RecordsBefore, SeenBefore, Finds}

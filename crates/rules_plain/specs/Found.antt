@@ -12,10 +12,10 @@ use mathlib.Core.Logic.{_↔_, _⊎_}
 use lib.Dec.{eqb}
 use lib.ListN.{length, getD}
 use Rattle.laws.specs.Blocks.{joined}
-use Rattle.record_words.specs.Same.{SameColumns}
-use Rattle.rules_roles.specs.Fault.{Record}
-use Rattle.rules_earlier.specs.declared.earlier.Found.the-variants.{At, Nothing}
-use Rattle.rules_earlier.specs.Earlier.{Earlier, equalHeading, earlier}
+use Rattle.paper_record.specs.Same.{SameColumns}
+use Rattle.paper_rules.specs.Fault.{Record}
+use Rattle.paper_rules.specs.declared.types.Found.the-variants.{At, Nothing}
+use Rattle.paper_rules.specs.Earlier.{Earlier, equalHeading, earlier}
 use Rattle.rules_plain.specs.Repeated.{RecordsBefore, LongHeadings, headingsOn, tableSoFar}
 
 -- ---- places

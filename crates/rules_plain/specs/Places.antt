@@ -3,10 +3,10 @@ use Prim.Native.Nat.{ℕ, _/_, _%_}
 use mathlib.Core.Path.{_≡_}
 use mathlib.Core.List.{List, [], _∷_, _++_, map}
 use lib.ListN.{length, getD}
-use Rattle.columns.specs.Columns.{columnsAt}
-use Rattle.columns.specs.Fields.{fieldAt}
-use Rattle.record_words.specs.Word.{pointerOf}
-use Rattle.rules_roles.specs.Fault.{Record}
+use Rattle.paper_record.specs.Columns.{columnsAt}
+use Rattle.paper_record.specs.Fields.{fieldAt}
+use Rattle.paper_record.specs.Word.{pointerOf}
+use Rattle.paper_rules.specs.Fault.{Record}
 
 -- ---- lists
 

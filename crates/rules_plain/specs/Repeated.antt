@@ -14,16 +14,16 @@ use lib.Dec.{eqb}
 use lib.ListN.{length, getD, take}
 use Rattle.laws.specs.Blocks.{joined}
 use Rattle.laws.specs.Walk.{All}
-use Rattle.columns.specs.Fields.{fieldAt, fieldsOf}
-use Rattle.record_words.specs.Word.{pointerOf}
-use Rattle.record_words.specs.Same.{SameColumns}
-use Rattle.record_repeats.specs.PlainRepeats.{MayRepeat}
-use Rattle.rules_state.specs.declared.state.Track.{Track}
-use Rattle.rules_state.specs.State.{Seen, used}
-use Rattle.rules_roles.specs.Roles.{DATA-HEADING}
-use Rattle.rules_roles.specs.Fault.{Record, Columns, fieldColumn}
-use Rattle.rules_section.specs.Headings.{rule13}
-use Rattle.rules_pointers.specs.Pointers.{rule14}
+use Rattle.paper_record.specs.Fields.{fieldAt, fieldsOf}
+use Rattle.paper_record.specs.Word.{pointerOf}
+use Rattle.paper_record.specs.Same.{SameColumns}
+use Rattle.paper_record.specs.PlainRepeats.{MayRepeat}
+use Rattle.paper_rules.specs.declared.types.Track.{Track}
+use Rattle.paper_rules.specs.State.{Seen, used}
+use Rattle.paper_rules.specs.Roles.{DATA-HEADING}
+use Rattle.paper_rules.specs.Fault.{Record, Columns, fieldColumn}
+use Rattle.paper_rules.specs.Headings.{rule13}
+use Rattle.paper_rules.specs.Pointers.{rule14}
 use Rattle.rules_plain.specs.Places.{concat, Some, Long, pointersIn, pointersOn}
 
 -- ---- what stands before a heading record or a value record

@@ -10,14 +10,14 @@ use mathlib.Core.Logic.{_↔_}
 use lib.ListN.{length, getD, drop}
 use Rattle.laws.specs.Blocks.{joined}
 use Rattle.laws.specs.Walk.{All}
-use Rattle.columns.specs.Fields.{fieldsOf}
-use Rattle.record_words.specs.Word.{pointerOf}
-use Rattle.record_words.specs.Same.{SameColumns}
-use Rattle.record.specs.Plain.{BlankColumns, Word, PointerOrBlank}
-use Rattle.rules_state.specs.declared.state.Track.{Track}
-use Rattle.rules_roles.specs.Fault.{Record}
-use Rattle.rules_state.specs.State.{Seen}
-use Rattle.rules_text.specs.Text.{rule10, rule11Text}
+use Rattle.paper_record.specs.Fields.{fieldsOf}
+use Rattle.paper_record.specs.Word.{pointerOf}
+use Rattle.paper_record.specs.Same.{SameColumns}
+use Rattle.paper_record.specs.Plain.{BlankColumns, Word, PointerOrBlank}
+use Rattle.paper_rules.specs.declared.types.Track.{Track}
+use Rattle.paper_rules.specs.Fault.{Record}
+use Rattle.paper_rules.specs.State.{Seen}
+use Rattle.paper_rules.specs.Text.{rule10, rule11Text}
 use Rattle.rules_plain.specs.Places.{Some, Long, bibPlace}
 
 -- ---- a text record

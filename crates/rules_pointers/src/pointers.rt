@@ -4,16 +4,17 @@ ghost use Prim.Native.Nat.{_+_, _-_, _*_, _/_, _%_, _≤_, _<_};
 ghost use lib.Dec.{eqb};
 ghost use Rattle.laws.specs.Members.{anyOf};
 ghost use Rattle.laws.specs.Search.{first};
-ghost use Rattle.rules_state.specs.Ranging.{Stands, seenOf};
-ghost use Rattle.rules_roles.specs.Roles.{DATA-HEADING};
-ghost use Rattle.rules_roles.specs.Fault.{leftmost, on};
-ghost use Rattle.rules_pointers.specs.Pointers.{headingPointers, pointersFor, pointerLost, lostAt, rule14};
+ghost use Rattle.paper_rules.specs.Ranging.{Stands, seenOf};
+ghost use Rattle.paper_rules.specs.Roles.{DATA-HEADING};
+ghost use Rattle.paper_rules.specs.Fault.{leftmost, on};
+ghost use Rattle.paper_rules.specs.Pointers.{headingPointers, pointersFor, pointerLost, lostAt, rule14};
+use paper_rules::types::Ranges;
+use paper_rules::types::Track;
 use rules_earlier::earlier::headings_in;
 use rules_roles::fault::field_column;
-use rules_roles::ranging::Ranges;
 use rules_roles::ranging::part;
 use rules_roles::roles::DATA_HEADING;
-use rules_state::state::Track;
+use rules_state::state::used;
 use rules_text::text::pointer_in;
 
 // Whether one of the headings of a part has the pointer.
@@ -101,7 +102,7 @@ pub fn rule14(track: Track, ranges: Ranges, before: &[u8], role: usize, fs: [[u8
     let b = ranges.bib001;
     let c = ranges.common;
     let d = ranges.common001;
-    let n = track.used();
+    let n = used(track);
     let k = lost_at(
         part(before, a),
         part(before, b),

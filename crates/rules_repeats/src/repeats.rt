@@ -3,11 +3,11 @@ ghost use mathlib.Core.Path.{_≡_};
 ghost use mathlib.Core.List.{[]};
 ghost use Prim.Native.Nat.{_<_};
 ghost use lib.ListN.{getD};
-ghost use Rattle.rules_repeats.specs.Repeats.{leftOf, clash};
+ghost use Rattle.paper_rules.specs.Repeats.{leftOf, clash};
 use columns::fields::field;
+use paper_rules::types::Found;
 use record_repeats::repeats::may_repeat;
 use record_words::word::same_heading;
-use rules_earlier::earlier::Found;
 use rules_earlier::earlier::headings_in;
 
 // The heading to the left of the field k, also across two records of a row.

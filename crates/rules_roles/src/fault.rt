@@ -1,13 +1,8 @@
 // A fault of a record, and the columns where a rule finds one.
 ghost use mathlib.Core.Path.{_≡_};
 ghost use Prim.Native.Nat.{_+_, _*_, _≤_, _<_};
-ghost use Rattle.rules_roles.specs.Fault.{fieldColumn, pointerColumn, columnAt};
-
-// No fault, or its refusal number and its column.
-pub enum Fault {
-    Fine,
-    At(u8, u8),
-}
+ghost use Rattle.paper_rules.specs.Fault.{fieldColumn, pointerColumn, columnAt};
+use paper_rules::types::Fault;
 
 // The first column of the field k of n, 0 where k is not below n.
 pub fn field_column(k: usize, n: usize) -> u8

@@ -1,7 +1,7 @@
 // The roles of records, and the kinds that they are of.
 ghost use mathlib.Core.Path.{_≡_};
 ghost use Prim.Native.Nat.{_+_, _-_, _<_};
-ghost use Rattle.rules_roles.specs.Roles.{isSystem, opensSubentry, opensSection, isHeading, isUnit, isValue};
+ghost use Rattle.paper_rules.specs.Roles.{isSystem, opensSubentry, opensSection, isHeading, isUnit, isValue};
 use record_names::identifier::BIB;
 use record_names::identifier::COMMON;
 use record_names::identifier::DATA;
@@ -26,6 +26,13 @@ pub const DATA_UNIT: usize = OTHER + 6;
 pub const DATA_VALUE: usize = OTHER + 7;
 
 pub const NOT_DUE: usize = OTHER + 8;
+
+// The rows of a table: headings, units, and the lines.
+pub const HEADINGS: u32 = 0;
+
+pub const UNITS: u32 = 1;
+
+pub const VALUES: u32 = 2;
 
 // One of the fourteen system identifiers that stand in an entry.
 pub fn is_system(role: usize) -> bool

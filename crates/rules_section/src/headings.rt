@@ -4,12 +4,14 @@ ghost use mathlib.Core.Path.{_≡_};
 ghost use Prim.Native.Nat.{_≤_};
 ghost use mathlib.Core.Bool.{cond};
 ghost use Rattle.laws.specs.Search.{first};
-ghost use Rattle.columns.specs.Columns.{Whole};
-ghost use Rattle.rules_state.specs.Ranging.{Stands, seenOf};
-ghost use Rattle.rules_roles.specs.Roles.{isHeading, isUnit};
-ghost use Rattle.rules_roles.specs.Fault.{leftmost, on};
-ghost use Rattle.rules_repeats.specs.Repeats.{headingRepeated};
-ghost use Rattle.rules_section.specs.Headings.{rule11Heading, rule12Heading, rule12Unit, rule13};
+ghost use Rattle.paper_record.specs.Columns.{Whole};
+ghost use Rattle.paper_rules.specs.Ranging.{Stands, seenOf};
+ghost use Rattle.paper_rules.specs.Roles.{isHeading, isUnit};
+ghost use Rattle.paper_rules.specs.Fault.{leftmost, on};
+ghost use Rattle.paper_rules.specs.Repeats.{headingRepeated};
+ghost use Rattle.paper_rules.specs.Headings.{rule11Heading, rule12Heading, rule12Unit, rule13};
+use paper_rules::types::Ranges;
+use paper_rules::types::Track;
 use record_faults::faults::heading_fault;
 use record_faults::faults::pointer_fault;
 use record_faults::faults::unit_fault;
@@ -17,12 +19,11 @@ use rules_earlier::earlier::equal_heading;
 use rules_repeats::repeats::is_clash;
 use rules_roles::fault::field_column;
 use rules_roles::fault::pointer_column;
-use rules_roles::ranging::Ranges;
 use rules_roles::ranging::part;
 use rules_roles::roles::DATA_HEADING;
 use rules_roles::roles::is_heading;
 use rules_roles::roles::is_unit;
-use rules_state::state::Track;
+use rules_state::state::used;
 
 // The first of the first n fields whose heading is repeated where it may not be, or n.
 fn repeated_at<'a>(
@@ -59,7 +60,7 @@ pub fn rule11_heading(track: Track, role: usize, fs: [[u8; 11]; 6]) -> u8
     if !is_heading(role) {
         return 0;
     }
-    let k = pointer_fault(fs, track.used());
+    let k = pointer_fault(fs, used(track));
     pointer_column(k, 6)
 }
 
@@ -68,11 +69,11 @@ pub fn rule12(track: Track, role: usize, fs: [[u8; 11]; 6]) -> u8
         ≡ leftmost (cond (isHeading role) (rule12Heading track fs) (on (isUnit role) (rule12Unit track fs))) ⌝ }
 {
     if is_heading(role) {
-        let k = heading_fault(fs, track.used());
+        let k = heading_fault(fs, used(track));
         return field_column(k, 6);
     }
     if is_unit(role) {
-        let k = unit_fault(fs, track.used());
+        let k = unit_fault(fs, used(track));
         return field_column(k, 6);
     }
     0
@@ -98,7 +99,7 @@ pub fn rule13<'a>(
     let a = ranges.common001;
     let b = ranges.common;
     let c = ranges.table;
-    let n = track.used();
+    let n = used(track);
     let k = repeated_at(
         role == DATA_HEADING,
         part(before, a),

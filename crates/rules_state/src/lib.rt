@@ -1,3 +1,2 @@
-// What the rules stand on: the state between two records, and the role of a record by what is due.
-pub mod role;
+// What the rules stand on: the state between two records.
 pub mod state;

@@ -1,2 +1,2 @@
-// The rules for the fields of system records: refusals 7 and 9.
+// The rule for the fields of system records: refusal 7.
 pub mod system;

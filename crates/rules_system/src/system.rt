@@ -1,27 +1,21 @@
-// The rules for the fields of system records: refusals 7 and 9. Each gives the leftmost column at fault, 0 where there is none.
+// The rule for the fields of system records: refusal 7. It gives the leftmost column at fault, 0 where there is none.
 ghost use mathlib.Core.Path.{_≡_};
-ghost use Prim.Native.Nat.{_-_, _<_};
-ghost use Rattle.record_names.specs.Identifier.{NamesLent};
-ghost use Rattle.rules_roles.specs.Roles.{isSystem, opensSubentry};
-ghost use Rattle.rules_roles.specs.Fault.{leftmost, on};
-ghost use Rattle.rules_system.specs.System.{formN1, formN2, inForm, rule7, numberDue, rule9};
+ghost use Prim.Native.Nat.{_-_};
+ghost use Rattle.paper_record.specs.Identifier.{NamesLent};
+ghost use Rattle.paper_rules.specs.Roles.{isSystem};
+ghost use Rattle.paper_rules.specs.Fault.{leftmost, on};
+ghost use Rattle.paper_rules.specs.System.{formN1, formN2, inForm, rule7};
 use record::system::count_of;
 use record::system::is_count;
 use record::system::is_date;
 use record::system::is_entry_n1;
 use record::system::is_subent_n1;
-use record::system::subentry_of;
-use record_expected::expected::same_five;
-use record_expected::expected::subent_accession;
 use record_names::identifier::ENTRY;
 use record_names::identifier::Names;
 use record_names::identifier::is_end;
 use rules_roles::roles::is_system;
 use rules_roles::roles::opens_section;
 use rules_roles::roles::opens_subentry;
-use rules_state::state::Track;
-
-pub const LAST_SUBENTRY: u32 = 998;
 
 // The forms of N1 and N2.
 const FREE: usize = 0;
@@ -102,39 +96,4 @@ pub fn rule7(names: &Names, role: usize, fs: [[u8; 11]; 6]) -> u8
         return 23;
     }
     0
-}
-
-// Whether a subentry with the number may follow.
-fn number_due(track: Track, number: u32) -> bool
-    ensures { λ r. ⌜ r ≡ numberDue track number ⌝ }
-{
-    let x = track.totals;
-    let s = track.subentry;
-    if x.subentries == 0 {
-        return number == 1;
-    }
-    if s.number < number {
-        return number <= LAST_SUBENTRY;
-    }
-    false
-}
-
-pub fn rule9(track: Track, role: usize, fs: [[u8; 11]; 6]) -> u8
-    ensures { λ r. ⌜ r ≡ leftmost (on (opensSubentry role) (rule9 track fs)) ⌝ }
-{
-    if !opens_subentry(role) {
-        return 0;
-    }
-    // Both the accession and the number stand in N1.
-    let column = 12;
-    let f = fs[1];
-    let own = subent_accession(f);
-    let accession = track.accession;
-    if !same_five(own, accession) {
-        return column;
-    }
-    if number_due(track, subentry_of(f)) {
-        return 0;
-    }
-    column
 }

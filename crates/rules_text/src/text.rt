@@ -5,23 +5,23 @@ ghost use Prim.Native.Nat.{ℕ, _+_, _-_, _*_, _/_, _≤_, _<_};
 ghost use lib.Dec.{eqb};
 ghost use lib.ListN.{length, getD};
 ghost use Rattle.laws.specs.Members.{anyOf};
-ghost use Rattle.record_words.specs.Word.{equalTo};
-ghost use Rattle.rules_state.specs.Ranging.{Stands};
-ghost use Rattle.rules_roles.specs.Parts.{bytesOf};
-ghost use Rattle.rules_roles.specs.Roles.{TEXT};
-ghost use Rattle.rules_roles.specs.Fault.{leftmost, on};
-ghost use Rattle.rules_text.specs.Text.{placesOf, eightsOf, pointersOf, keywordFault, rule10, pointerRepeated};
-ghost use Rattle.rules_text.specs.Text.{rule11Text};
+ghost use Rattle.paper_record.specs.Word.{equalTo};
+ghost use Rattle.paper_rules.specs.Ranging.{Stands};
+ghost use Rattle.paper_rules.specs.Parts.{bytesOf};
+ghost use Rattle.paper_rules.specs.Roles.{TEXT};
+ghost use Rattle.paper_rules.specs.Fault.{leftmost, on};
+ghost use Rattle.paper_rules.specs.Text.{placesOf, eightsOf, pointersOf, keywordFault, rule10, pointerRepeated};
+ghost use Rattle.paper_rules.specs.Text.{rule11Text};
 use columns::fields::field;
+use paper_rules::types::Ranges;
+use paper_rules::types::Track;
 use record_faults::faults::bad_pointer;
 use record_words::word::eight_columns;
 use record_words::word::is_keyword_blank;
 use record_words::word::is_word;
 use record_words::word::same_keyword;
-use rules_roles::ranging::Ranges;
 use rules_roles::ranging::part;
 use rules_roles::roles::TEXT;
-use rules_state::state::Track;
 
 // Whether one of the records of a part has columns 3 to 10 of that number. One test a record and no array: about twice
 // as fast as comparing ten columns.

@@ -1,16 +1,18 @@
 // The rule for value records: refusal 15.
 ghost use mathlib.Core.Path.{_≡_};
 ghost use Prim.Native.Nat.{_-_, _<_};
-ghost use Rattle.number.specs.Form.{Tables};
-ghost use Rattle.rules_roles.specs.Fault.{leftmost, on};
-ghost use Rattle.rules_roles.specs.Roles.{isValue};
-ghost use Rattle.rules_values.specs.Values.{blankFields, lineBlank, valuesFor, rule15};
-use record_values::numbers::Values;
+ghost use Rattle.paper_number.specs.Form.{Tables};
+ghost use Rattle.paper_rules.specs.Fault.{leftmost, on};
+ghost use Rattle.paper_rules.specs.Roles.{isValue};
+ghost use Rattle.paper_rules.specs.Values.{blankFields, lineBlank, valuesFor, rule15};
+use paper_record::types::Values;
+use paper_rules::types::Track;
 use record_values::numbers::values_of;
 use rules_roles::fault::field_column;
 use rules_roles::roles::DATA_VALUE;
 use rules_roles::roles::is_value;
-use rules_state::state::Track;
+use rules_state::state::row_ends;
+use rules_state::state::used;
 
 // Whether every used field is blank.
 fn blank_fields(kinds: &[u8; 256], nexts: &[u8; 88], fs: [[u8; 11]; 6], used: usize) -> bool
@@ -39,7 +41,7 @@ pub fn values(
         };
     }
     let optional = role == DATA_VALUE;
-    values_of(kinds, nexts, fs, track.used(), optional)
+    values_of(kinds, nexts, fs, used(track), optional)
 }
 
 fn line_blank(
@@ -55,14 +57,14 @@ fn line_blank(
     if role != DATA_VALUE {
         return false;
     }
-    if !track.row_ends() {
+    if !row_ends(track) {
         return false;
     }
     let t = track.table;
     if !t.blank {
         return false;
     }
-    blank_fields(kinds, nexts, fs, track.used())
+    blank_fields(kinds, nexts, fs, used(track))
 }
 
 pub fn rule15(

@@ -1,11 +1,11 @@
 // Writes many decimals, reads each field back and writes it again: some fields, then counts and checksums.
 ghost use Prim.Native.Nat.{_<_};
-use canonical::write::Written;
 use canonical::write::write_number;
 use check::same;
-use number::value::Decimal;
-use number::value::Reading;
 use number_reading::read::read_number;
+use paper_canonical::types::Written;
+use paper_number::types::Decimal;
+use paper_number::types::Reading;
 use program_text::say_line;
 
 // How many were written and refused, how many read back to the same field, and a checksum of fields and coefficients.

@@ -1,7 +1,7 @@
 use Prim.Native.Nat.{_-_}
-use Rattle.number.specs.Form.{Tables}
-use Rattle.classes.specs.Class.{ClassesLent}
-use Rattle.record_names.specs.Identifier.{NamesLent}
+use Rattle.paper_number.specs.Form.{Tables}
+use Rattle.paper_record.specs.Class.{ClassesLent}
+use Rattle.paper_record.specs.Identifier.{NamesLent}
 use borrow.Author.Needs.{needs}
 use lib.ListN.{length}
 use mathlib.Core.Path.{_∙_, _≡_, refl, sym}

@@ -1,5 +1,5 @@
 use Prim.Native.Nat.{_-_}
-use Rattle.classes.specs.Class.{ClassesLent}
+use Rattle.paper_record.specs.Class.{ClassesLent}
 use borrow.Author.Needs.{needs}
 use Rattle.record_cases.proofs.say_classes.Statement.{statement}
 use Rattle.record_cases.proofs.say_classes.Tie as tie

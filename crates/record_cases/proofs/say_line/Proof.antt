@@ -1,6 +1,6 @@
 use Prim.Native.Nat.{_-_, _≤_}
-use Rattle.number.specs.Reading.{column}
-use Rattle.columns_places.proofs.TablePlaces.{in-table}
+use Rattle.paper_number.specs.Reading.{column}
+use Rattle.paper_record.proofs.TablePlaces.{in-table}
 use borrow.Author.Needs.{needs}
 use native.Mathlib.Omega.{arith}
 use Rattle.record_cases.proofs.say_line.Statement.{statement}

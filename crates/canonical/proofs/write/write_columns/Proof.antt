@@ -1,7 +1,7 @@
-use Rattle.canonical_layout.proofs.Numbers.{flat-power}
+use Rattle.paper_canonical.proofs.Numbers.{flat-power}
 use Rattle.canonical.proofs.Answers.{done-wide, refused-wide}
-use Rattle.canonical_layout.proofs.Preparing.{prepared-sound}
-use Rattle.canonical_layout.proofs.Layouts.{ready}
+use Rattle.paper_canonical.proofs.Preparing.{prepared-sound}
+use Rattle.paper_canonical.proofs.Layouts.{ready}
 use Rattle.laws.proofs.Table.{at}
 use lib.ListN.{length}
 use native.Mathlib.Omega.{arith}

@@ -1,8 +1,8 @@
-use Rattle.canonical_layout.proofs.Numbers.{flat-power}
+use Rattle.paper_canonical.proofs.Numbers.{flat-power}
 use Rattle.canonical.proofs.Answers.{answer-number, in-eleven, not-eleven}
-use Rattle.canonical.specs.declared.write.Written.the-variants.{Refused}
+use Rattle.paper_canonical.specs.declared.types.Written.the-variants.{Refused}
 use Rattle.laws.proofs.Table.{at}
-use Rattle.number.specs.Value.{valueOf}
+use Rattle.paper_number.specs.Value.{valueOf}
 use borrow.Author.Needs.{needs}
 use Rattle.canonical.proofs.write.write_number.Statement.{statement}
 use Rattle.canonical.proofs.write.write_number.Tie as tie

@@ -1,4 +1,4 @@
-use Rattle.canonical_layout.proofs.Layouts.{down-among, down-behind}
+use Rattle.paper_canonical.proofs.Layouts.{down-among, down-behind}
 use borrow.Author.Needs.{needs}
 use Rattle.canonical_layout.proofs.layout.layout_down.Statement.{statement}
 use Rattle.canonical_layout.proofs.layout.layout_down.Tie as tie

@@ -1,6 +1,6 @@
-use Rattle.canonical_layout.proofs.Numbers.{flat-power}
-use Rattle.canonical_layout.proofs.Preparing.{layout-above, layout-below, size-most}
-use Rattle.canonical_layout.proofs.Numbers.{mag-add}
+use Rattle.paper_canonical.proofs.Numbers.{flat-power}
+use Rattle.paper_canonical.proofs.Preparing.{layout-above, layout-below, size-most}
+use Rattle.paper_canonical.proofs.Numbers.{mag-add}
 use Rattle.laws.proofs.Table.{at}
 use lib.IntN.{_+ℤ_, pos}
 use mathlib.Core.Path.{_∙_}

@@ -1,9 +1,9 @@
-use Rattle.canonical_layout.proofs.Layouts.{few-behind}
+use Rattle.paper_canonical.proofs.Layouts.{few-behind}
 use Prim.Native.Nat.{_*_, _-_}
-use Rattle.number.proofs.Tens.{ten-pos}
-use Rattle.number_digits.proofs.Count.{counts}
-use Rattle.canonical_layout.proofs.Layouts.{down-all, down-some, least-of, most-of}
-use Rattle.number_digits.specs.Count.{count}
+use Rattle.paper_number.proofs.Tens.{ten-pos}
+use Rattle.paper_number.proofs.Count.{counts}
+use Rattle.paper_canonical.proofs.Layouts.{down-all, down-some, least-of, most-of}
+use Rattle.paper_number.specs.Count.{count}
 use native.Mathlib.Omega.{arith}
 use borrow.Author.Needs.{needs}
 use Rattle.canonical_layout.proofs.layout.layout_raised.Statement.{statement}

@@ -1,5 +1,5 @@
-use Rattle.number_digits.proofs.Count.{count-pos}
-use Rattle.canonical_layout.proofs.Layouts.{up-one, up-plain, up-ten}
+use Rattle.paper_number.proofs.Count.{count-pos}
+use Rattle.paper_canonical.proofs.Layouts.{up-one, up-plain, up-ten}
 use mathlib.Core.Path.{_∙_, sym}
 use borrow.Author.Needs.{needs}
 use Rattle.canonical_layout.proofs.layout.layout_up.Statement.{statement}

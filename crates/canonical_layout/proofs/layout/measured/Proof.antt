@@ -1,10 +1,10 @@
 use Prim.Native.Nat.{ℕ}
-use Rattle.number.proofs.Tens.{ten-more}
+use Rattle.paper_number.proofs.Tens.{ten-more}
 use mathlib.Core.Path.{_∙_, ap}
 use Prim.Native.Nat.{_-_, _<_, _^_, _≤_}
-use Rattle.number.proofs.Tens.{ten-suc, ten-le}
-use Rattle.canonical_layout.proofs.Numbers.{suc-less}
-use Rattle.number_digits.proofs.Count.{count-is}
+use Rattle.paper_number.proofs.Tens.{ten-suc, ten-le}
+use Rattle.paper_canonical.proofs.Numbers.{suc-less}
+use Rattle.paper_number.proofs.Count.{count-is}
 use Rattle.laws.proofs.Table.{at}
 use mathlib.Core.Path.{_≡_, refl}
 use native.Mathlib.Numerals.{add-one}

@@ -1,10 +1,10 @@
-use Rattle.canonical_layout.proofs.Numbers.{flat-power}
-use Rattle.canonical_layout.proofs.Preparing.{trim-prepared, zero-prepared}
+use Rattle.paper_canonical.proofs.Numbers.{flat-power}
+use Rattle.paper_canonical.proofs.Preparing.{trim-prepared, zero-prepared}
 use mathlib.Core.Path.{ap}
-use Rattle.number.proofs.Zeros.{zeros-few}
-use Rattle.number.specs.declared.value.Trim.{Trim}
+use Rattle.paper_number.proofs.Zeros.{zeros-few}
+use Rattle.paper_number.specs.declared.types.Trim.{Trim}
 use Rattle.laws.proofs.Table.{at}
-use Rattle.number_digits.proofs.Count.{count-short}
+use Rattle.paper_number.proofs.Count.{count-short}
 use native.Mathlib.Omega.{arith}
 use borrow.Author.Needs.{needs}
 use Rattle.canonical_layout.proofs.layout.prepare.Statement.{statement}

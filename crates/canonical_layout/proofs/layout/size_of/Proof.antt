@@ -1,4 +1,4 @@
-use Rattle.canonical_layout.proofs.Numbers.{sized-above, sized-below, sum-fits, sum-flat, sum-size, wide-power}
+use Rattle.paper_canonical.proofs.Numbers.{sized-above, sized-below, sum-fits, sum-flat, sum-size, wide-power}
 use Rattle.laws.proofs.Table.{at}
 use lib.IntN.{_+ℤ_, pos}
 use mir.Syntax.{w64}

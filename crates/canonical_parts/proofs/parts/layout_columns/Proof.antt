@@ -1,6 +1,6 @@
 use Prim.Native.Nat.{_+_}
-use Rattle.canonical_layout.proofs.Laid.{one-if}
-use Rattle.canonical_layout.specs.Storing.{layoutColumns}
+use Rattle.paper_canonical.proofs.Laid.{one-if}
+use Rattle.paper_canonical.specs.Storing.{layoutColumns}
 use mathlib.Core.Path.{refl}
 use native.Mathlib.Omega.{arith}
 use borrow.Author.Needs.{needs}

@@ -1,6 +1,6 @@
 use Prim.Native.Nat.{_-_, _≤_}
 use Rattle.canonical_parts.proofs.Puts.{put-blanks}
-use Rattle.number.specs.Grammar.{blanks}
+use Rattle.paper_number.specs.Grammar.{blanks}
 use borrow.Author.Fill.{fill-more}
 use lib.ListN.{drop, length, length-set}
 use mathlib.Core.List.{_++_}

@@ -1,10 +1,10 @@
 use Prim.Native.Nat.{ℕ}
 use Rattle.canonical_parts.proofs.Filled.{filled-body}
 use Rattle.canonical_parts.proofs.Once.{body-stored}
-use Rattle.canonical_layout.specs.Closed.{digitsN, shift}
-use Rattle.canonical_layout.specs.Storing.{put}
+use Rattle.paper_canonical.specs.Closed.{digitsN, shift}
+use Rattle.paper_canonical.specs.Storing.{put}
 use Rattle.laws.proofs.Table.{at}
-use Rattle.number.specs.Grammar.{digitsText}
+use Rattle.paper_number.specs.Grammar.{digitsText}
 use mathlib.Core.Path.{_≡_, _∙_, ap}
 use borrow.Author.Needs.{needs}
 use Rattle.canonical_parts.proofs.parts.put_body.Statement.{statement}

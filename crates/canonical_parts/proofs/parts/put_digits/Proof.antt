@@ -1,7 +1,7 @@
 use Prim.Native.Nat.{_%_, _+_, _-_, _≤_}
 use Rattle.canonical_parts.proofs.Puts.{digits-go, digits-out, put-digits, shift-go, shift-out}
-use Rattle.canonical_layout.specs.Closed.{shift}
-use Rattle.canonical_layout.specs.Storing.{putDigits}
+use Rattle.paper_canonical.specs.Closed.{shift}
+use Rattle.paper_canonical.specs.Storing.{putDigits}
 use Rattle.laws.proofs.Table.{at}
 use lib.ListN.{length, length-set}
 use mathlib.Core.Path.{_∙_, _≡_, refl, sym}

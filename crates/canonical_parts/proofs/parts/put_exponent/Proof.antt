@@ -2,9 +2,9 @@ use Prim.Native.Nat.{ℕ}
 use Rattle.canonical_parts.proofs.Filled.{filled-exponent}
 use Rattle.canonical_parts.proofs.Once.{exponent-stored, nothing-stored}
 use Rattle.canonical_parts.proofs.Puts.{put-nothing}
-use Rattle.canonical_layout.specs.Storing.{put}
+use Rattle.paper_canonical.specs.Storing.{put}
 use Rattle.laws.proofs.Table.{at}
-use Rattle.number.specs.Grammar.{signByte}
+use Rattle.paper_number.specs.Grammar.{signByte}
 use mathlib.Core.List.{[], _∷_}
 use mathlib.Core.Path.{_≡_, _∙_, ap, sym}
 use native.Mathlib.Omega.{arith}

@@ -4,7 +4,7 @@ use mathlib.Core.Path.{_≡_, ap}
 use Rattle.canonical_parts.proofs.Filled.{filled-field}
 use Rattle.canonical_parts.proofs.Filled.{column-parts}
 use Rattle.canonical_parts.proofs.Once.{field-stored}
-use Rattle.canonical_layout.specs.Storing.{layoutColumns, oneIf}
+use Rattle.paper_canonical.specs.Storing.{layoutColumns, oneIf}
 use Rattle.laws.proofs.Table.{at}
 use native.Mathlib.Omega.{arith}
 use borrow.Author.Needs.{needs}

@@ -1,4 +1,4 @@
-use Rattle.classes.proofs.ClassTable.{class-at}
+use Rattle.paper_record.proofs.ClassTable.{class-at}
 use borrow.Author.Needs.{needs}
 use native.Mathlib.Omega.{arith}
 use Rattle.classes.proofs.class.class_of.Statement.{statement}

@@ -1,6 +1,6 @@
 use Rattle.laws.specs.Members.{anyOf, listOf}
-use Rattle.classes.specs.Class.{classOf, classTable}
-use Rattle.classes.proofs.ClassTable.{by-parts}
+use Rattle.paper_record.specs.Class.{classOf, classTable}
+use Rattle.paper_record.proofs.ClassTable.{by-parts}
 use mathlib.Core.Path.{refl}
 use Rattle.classes.proofs.class.classes.Statement.{statement}
 use Rattle.classes.proofs.class.classes.Tie as tie

@@ -1,7 +1,7 @@
 use Prim.Native.Nat.{_-_}
 use Rattle.laws.proofs.Search.{Scan, scan-all, scan-done, scan-found, scan-next}
-use Rattle.classes.proofs.ClassTable.{permitted-class}
-use Rattle.classes.specs.Class.{notPermitted, permittedTo}
+use Rattle.paper_record.proofs.ClassTable.{permitted-class}
+use Rattle.paper_record.specs.Class.{notPermitted, permittedTo}
 use borrow.Author.Needs.{needs}
 use borrow.Author.Tests.{eq-eqb, ne-eqb}
 use mathlib.Core.Path.{_∙_, sym}

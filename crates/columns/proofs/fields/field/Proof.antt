@@ -1,4 +1,4 @@
-use Rattle.columns.proofs.ReadColumns.{columns-read}
+use Rattle.paper_record.proofs.ReadColumns.{columns-read}
 use borrow.Author.Needs.{needs}
 use native.Mathlib.Nat.{add-zero}
 use native.Mathlib.Omega.{arith}

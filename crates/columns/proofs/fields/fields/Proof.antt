@@ -1,5 +1,5 @@
 use mathlib.Core.Path.{refl}
-use Rattle.columns.specs.Fields.{fieldsOf}
+use Rattle.paper_record.specs.Fields.{fieldsOf}
 use borrow.Author.Needs.{needs}
 use Rattle.columns.proofs.fields.fields.Statement.{statement}
 use Rattle.columns.proofs.fields.fields.Tie as tie

@@ -1,5 +1,5 @@
 use mathlib.Core.Path.{refl}
-use Rattle.columns_places.specs.Places.{placeOf}
+use Rattle.paper_record.specs.Places.{placeOf}
 use borrow.Author.Needs.{needs}
 use native.Mathlib.Omega.{arith}
 use Rattle.columns_places.proofs.places.place_of.Statement.{statement}

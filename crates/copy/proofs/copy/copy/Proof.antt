@@ -1,4 +1,4 @@
-use Rattle.copy_laws.proofs.Made.{made-copied, made-room, refused-copied, short-copied}
+use Rattle.paper_copy.proofs.Made.{made-copied, made-room, refused-copied, short-copied}
 use mathlib.Core.Path.{_∙_}
 use borrow.Author.Needs.{needs}
 use Rattle.copy.proofs.copy.copy.Statement.{statement}

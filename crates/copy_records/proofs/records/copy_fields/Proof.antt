@@ -1,9 +1,9 @@
-use Rattle.copy_records.proofs.WholeRecords.{field-pasted}
+use Rattle.paper_copy.proofs.WholeRecords.{field-pasted}
 use Prim.Native.Nat.{ℕ}
 use lib.Seq.{paste-zero}
 use Prim.Native.Nat.{_*_, _+_, _-_, _≤_}
-use Rattle.copy_records.specs.CopyField.{copyField, numberIn}
-use Rattle.copy_records.specs.Replaced.{mask, replaced}
+use Rattle.paper_copy.specs.CopyField.{copyField, numberIn}
+use Rattle.paper_copy.specs.Replaced.{mask, replaced}
 use Rattle.rules_flags.specs.Lent.{WholeRecords}
 use lib.ListN.{length}
 use lib.Seq.{paste}
@@ -16,7 +16,7 @@ use Rattle.copy_records.proofs.records.copy_fields.Tie as tie
 use Rattle.copy_records.proofs.records.copy_fields.Reads as reads
 use Rattle.copy_records.proofs.records.copy_fields.Lts as lts
 use Rattle.columns.proofs.fields.field.Reads as field-reads
-use Rattle.copy_records.proofs.fields.put_field.Reads as put-field-reads
+use Rattle.copy_fields.proofs.fields.put_field.Reads as put-field-reads
 use Rattle.copy_records.proofs.records.is_number_field.Reads as is-number-field-reads
 
 abbrev Inv-loop : tie.InvT-loop

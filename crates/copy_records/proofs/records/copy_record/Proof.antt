@@ -1,7 +1,7 @@
-use Rattle.copy_records.proofs.WholeRecords.{rest-pasted}
-use Rattle.copy_records.proofs.WholeRecords.{plain-record}
-use Rattle.copy_records.specs.CopyField.{numberIn}
-use Rattle.rules_roles.specs.Roles.{isValue}
+use Rattle.paper_copy.proofs.WholeRecords.{rest-pasted}
+use Rattle.paper_copy.proofs.WholeRecords.{plain-record}
+use Rattle.paper_copy.specs.CopyField.{numberIn}
+use Rattle.paper_rules.specs.Roles.{isValue}
 use borrow.Author.Tests.{not-true}
 use mathlib.Core.Bool.{false}
 use mathlib.Core.Path.{_∙_, _≡_, refl, sym}

@@ -1,14 +1,14 @@
 use mathlib.Core.Bool.{true}
 use mathlib.Core.Path.{_≡_}
 use lib.Dec.{eqb}
-use Rattle.rules_roles.specs.Roles.{DATA-VALUE}
+use Rattle.paper_rules.specs.Roles.{DATA-VALUE}
 use borrow.Author.Tests.{eq-eqb, ne-eqb}
 use borrow.Author.Needs.{needs}
 use Rattle.copy_records.proofs.records.is_value_field.Statement.{statement}
 use Rattle.copy_records.proofs.records.is_value_field.Tie as tie
 use Rattle.copy_records.proofs.records.is_value_field.Reads as reads
 use Rattle.copy_records.proofs.records.is_value_field.Lts as lts
-use Rattle.rules_state.proofs.state.Track.used.Reads as used-reads
+use Rattle.rules_state.proofs.state.used.Reads as used-reads
 
 used-requires : tie.Need-used-requires
 used-requires c κs = search needs

@@ -1,7 +1,7 @@
 use Rattle.copy_walk.proofs.CopyLoop.{copied-there, copied-lent, copied-records, copied-whole, copied-next}
 use Rattle.copy_walk.proofs.CopyLoop.{copied-done}
 use Prim.Native.Nat.{_-_}
-use Rattle.copy_laws.proofs.FaithfulRecords.{fits}
+use Rattle.paper_copy.proofs.FaithfulRecords.{fits}
 use Rattle.copy_walk.proofs.CopyLoop.{Copied, copied-start}
 use Rattle.laws.proofs.Table.{at}
 use native.Mathlib.Omega.{arith}

@@ -1,14 +1,15 @@
-use Rattle.entry_step.proofs.Numbered.{ranges-judge, whole-records}
+use Rattle.entry_step.proofs.Numbered.{ranges-judge}
+use Rattle.paper_entry.proofs.Lengths.{whole-records}
 use Rattle.entry_step.proofs.Stepping.{next-bytes, records-counted, run-start, stands-start}
 use Rattle.laws.proofs.Table.{at}
 use Rattle.laws.proofs.Turns.{run-done, run-next, run-out, Run}
-use Rattle.number.proofs.Bounds.{within}
+use Rattle.paper_number.proofs.Bounds.{within}
 use native.Mathlib.Nat.{add-sub-cancel-left}
 use Prim.Native.Nat.{_*_, _-_, _/_, _≤_}
 use Rattle.entry_step.specs.ByRanges.{finishOf, judgeByRanges, stepTurn}
-use Rattle.entry_judging.specs.Judging.{judgeOf}
-use Rattle.rules_state.specs.Limits.{MOST-RECORDS}
-use Rattle.rules_state.specs.Ranging.{Stands}
+use Rattle.paper_entry.specs.Judging.{judgeOf}
+use Rattle.paper_rules.specs.Limits.{MOST-RECORDS}
+use Rattle.paper_rules.specs.Ranging.{Stands}
 use borrow.Author.Tests.{not-false, not-true}
 use lib.ListN.{length, length-drop, length-take, take}
 use mathlib.Core.Path.{_∙_, _≡_, refl, sym}

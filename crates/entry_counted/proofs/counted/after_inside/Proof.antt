@@ -1,4 +1,4 @@
-use Rattle.entry_counted.specs.Counted.{afterInside}
+use Rattle.paper_entry.specs.Counted.{afterInside}
 use borrow.Author.Tests.{eq-eqb, ne-eqb}
 use borrow.Author.Needs.{needs}
 use Rattle.entry_counted.proofs.counted.after_inside.Statement.{statement}
@@ -12,7 +12,7 @@ use Rattle.entry_tally.proofs.tally.units_read.Reads as units-read-reads
 use Rattle.rules_roles.proofs.roles.is_heading.Reads as is-heading-reads
 use Rattle.rules_roles.proofs.roles.is_unit.Reads as is-unit-reads
 use Rattle.rules_roles.proofs.roles.is_value.Reads as is-value-reads
-use Rattle.rules_state.proofs.state.Track.with_table.Reads as with-table-reads
+use Rattle.rules_state.proofs.state.with_table.Reads as with-table-reads
 
 array-copy-out-f : tie.Need-array-copy-out-f
 array-copy-out-f c = search needs

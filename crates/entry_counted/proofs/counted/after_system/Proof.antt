@@ -1,4 +1,4 @@
-use Rattle.entry_counted.specs.Counted.{afterSystem}
+use Rattle.paper_entry.specs.Counted.{afterSystem}
 use borrow.Author.Tests.{eq-eqb, ne-eqb}
 use borrow.Author.Needs.{needs}
 use Rattle.entry_counted.proofs.counted.after_system.Statement.{statement}
@@ -14,7 +14,7 @@ use Rattle.record.proofs.system.count_to.Reads as count-to-reads
 use Rattle.record.proofs.system.number_of.Reads as number-of-reads
 use Rattle.record.proofs.system.subentry_of.Reads as subentry-of-reads
 use Rattle.rules_roles.proofs.roles.opens_subentry.Reads as opens-subentry-reads
-use Rattle.rules_state.proofs.state.Track.with_accession.Reads as with-accession-reads
+use Rattle.rules_state.proofs.state.with_accession.Reads as with-accession-reads
 
 array-copy-out-f : tie.Need-array-copy-out-f
 array-copy-out-f c = search needs

@@ -1,6 +1,6 @@
-use Rattle.entry_counted.proofs.Counting.{counted-follows}
-use Rattle.rules_values.proofs.ReadValues.{numbers-few}
-use Rattle.entry_counted.specs.Counted.{trackAfter}
+use Rattle.paper_entry.proofs.Counting.{counted-follows}
+use Rattle.paper_rules.proofs.ReadValues.{numbers-few}
+use Rattle.paper_entry.specs.Counted.{trackAfter}
 use borrow.Author.Needs.{needs}
 use Rattle.entry_counted.proofs.counted.track_after.Statement.{statement}
 use Rattle.entry_counted.proofs.counted.track_after.Tie as tie
@@ -9,7 +9,7 @@ use Rattle.entry_counted.proofs.counted.track_after.Lts as lts
 use Rattle.entry_counted.proofs.counted.after_inside.Reads as after-inside-reads
 use Rattle.entry_counted.proofs.counted.after_system.Reads as after-system-reads
 use Rattle.rules_roles.proofs.roles.is_system.Reads as is-system-reads
-use Rattle.rules_state.proofs.state.Track.counted.Reads as counted-reads
+use Rattle.rules_state.proofs.state.counted.Reads as counted-reads
 
 counted-requires : tie.Need-counted-requires
 counted-requires c κs = search needs

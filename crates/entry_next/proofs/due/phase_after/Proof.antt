@@ -1,4 +1,4 @@
-use Rattle.entry_next.specs.Due.{phaseAfter}
+use Rattle.paper_entry.specs.Due.{phaseAfter}
 use borrow.Author.Tests.{eq-eqb, ne-eqb}
 use borrow.Author.Needs.{needs}
 use Rattle.entry_next.proofs.due.phase_after.Statement.{statement}

@@ -1,4 +1,4 @@
-use Rattle.entry_next.specs.Parts.{bibChange}
+use Rattle.paper_entry.specs.Parts.{bibChange}
 use borrow.Author.Tests.{eq-eqb, ne-eqb}
 use borrow.Author.Needs.{needs}
 use Rattle.entry_next.proofs.parts.bib_change.Statement.{statement}

@@ -1,4 +1,4 @@
-use Rattle.entry_next.specs.Parts.{tableChange}
+use Rattle.paper_entry.specs.Parts.{tableChange}
 use borrow.Author.Needs.{needs}
 use Rattle.entry_next.proofs.parts.table_change.Statement.{statement}
 use Rattle.entry_next.proofs.parts.table_change.Tie as tie

@@ -1,4 +1,4 @@
-use Rattle.entry_next.specs.Parts.{underChange}
+use Rattle.paper_entry.specs.Parts.{underChange}
 use borrow.Author.Tests.{eq-eqb, ne-eqb}
 use borrow.Author.Needs.{needs}
 use Rattle.entry_next.proofs.parts.under_change.Statement.{statement}

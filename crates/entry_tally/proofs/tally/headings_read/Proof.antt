@@ -1,4 +1,4 @@
-use Rattle.entry_tally.specs.Tally.{headingsRead}
+use Rattle.paper_entry.specs.Tally.{headingsRead}
 use borrow.Author.Tests.{le-leb, lt-leb}
 use borrow.Author.Needs.{needs}
 use Rattle.entry_tally.proofs.tally.headings_read.Statement.{statement}

@@ -5,7 +5,7 @@ use Rattle.entry_tally.proofs.tally.lines_read.Statement.{statement}
 use Rattle.entry_tally.proofs.tally.lines_read.Tie as tie
 use Rattle.entry_tally.proofs.tally.lines_read.Reads as reads
 use Rattle.entry_tally.proofs.tally.lines_read.Lts as lts
-use Rattle.rules_state.proofs.state.Track.row_ends.Reads as row-ends-reads
+use Rattle.rules_state.proofs.state.row_ends.Reads as row-ends-reads
 
 returns : tie.Need-returns
 returns c = (rw (ne-eqb _ _ (c .if1 .taken)), omega arith)

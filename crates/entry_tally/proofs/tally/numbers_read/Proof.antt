@@ -7,8 +7,8 @@ use Rattle.entry_tally.proofs.tally.numbers_read.Lts as lts
 use Rattle.entry_tally.proofs.tally.lines_read.Reads as lines-read-reads
 use Rattle.entry_tally.proofs.tally.more_numbers.Reads as more-numbers-reads
 use Rattle.entry_tally.proofs.tally.values_read.Reads as values-read-reads
-use Rattle.rules_state.proofs.state.Track.with_table.Reads as with-table-reads
-use Rattle.rules_state.proofs.state.Track.with_totals.Reads as with-totals-reads
+use Rattle.rules_state.proofs.state.with_table.Reads as with-table-reads
+use Rattle.rules_state.proofs.state.with_totals.Reads as with-totals-reads
 
 lines-read-requires : tie.Need-lines-read-requires
 lines-read-requires c κs = search needs

@@ -3,8 +3,8 @@ use Rattle.entry_tally.proofs.tally.open_bib.Statement.{statement}
 use Rattle.entry_tally.proofs.tally.open_bib.Tie as tie
 use Rattle.entry_tally.proofs.tally.open_bib.Reads as reads
 use Rattle.entry_tally.proofs.tally.open_bib.Lts as lts
-use Rattle.rules_state.proofs.state.Track.with_bib.Reads as with-bib-reads
-use Rattle.rules_state.proofs.state.Track.with_section.Reads as with-section-reads
+use Rattle.rules_state.proofs.state.with_bib.Reads as with-bib-reads
+use Rattle.rules_state.proofs.state.with_section.Reads as with-section-reads
 
 with-section-requires : tie.Need-with-section-requires
 with-section-requires c κs = search needs

@@ -4,8 +4,8 @@ use Rattle.entry_tally.proofs.tally.open_subentry.Tie as tie
 use Rattle.entry_tally.proofs.tally.open_subentry.Reads as reads
 use Rattle.entry_tally.proofs.tally.open_subentry.Lts as lts
 use Rattle.entry_tally.proofs.tally.one_subentry.Reads as one-subentry-reads
-use Rattle.rules_state.proofs.state.Track.with_subentry.Reads as with-subentry-reads
-use Rattle.rules_state.proofs.state.Track.with_totals.Reads as with-totals-reads
+use Rattle.rules_state.proofs.state.with_subentry.Reads as with-subentry-reads
+use Rattle.rules_state.proofs.state.with_totals.Reads as with-totals-reads
 
 one-subentry-requires : tie.Need-one-subentry-requires
 one-subentry-requires c κs = search needs

@@ -3,8 +3,8 @@ use Rattle.entry_tally.proofs.tally.open_table.Statement.{statement}
 use Rattle.entry_tally.proofs.tally.open_table.Tie as tie
 use Rattle.entry_tally.proofs.tally.open_table.Reads as reads
 use Rattle.entry_tally.proofs.tally.open_table.Lts as lts
-use Rattle.rules_state.proofs.state.Track.with_section.Reads as with-section-reads
-use Rattle.rules_state.proofs.state.Track.with_table.Reads as with-table-reads
+use Rattle.rules_state.proofs.state.with_section.Reads as with-section-reads
+use Rattle.rules_state.proofs.state.with_table.Reads as with-table-reads
 
 with-section-requires : tie.Need-with-section-requires
 with-section-requires c κs = search needs

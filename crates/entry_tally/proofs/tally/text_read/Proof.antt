@@ -1,4 +1,4 @@
-use Rattle.entry_tally.specs.Tally.{textRead}
+use Rattle.paper_entry.specs.Tally.{textRead}
 use borrow.Author.Needs.{needs}
 use Rattle.entry_tally.proofs.tally.text_read.Statement.{statement}
 use Rattle.entry_tally.proofs.tally.text_read.Tie as tie
@@ -6,8 +6,8 @@ use Rattle.entry_tally.proofs.tally.text_read.Reads as reads
 use Rattle.entry_tally.proofs.tally.text_read.Lts as lts
 use Rattle.entry_tally.proofs.tally.one_keyword.Reads as one-keyword-reads
 use Rattle.record_words.proofs.word.is_keyword_blank.Reads as is-keyword-blank-reads
-use Rattle.rules_state.proofs.state.Track.with_bib.Reads as with-bib-reads
-use Rattle.rules_state.proofs.state.Track.with_totals.Reads as with-totals-reads
+use Rattle.rules_state.proofs.state.with_bib.Reads as with-bib-reads
+use Rattle.rules_state.proofs.state.with_totals.Reads as with-totals-reads
 
 is-keyword-blank-requires : tie.Need-is-keyword-blank-requires
 is-keyword-blank-requires c κs = search needs

@@ -1,4 +1,4 @@
-use Rattle.entry_tally.specs.Tally.{unitsRead}
+use Rattle.paper_entry.specs.Tally.{unitsRead}
 use borrow.Author.Tests.{le-leb, lt-leb}
 use borrow.Author.Needs.{needs}
 use Rattle.entry_tally.proofs.tally.units_read.Statement.{statement}

@@ -1,4 +1,4 @@
-use Rattle.entry_tally.specs.Tally.{valuesRead}
+use Rattle.paper_entry.specs.Tally.{valuesRead}
 use borrow.Author.Tests.{le-leb, lt-leb}
 use borrow.Author.Needs.{needs}
 use Rattle.entry_tally.proofs.tally.values_read.Statement.{statement}

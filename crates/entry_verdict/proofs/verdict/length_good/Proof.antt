@@ -1,5 +1,5 @@
 use mathlib.Core.Path.{refl}
-use Rattle.entry_verdict.specs.Verdict.{lengthGood}
+use Rattle.paper_entry.specs.Verdict.{lengthGood}
 use borrow.Author.Tests.{eq-eqb, ne-eqb}
 use Rattle.entry_verdict.proofs.verdict.length_good.Statement.{statement}
 use Rattle.entry_verdict.proofs.verdict.length_good.Tie as tie

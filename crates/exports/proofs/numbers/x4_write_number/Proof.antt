@@ -1,5 +1,5 @@
 use borrow.Author.Needs.{needs}
-use Rattle.canonical_layout.proofs.Numbers.{flat-power}
+use Rattle.paper_canonical.proofs.Numbers.{flat-power}
 use Rattle.exports.proofs.numbers.x4_write_number.Statement.{statement}
 use Rattle.exports.proofs.numbers.x4_write_number.Tie as tie
 

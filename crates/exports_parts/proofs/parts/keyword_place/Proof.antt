@@ -3,7 +3,7 @@ use lib.Dec.{eqb}
 use native.Mathlib.Omega.{arith}
 use lib.ListN.{length}
 use lib.Seq.{take-all}
-use Rattle.columns.proofs.ReadColumns.{columns-read}
+use Rattle.paper_record.proofs.ReadColumns.{columns-read}
 use borrow.Author.Needs.{needs}
 use borrow.Author.Tests.{eq-eqb, ne-eqb}
 use mathlib.Core.Path.{_≡_, refl, _∙_}

@@ -1,5 +1,5 @@
 use mathlib.Core.Path.{_≡_}
-use Rattle.questions.specs.Ask.{headingAsked}
+use Rattle.paper_questions.specs.Ask.{headingAsked}
 use borrow.Author.Needs.{needs}
 use Rattle.exports_questions.proofs.asking.x4_heading.Statement.{statement}
 use Rattle.exports_questions.proofs.asking.x4_heading.Tie as tie

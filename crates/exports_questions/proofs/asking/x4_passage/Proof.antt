@@ -1,5 +1,5 @@
 use mathlib.Core.Path.{_≡_}
-use Rattle.questions.specs.Ask.{passageAsked}
+use Rattle.paper_questions.specs.Ask.{passageAsked}
 use borrow.Author.Needs.{needs}
 use Rattle.exports_questions.proofs.asking.x4_passage.Statement.{statement}
 use Rattle.exports_questions.proofs.asking.x4_passage.Tie as tie

@@ -1,5 +1,5 @@
 use mathlib.Core.Path.{_≡_}
-use Rattle.questions.specs.Ask.{unitAsked}
+use Rattle.paper_questions.specs.Ask.{unitAsked}
 use borrow.Author.Needs.{needs}
 use Rattle.exports_questions.proofs.asking.x4_unit.Statement.{statement}
 use Rattle.exports_questions.proofs.asking.x4_unit.Tie as tie

@@ -1,6 +1,6 @@
 use mathlib.Core.Path.{_≡_}
-use Rattle.columns_places.specs.declared.places.LineNo.{LineNo}
-use Rattle.questions.specs.Ask.{valueAsked}
+use Rattle.paper_record.specs.declared.types.LineNo.{LineNo}
+use Rattle.paper_questions.specs.Ask.{valueAsked}
 use borrow.Author.Needs.{needs}
 use Rattle.exports_questions.proofs.asking.x4_value.Statement.{statement}
 use Rattle.exports_questions.proofs.asking.x4_value.Tie as tie

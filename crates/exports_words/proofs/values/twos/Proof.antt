@@ -1,4 +1,4 @@
-use Rattle.canonical_layout.proofs.Numbers.{wide-power}
+use Rattle.paper_canonical.proofs.Numbers.{wide-power}
 use Rattle.exports_words.proofs.Twos.{widened, below, above}
 use borrow.Author.Needs.{needs}
 use Rattle.exports_words.proofs.values.twos.Statement.{statement}

@@ -1,5 +1,5 @@
 use mathlib.Core.Path.{_≡_, refl, ap, _∙_}
-use Rattle.canonical_layout.proofs.Numbers.{flat-power}
+use Rattle.paper_canonical.proofs.Numbers.{flat-power}
 use Rattle.exports_words.specs.Values.{twos, valueNumbers}
 use borrow.Author.Needs.{needs}
 use Rattle.exports_words.proofs.values.value_numbers.Statement.{statement}

@@ -1,7 +1,7 @@
 use Rattle.files_step.specs.Along.{Along}
 use Rattle.files_step.proofs.Along.{along-start, along-ahead, along-ready, along-out, along-done}
 use Prim.Native.Nat.{_-_, _/_}
-use Rattle.files_judging.specs.File.{judgeFile}
+use Rattle.paper_files.specs.File.{judgeFile}
 use borrow.Author.Tests.{not-false, not-true}
 use lib.ListN.{length}
 use mathlib.Core.Path.{_∙_, _≡_, sym}
@@ -16,11 +16,11 @@ use Rattle.classes.proofs.class.classes.Reads as classes-reads
 use Rattle.columns_places.proofs.places.record_of.Reads as record-of-reads
 use Rattle.entry_verdict.proofs.verdict.refused.Reads as refused-reads
 use Rattle.entry_verdict.proofs.verdict.refused_within.Reads as refused-within-reads
-use Rattle.files_judging.proofs.limits.file_length_good.Reads as file-length-good-reads
-use Rattle.files_step.proofs.state.File.finish.Reads as finish-reads
-use Rattle.files_step.proofs.state.File.new.Reads as new-reads
-use Rattle.files_step.proofs.state.File.onward.Reads as onward-reads
-use Rattle.files_step.proofs.state.File.ordinal.Reads as ordinal-reads
+use Rattle.files_ending.proofs.limits.file_length_good.Reads as file-length-good-reads
+use Rattle.files_state.proofs.state.File.finish.Reads as finish-reads
+use Rattle.files_state.proofs.state.File.new.Reads as new-reads
+use Rattle.files_step.proofs.step.onward.Reads as onward-reads
+use Rattle.files_state.proofs.state.File.ordinal.Reads as ordinal-reads
 use Rattle.number.proofs.form.kinds.Reads as kinds-reads
 use Rattle.number.proofs.form.nexts.Reads as nexts-reads
 use Rattle.record_names.proofs.identifier.names.Reads as names-reads

@@ -1,4 +1,4 @@
-use Rattle.files_outside.specs.Outside.{isTransN1}
+use Rattle.paper_files.specs.Outside.{isTransN1}
 use borrow.Author.Tests.{not-false, not-true}
 use borrow.Author.Needs.{needs}
 use Rattle.files_outside.proofs.outside.is_trans_n1.Statement.{statement}

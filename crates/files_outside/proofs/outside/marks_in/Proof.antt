@@ -1,5 +1,5 @@
 use Prim.Native.Nat.{_-_, _≤_}
-use Rattle.files_outside.specs.Outside.{marksIn, noMark}
+use Rattle.paper_files.specs.Outside.{marksIn, noMark}
 use Rattle.laws.proofs.Search.{Scan, scan-next, scan-passed, scan-run, scan-stopped}
 use Rattle.laws.specs.Search.{first}
 use mathlib.Core.Bool.{not}

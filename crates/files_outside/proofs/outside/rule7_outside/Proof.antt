@@ -1,4 +1,4 @@
-use Rattle.files_outside.specs.Outside.{rule7Outside}
+use Rattle.paper_files.specs.Outside.{rule7Outside}
 use borrow.Author.Tests.{eq-eqb, ne-eqb, not-false, not-true}
 use mathlib.Core.Path.{refl}
 use borrow.Author.Needs.{needs}

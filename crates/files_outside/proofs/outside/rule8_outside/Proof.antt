@@ -1,4 +1,4 @@
-use Rattle.files_outside.specs.Outside.{rule8Outside}
+use Rattle.paper_files.specs.Outside.{rule8Outside}
 use borrow.Author.Tests.{eq-eqb, ne-eqb}
 use mathlib.Core.Path.{refl}
 use borrow.Author.Needs.{needs}

@@ -1,4 +1,4 @@
-use Rattle.files_outside.specs.Outside.{transForm}
+use Rattle.paper_files.specs.Outside.{transForm}
 use borrow.Author.Tests.{not-false, not-true}
 use mathlib.Core.Path.{refl}
 use borrow.Author.Needs.{needs}

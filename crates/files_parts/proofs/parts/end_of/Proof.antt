@@ -1,8 +1,8 @@
 use Prim.Native.Nat.{_-_}
-use Rattle.files_parts.proofs.EntryRecords.{end-scan}
-use Rattle.files_parts.specs.Parts.{endOf, namedAt, recordsOf}
+use Rattle.paper_files.proofs.EntryRecords.{end-scan}
+use Rattle.paper_files.specs.Parts.{endOf, namedAt, recordsOf}
 use Rattle.laws.proofs.Search.{Scan, scan-done, scan-found, scan-next}
-use Rattle.record_names.specs.Identifier.{ENDENTRY}
+use Rattle.paper_record.specs.Identifier.{ENDENTRY}
 use mathlib.Core.Path.{_∙_, _≡_, sym}
 use native.Mathlib.Omega.{arith}
 use borrow.Author.Needs.{needs}

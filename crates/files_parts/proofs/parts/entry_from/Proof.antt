@@ -1,4 +1,4 @@
-use Rattle.files_parts.proofs.PlainParts.{first-begun, first-none, from-begun, from-none}
+use Rattle.paper_files.proofs.PlainParts.{first-begun, first-none, from-begun, from-none}
 use mathlib.Core.Path.{_∙_, refl, sym}
 use native.Mathlib.Nat.{add-sub-cancel-left}
 use native.Mathlib.Omega.{arith}

@@ -1,4 +1,4 @@
-use Rattle.files_parts.proofs.PlainParts.{to-the-end, length-by, length-past, length-there}
+use Rattle.paper_files.proofs.PlainParts.{to-the-end, length-by, length-past, length-there}
 use mathlib.Core.Path.{sym}
 use native.Mathlib.Omega.{arith}
 use borrow.Author.Needs.{needs}

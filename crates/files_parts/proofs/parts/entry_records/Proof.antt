@@ -1,5 +1,5 @@
 use Prim.Native.Nat.{_/_}
-use Rattle.files_parts.proofs.EntryRecords.{few-upto, no-records, not-ended, not-opened, records-found}
+use Rattle.paper_files.proofs.EntryRecords.{few-upto, no-records, not-ended, not-opened, records-found}
 use borrow.Author.Tests.{not-false, not-true}
 use lib.ListN.{length}
 use mathlib.Core.Path.{_∙_, sym}

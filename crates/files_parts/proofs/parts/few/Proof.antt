@@ -1,4 +1,4 @@
-use Rattle.rules_state.specs.Limits.{MOST-RECORDS}
+use Rattle.paper_rules.specs.Limits.{MOST-RECORDS}
 use borrow.Author.Tests.{le-leb, lt-leb}
 use native.Mathlib.Omega.{arith}
 use Rattle.files_parts.proofs.parts.few.Statement.{statement}

@@ -1,5 +1,5 @@
 use Prim.Native.Nat.{_/_}
-use Rattle.files_parts.proofs.EntryRecords.{few-upto, first-field}
+use Rattle.paper_files.proofs.EntryRecords.{few-upto, first-field}
 use lib.ListN.{length}
 use mathlib.Core.Path.{refl}
 use native.Mathlib.Omega.{arith}

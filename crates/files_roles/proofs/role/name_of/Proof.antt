@@ -1,4 +1,4 @@
-use Rattle.columns.specs.Fields.{fieldsOf}
+use Rattle.paper_record.specs.Fields.{fieldsOf}
 use borrow.Author.Needs.{needs}
 use Rattle.files_roles.proofs.role.name_of.Statement.{statement}
 use Rattle.files_roles.proofs.role.name_of.Tie as tie

@@ -1,4 +1,4 @@
-use Rattle.files_judging.specs.File.{ordinalOf}
+use Rattle.paper_files.specs.File.{ordinalOf}
 use borrow.Author.Tests.{eq-eqb, ne-eqb}
 use mathlib.Core.Path.{refl}
 use borrow.Author.Needs.{needs}

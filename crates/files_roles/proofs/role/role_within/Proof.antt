@@ -1,5 +1,5 @@
 use Prim.Native.Nat.{_<_, _≤_}
-use Rattle.rules_state.specs.Limits.{MOST-RECORDS}
+use Rattle.paper_rules.specs.Limits.{MOST-RECORDS}
 use borrow.Author.Tests.{eq-eqb, le-leb, lt-leb, ne-eqb}
 use mathlib.Core.Path.{refl}
 use native.Mathlib.Omega.{arith}

@@ -1,6 +1,6 @@
 use lib.Dec.{eqb}
 use mathlib.Core.Bool.{true, false}
-use Rattle.record_names.specs.Identifier.{TRANS}
+use Rattle.paper_record.specs.Identifier.{TRANS}
 use borrow.Author.Tests.{eq-eqb, ne-eqb}
 use mathlib.Core.Path.{_≡_, refl}
 use borrow.Author.Needs.{needs}

@@ -6,8 +6,8 @@ use borrow.Author.Needs.{needs}
 use lib.ListN.{length, take}
 use lib.Seq.{take-all}
 use Rattle.number.proofs.Tables.{ends, place-small, scan-take}
-use Rattle.number.specs.Form.{formAtEnd, placeNumber}
-use Rattle.number.specs.Reading.{Lead, readField, scanOf}
+use Rattle.paper_number.specs.Form.{formAtEnd, placeNumber}
+use Rattle.paper_number.specs.Reading.{Lead, readField, scanOf}
 use Rattle.number.proofs.form.form_of_columns.Statement.{statement}
 use Rattle.number.proofs.form.form_of_columns.Tie as tie
 

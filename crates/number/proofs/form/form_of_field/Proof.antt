@@ -1,7 +1,7 @@
 use mathlib.Core.Path.{ap, _∙_}
 use borrow.Author.Needs.{needs}
-use Rattle.number.specs.Form.{formRefusal}
-use Rattle.number.proofs.Laws.{form-refusal}
+use Rattle.paper_number.specs.Form.{formRefusal}
+use Rattle.paper_number.proofs.Laws.{form-refusal}
 use Rattle.number.proofs.form.form_of_field.Statement.{statement}
 use Rattle.number.proofs.form.form_of_field.Tie as tie
 

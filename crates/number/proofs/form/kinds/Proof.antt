@@ -1,7 +1,7 @@
 use mathlib.Core.Path.{refl}
 use borrow.Author.Needs.{needs}
 use Rattle.laws.specs.Members.{listOf}
-use Rattle.number.specs.Form.{kindTable}
+use Rattle.paper_number.specs.Form.{kindTable}
 use Rattle.number.proofs.form.kinds.Statement.{statement}
 use Rattle.number.proofs.form.kinds.Tie as tie
 

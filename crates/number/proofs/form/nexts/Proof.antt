@@ -1,7 +1,7 @@
 use mathlib.Core.Path.{refl}
 use borrow.Author.Needs.{needs}
 use Rattle.laws.specs.Members.{listOf}
-use Rattle.number.specs.Form.{nextTable}
+use Rattle.paper_number.specs.Form.{nextTable}
 use Rattle.number.proofs.form.nexts.Statement.{statement}
 use Rattle.number.proofs.form.nexts.Tie as tie
 

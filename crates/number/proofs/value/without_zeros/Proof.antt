@@ -1,7 +1,7 @@
 use mathlib.Core.Path.{_≡_}
 use Prim.Native.Nat.{_*_, _<_, _^_}
 use native.Mathlib.Omega.{arith}
-use Rattle.number.proofs.Zeros.{few-zeros, one-zero, trimmed}
+use Rattle.paper_number.proofs.Zeros.{few-zeros, one-zero, trimmed}
 use Rattle.number.proofs.value.without_zeros.Statement.{statement}
 use Rattle.number.proofs.value.without_zeros.Tie as tie
 

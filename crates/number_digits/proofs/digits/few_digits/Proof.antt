@@ -1,6 +1,6 @@
 use mathlib.Core.Path.{refl}
 use native.Mathlib.Omega.{arith}
-use Rattle.number_digits.proofs.Count.{significant-is}
+use Rattle.paper_number.proofs.Count.{significant-is}
 use Rattle.number_digits.proofs.digits.few_digits.Statement.{statement}
 use Rattle.number_digits.proofs.digits.few_digits.Tie as tie
 

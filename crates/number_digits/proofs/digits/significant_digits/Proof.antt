@@ -1,6 +1,6 @@
 use native.Mathlib.Omega.{arith}
 use borrow.Author.Needs.{needs}
-use Rattle.number_digits.proofs.Count.{significant-is}
+use Rattle.paper_number.proofs.Count.{significant-is}
 use Rattle.number_digits.proofs.digits.significant_digits.Statement.{statement}
 use Rattle.number_digits.proofs.digits.significant_digits.Tie as tie
 

@@ -1,8 +1,8 @@
 use mathlib.Core.Path.{refl, ap, _∙_}
 use borrow.Author.Needs.{needs}
-use Rattle.number_digits.specs.Digits.{fieldRead}
-use Rattle.number_reading.specs.Spelt.{readingOf, digitsSpelt}
-use Rattle.number_reading.proofs.Spelling.{spelt-says, spelt-digits}
+use Rattle.paper_number.specs.Digits.{fieldRead}
+use Rattle.paper_number.specs.Spelt.{readingOf, digitsSpelt}
+use Rattle.paper_number.proofs.SpeltReading.{spelt-says, spelt-digits}
 use Rattle.number_reading.proofs.read.read_columns.Statement.{statement}
 use Rattle.number_reading.proofs.read.read_columns.Tie as tie
 

@@ -1,8 +1,8 @@
 use mathlib.Core.Path.{ap}
 use borrow.Author.Needs.{needs}
-use Rattle.number.specs.Reading.{answer}
-use Rattle.number_digits.specs.declared.digits.FieldRead.{FieldRead}
-use Rattle.number_digits.specs.Digits.{fieldRead}
+use Rattle.paper_number.specs.Reading.{answer}
+use Rattle.paper_number.specs.declared.types.FieldRead.{FieldRead}
+use Rattle.paper_number.specs.Digits.{fieldRead}
 use Rattle.number_reading.proofs.read.read_digits.Statement.{statement}
 use Rattle.number_reading.proofs.read.read_digits.Tie as tie
 

@@ -1,9 +1,9 @@
 use mathlib.Core.Path.{ap, _∙_}
 use borrow.Author.Needs.{needs}
 use Rattle.laws.proofs.Promise.{said-too}
-use Rattle.number.specs.Reading.{answer}
-use Rattle.number_reading.specs.Spelt.{readingOf}
-use Rattle.number_reading.proofs.Spelling.{spelt-says}
+use Rattle.paper_number.specs.Reading.{answer}
+use Rattle.paper_number.specs.Spelt.{readingOf}
+use Rattle.paper_number.proofs.SpeltReading.{spelt-says}
 use Rattle.number_reading.proofs.read.read_field.Statement.{statement}
 use Rattle.number_reading.proofs.read.read_field.Tie as tie
 

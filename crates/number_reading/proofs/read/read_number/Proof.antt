@@ -2,9 +2,9 @@ use mathlib.Core.Path.{ap, refl}
 use borrow.Author.Needs.{needs}
 use borrow.Author.Tests.{eq-eqb, ne-eqb}
 use lib.ListN.{length}
-use Rattle.number.specs.Reading.{answer, readNumber}
-use Rattle.number_digits.specs.declared.digits.FieldRead.{FieldRead}
-use Rattle.number_digits.specs.Digits.{fieldRead, numberRead}
+use Rattle.paper_number.specs.Reading.{answer, readNumber}
+use Rattle.paper_number.specs.declared.types.FieldRead.{FieldRead}
+use Rattle.paper_number.specs.Digits.{fieldRead, numberRead}
 use Rattle.number_reading.proofs.read.read_number.Statement.{statement}
 use Rattle.number_reading.proofs.read.read_number.Tie as tie
 

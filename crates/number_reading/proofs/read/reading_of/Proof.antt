@@ -1,6 +1,6 @@
 use mathlib.Core.Path.{refl, ap}
 use borrow.Author.Needs.{needs}
-use Rattle.number.specs.declared.value.Reading.the-variants.{Number}
+use Rattle.paper_number.specs.declared.types.Reading.the-variants.{Number}
 use Rattle.number_reading.proofs.read.reading_of.Statement.{statement}
 use Rattle.number_reading.proofs.read.reading_of.Tie as tie
 

@@ -4,11 +4,11 @@ use Prim.Native.Nat.{_+_}
 use native.Mathlib.Omega.{arith}
 use borrow.Author.Needs.{needs}
 use borrow.Author.Tests.{eq-eqb}
-use Rattle.number.proofs.Difference.{diff-flat}
-use Rattle.number.proofs.Sums.{power-sum}
-use Rattle.number.proofs.Zeros.{made-value, zeros-few}
-use Rattle.number.specs.Value.{valueOf}
-use Rattle.number.specs.declared.value.Trim.{Trim}
+use Rattle.paper_number.proofs.Difference.{diff-flat}
+use Rattle.paper_number.proofs.Sums.{power-sum}
+use Rattle.paper_number.proofs.Zeros.{made-value, zeros-few}
+use Rattle.paper_number.specs.Value.{valueOf}
+use Rattle.paper_number.specs.declared.types.Trim.{Trim}
 use Rattle.number_value.proofs.decimal.value.Statement.{statement}
 use Rattle.number_value.proofs.decimal.value.Tie as tie
 

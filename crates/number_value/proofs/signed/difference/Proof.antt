@@ -1,7 +1,7 @@
 use borrow.Author.Needs.{needs}
 use mir.Syntax.{w32}
 use mir.ValLaws.{toZ-pos}
-use Rattle.number.proofs.Difference.{diff-fits, diff-made}
+use Rattle.paper_number.proofs.Difference.{diff-fits, diff-made}
 use Rattle.number_value.proofs.signed.difference.Statement.{statement}
 use Rattle.number_value.proofs.signed.difference.Tie as tie
 

@@ -4,10 +4,10 @@ use Prim.Native.Nat.{_-_, _<_, _^_, _≤_}
 use native.Mathlib.Omega.{arith}
 use borrow.Author.Needs.{needs}
 use lib.ListN.{getD, length}
-use Rattle.number_walk.proofs.Steps.{alike, digit-in, ends-fraction, fraction-alike, is-digit, moves, over}
-use Rattle.number.proofs.Tens.{ten-le, ten-more}
-use Rattle.number.specs.Reading.{Fraction, Gap, Mantissa, column, digit, mantissa}
-use Rattle.number_walk.specs.Walk.{readFrom}
+use Rattle.paper_number.proofs.Steps.{alike, digit-in, ends-fraction, fraction-alike, is-digit, moves, over}
+use Rattle.paper_number.proofs.Tens.{ten-le, ten-more}
+use Rattle.paper_number.specs.Reading.{Fraction, Gap, Mantissa, column, digit, mantissa}
+use Rattle.paper_number.specs.Walk.{readFrom}
 use Rattle.number_walk.proofs.walk.in_fraction.Statement.{statement}
 use Rattle.number_walk.proofs.walk.in_fraction.Tie as tie
 

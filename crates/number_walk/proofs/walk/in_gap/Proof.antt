@@ -4,10 +4,10 @@ use Prim.Native.Nat.{_+_, _-_, _≤_}
 use native.Mathlib.Omega.{arith}
 use borrow.Author.Needs.{needs}
 use lib.ListN.{getD, length}
-use Rattle.number_walk.proofs.Steps.{bad-gap, ends-gap, is-blank, is-mark, is-minus, is-plus, moves, over}
-use Rattle.number_walk.proofs.Steps.{raises-none, raises-on, stuck}
-use Rattle.number.specs.Reading.{Gap, Mantissa, blank, column, mark, sign}
-use Rattle.number_walk.specs.Walk.{readFrom}
+use Rattle.paper_number.proofs.Steps.{bad-gap, ends-gap, is-blank, is-mark, is-minus, is-plus, moves, over}
+use Rattle.paper_number.proofs.Steps.{raises-none, raises-on, stuck}
+use Rattle.paper_number.specs.Reading.{Gap, Mantissa, blank, column, mark, sign}
+use Rattle.paper_number.specs.Walk.{readFrom}
 use Rattle.number_walk.proofs.walk.in_gap.Statement.{statement}
 use Rattle.number_walk.proofs.walk.in_gap.Tie as tie
 

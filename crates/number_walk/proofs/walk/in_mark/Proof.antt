@@ -3,10 +3,10 @@ use Prim.Native.Nat.{_+_}
 use native.Mathlib.Omega.{arith}
 use borrow.Author.Needs.{needs}
 use lib.ListN.{getD}
-use Rattle.number_walk.proofs.Steps.{alike, is-minus, is-plus, mark-alike, moves, over, raises-none}
-use Rattle.number_walk.proofs.Steps.{raises-on}
-use Rattle.number.specs.Reading.{Mark, MarkGap, column, sign}
-use Rattle.number_walk.specs.Walk.{speltAt}
+use Rattle.paper_number.proofs.Steps.{alike, is-minus, is-plus, mark-alike, moves, over, raises-none}
+use Rattle.paper_number.proofs.Steps.{raises-on}
+use Rattle.paper_number.specs.Reading.{Mark, MarkGap, column, sign}
+use Rattle.paper_number.specs.Walk.{speltAt}
 use Rattle.number_walk.proofs.walk.in_mark.Statement.{statement}
 use Rattle.number_walk.proofs.walk.in_mark.Tie as tie
 

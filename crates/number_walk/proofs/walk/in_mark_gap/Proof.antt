@@ -4,12 +4,12 @@ use Prim.Native.Nat.{_+_, _-_, _≤_}
 use native.Mathlib.Omega.{arith}
 use borrow.Author.Needs.{needs}
 use lib.ListN.{getD, length}
-use Rattle.number_walk.proofs.Steps.{bad-mark-gap, digit-in, is-blank, is-digit, moves, over, raises-none}
-use Rattle.number_walk.proofs.Steps.{raises-on}
-use Rattle.number_walk.proofs.Steps.{stuck}
-use Rattle.number.proofs.Tens.{ten-le}
-use Rattle.number.specs.Reading.{Mantissa, MarkGap, blank, column, digit}
-use Rattle.number_walk.specs.Walk.{readFrom, speltAt}
+use Rattle.paper_number.proofs.Steps.{bad-mark-gap, digit-in, is-blank, is-digit, moves, over, raises-none}
+use Rattle.paper_number.proofs.Steps.{raises-on}
+use Rattle.paper_number.proofs.Steps.{stuck}
+use Rattle.paper_number.proofs.Tens.{ten-le}
+use Rattle.paper_number.specs.Reading.{Mantissa, MarkGap, blank, column, digit}
+use Rattle.paper_number.specs.Walk.{readFrom, speltAt}
 use Rattle.number_walk.proofs.walk.in_mark_gap.Statement.{statement}
 use Rattle.number_walk.proofs.walk.in_mark_gap.Tie as tie
 

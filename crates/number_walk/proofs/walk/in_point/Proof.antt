@@ -4,10 +4,10 @@ use Prim.Native.Nat.{_+_, _-_}
 use native.Mathlib.Omega.{arith}
 use borrow.Author.Needs.{needs}
 use lib.ListN.{getD}
-use Rattle.number_walk.proofs.Steps.{bad-point, digit-in, is-digit, moves, over, points-none, stuck}
-use Rattle.number.proofs.Tens.{ten-le}
-use Rattle.number.specs.Reading.{Point, column, digit}
-use Rattle.number_walk.specs.Walk.{speltAt}
+use Rattle.paper_number.proofs.Steps.{bad-point, digit-in, is-digit, moves, over, points-none, stuck}
+use Rattle.paper_number.proofs.Tens.{ten-le}
+use Rattle.paper_number.specs.Reading.{Point, column, digit}
+use Rattle.paper_number.specs.Walk.{speltAt}
 use Rattle.number_walk.proofs.walk.in_point.Statement.{statement}
 use Rattle.number_walk.proofs.walk.in_point.Tie as tie
 

@@ -4,12 +4,12 @@ use Prim.Native.Nat.{_*_, _+_, _-_, _^_, _≤_}
 use native.Mathlib.Omega.{arith}
 use borrow.Author.Needs.{needs}
 use lib.ListN.{getD, length}
-use Rattle.number_walk.proofs.Steps.{bad-power, digit-in, ends-power, is-digit, moves, over, raises-none}
-use Rattle.number_walk.proofs.Steps.{stuck}
-use Rattle.number.proofs.Tens.{ten-le, ten-more}
-use Rattle.number.specs.Grammar.{below}
-use Rattle.number.specs.Reading.{Mantissa, Power, Scan, column, digit}
-use Rattle.number_walk.specs.Walk.{readFrom}
+use Rattle.paper_number.proofs.Steps.{bad-power, digit-in, ends-power, is-digit, moves, over, raises-none}
+use Rattle.paper_number.proofs.Steps.{stuck}
+use Rattle.paper_number.proofs.Tens.{ten-le, ten-more}
+use Rattle.paper_number.specs.Grammar.{below}
+use Rattle.paper_number.specs.Reading.{Mantissa, Power, Scan, column, digit}
+use Rattle.paper_number.specs.Walk.{readFrom}
 use Rattle.number_walk.proofs.walk.in_power.Statement.{statement}
 use Rattle.number_walk.proofs.walk.in_power.Tie as tie
 

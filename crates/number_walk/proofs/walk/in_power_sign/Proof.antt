@@ -4,11 +4,11 @@ use Prim.Native.Nat.{_+_, _-_}
 use native.Mathlib.Omega.{arith}
 use borrow.Author.Needs.{needs}
 use lib.ListN.{getD}
-use Rattle.number_walk.proofs.Steps.{bad-power-sign, digit-in, is-digit, moves, over, raises-none, raises-on}
-use Rattle.number_walk.proofs.Steps.{stuck}
-use Rattle.number.proofs.Tens.{ten-le}
-use Rattle.number.specs.Reading.{PowerSign, column, digit}
-use Rattle.number_walk.specs.Walk.{speltAt}
+use Rattle.paper_number.proofs.Steps.{bad-power-sign, digit-in, is-digit, moves, over, raises-none, raises-on}
+use Rattle.paper_number.proofs.Steps.{stuck}
+use Rattle.paper_number.proofs.Tens.{ten-le}
+use Rattle.paper_number.specs.Reading.{PowerSign, column, digit}
+use Rattle.paper_number.specs.Walk.{speltAt}
 use Rattle.number_walk.proofs.walk.in_power_sign.Statement.{statement}
 use Rattle.number_walk.proofs.walk.in_power_sign.Tie as tie
 

@@ -4,12 +4,12 @@ use Prim.Native.Nat.{_+_, _-_}
 use native.Mathlib.Omega.{arith}
 use borrow.Author.Needs.{needs}
 use lib.ListN.{getD}
-use Rattle.number_walk.proofs.Steps.{bad-signed, digit-in, is-digit, is-point, moves, over, points-none}
-use Rattle.number_walk.proofs.Steps.{points-on}
-use Rattle.number_walk.proofs.Steps.{stuck}
-use Rattle.number.proofs.Tens.{ten-le}
-use Rattle.number.specs.Reading.{Signed, column, digit, point}
-use Rattle.number_walk.specs.Walk.{speltAt}
+use Rattle.paper_number.proofs.Steps.{bad-signed, digit-in, is-digit, is-point, moves, over, points-none}
+use Rattle.paper_number.proofs.Steps.{points-on}
+use Rattle.paper_number.proofs.Steps.{stuck}
+use Rattle.paper_number.proofs.Tens.{ten-le}
+use Rattle.paper_number.specs.Reading.{Signed, column, digit, point}
+use Rattle.paper_number.specs.Walk.{speltAt}
 use Rattle.number_walk.proofs.walk.in_signed.Statement.{statement}
 use Rattle.number_walk.proofs.walk.in_signed.Tie as tie
 

@@ -4,10 +4,10 @@ use Prim.Native.Nat.{_-_, _<_, _^_, _≤_}
 use native.Mathlib.Omega.{arith}
 use borrow.Author.Needs.{needs}
 use lib.ListN.{getD, length}
-use Rattle.number_walk.proofs.Steps.{bad-whole, digit-in, is-digit, is-point, moves, over, points-none, stuck}
-use Rattle.number.proofs.Tens.{ten-le, ten-more}
-use Rattle.number.specs.Reading.{Whole, column, digit, point}
-use Rattle.number_walk.specs.Walk.{readFrom, speltAt}
+use Rattle.paper_number.proofs.Steps.{bad-whole, digit-in, is-digit, is-point, moves, over, points-none, stuck}
+use Rattle.paper_number.proofs.Tens.{ten-le, ten-more}
+use Rattle.paper_number.specs.Reading.{Whole, column, digit, point}
+use Rattle.paper_number.specs.Walk.{readFrom, speltAt}
 use Rattle.number_walk.proofs.walk.in_whole.Statement.{statement}
 use Rattle.number_walk.proofs.walk.in_whole.Tie as tie
 

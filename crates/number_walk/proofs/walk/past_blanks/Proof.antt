@@ -4,9 +4,9 @@ use Prim.Native.Nat.{_-_, _≤_}
 use native.Mathlib.Omega.{arith}
 use borrow.Author.Needs.{needs}
 use lib.ListN.{getD, length}
-use Rattle.number_walk.proofs.Steps.{is-blank, moves}
-use Rattle.number.specs.Reading.{Lead, blank, column}
-use Rattle.number_walk.specs.Walk.{readFrom, spelt}
+use Rattle.paper_number.proofs.Steps.{is-blank, moves}
+use Rattle.paper_number.specs.Reading.{Lead, blank, column}
+use Rattle.paper_number.specs.Walk.{readFrom, spelt}
 use Rattle.number_walk.proofs.walk.past_blanks.Statement.{statement}
 use Rattle.number_walk.proofs.walk.past_blanks.Tie as tie
 

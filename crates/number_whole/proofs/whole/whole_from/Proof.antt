@@ -1,7 +1,7 @@
 use mathlib.Core.Path.{refl, sym, _∙_, _≡_}
 use native.Mathlib.Omega.{arith}
-use Rattle.number_whole.proofs.From.{from-broken, from-end, from-step}
-use Rattle.number_whole.specs.Whole.{wholeFrom}
+use Rattle.paper_number.proofs.WholeFrom.{from-broken, from-end, from-step}
+use Rattle.paper_number.specs.Whole.{wholeFrom}
 use Rattle.number_whole.proofs.whole.whole_from.Statement.{statement}
 use Rattle.number_whole.proofs.whole.whole_from.Tie as tie
 

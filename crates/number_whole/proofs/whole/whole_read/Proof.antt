@@ -1,8 +1,8 @@
 use mathlib.Core.Bool.{true, false}
 use mathlib.Core.Path.{refl, sym, _∙_, _≡_}
 use borrow.Author.Needs.{needs}
-use Rattle.number_whole.proofs.From.{from-few}
-use Rattle.number_whole.specs.Whole.{belowZero, wholeRead}
+use Rattle.paper_number.proofs.WholeFrom.{from-few}
+use Rattle.paper_number.specs.Whole.{belowZero, wholeRead}
 use Rattle.number_whole.proofs.whole.whole_read.Statement.{statement}
 use Rattle.number_whole.proofs.whole.whole_read.Tie as tie
 

@@ -1,5 +1,5 @@
 use mathlib.Core.Path.{_∙_}
-use Rattle.questions.specs.Ask.{headingAsked}
+use Rattle.paper_questions.specs.Ask.{headingAsked}
 use borrow.Author.Needs.{needs}
 use Rattle.questions.proofs.ask.heading.Statement.{statement}
 use Rattle.questions.proofs.ask.heading.Tie as tie

@@ -1,6 +1,6 @@
-use Rattle.questions_parts.proofs.Parts.{heading-lies}
-use Rattle.questions_parts.specs.Answers.{bytesIn}
-use Rattle.questions.specs.Ask.{headingAsked}
+use Rattle.paper_questions.proofs.Parts.{heading-lies}
+use Rattle.paper_questions.specs.PartAnswers.{bytesIn}
+use Rattle.paper_questions.specs.Ask.{headingAsked}
 use mathlib.Core.Path.{_∙_, ap}
 use borrow.Author.Needs.{needs}
 use Rattle.questions.proofs.ask.heading_part.Statement.{statement}

@@ -1,5 +1,5 @@
 use mathlib.Core.Path.{_∙_}
-use Rattle.questions.specs.Ask.{passageAsked}
+use Rattle.paper_questions.specs.Ask.{passageAsked}
 use borrow.Author.Needs.{needs}
 use Rattle.questions.proofs.ask.passage.Statement.{statement}
 use Rattle.questions.proofs.ask.passage.Tie as tie

@@ -1,5 +1,5 @@
 use mathlib.Core.Path.{_∙_}
-use Rattle.questions.specs.Ask.{unitAsked}
+use Rattle.paper_questions.specs.Ask.{unitAsked}
 use borrow.Author.Needs.{needs}
 use Rattle.questions.proofs.ask.unit.Statement.{statement}
 use Rattle.questions.proofs.ask.unit.Tie as tie

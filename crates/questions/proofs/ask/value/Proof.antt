@@ -1,6 +1,6 @@
 use mathlib.Core.Path.{_∙_, ap}
-use Rattle.questions.specs.Ask.{valueAsked}
-use Rattle.questions_values.specs.Answers.{valueSaid}
+use Rattle.paper_questions.specs.Ask.{valueAsked}
+use Rattle.paper_questions.specs.ValueAnswers.{valueSaid}
 use borrow.Author.Needs.{needs}
 use Rattle.questions.proofs.ask.value.Statement.{statement}
 use Rattle.questions.proofs.ask.value.Tie as tie

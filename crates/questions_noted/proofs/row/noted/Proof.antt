@@ -1,5 +1,5 @@
 use mathlib.Core.Path.{refl}
-use Rattle.questions_noted.specs.Row.{noted}
+use Rattle.paper_questions.specs.Row.{noted}
 use borrow.Author.Tests.{eq-eqb, ne-eqb}
 use borrow.Author.Needs.{needs}
 use Rattle.questions_noted.proofs.row.noted.Statement.{statement}

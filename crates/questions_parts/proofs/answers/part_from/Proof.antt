@@ -1,6 +1,6 @@
 use Prim.Native.Nat.{_+_}
 use Rattle.laws.specs.Search.{first}
-use Rattle.questions_parts.specs.Answers.{noPart}
+use Rattle.paper_questions.specs.PartAnswers.{noPart}
 use borrow.Author.Tests.{le-leb, lt-leb}
 use lib.ListN.{length}
 use mathlib.Core.Path.{_∙_, ap}

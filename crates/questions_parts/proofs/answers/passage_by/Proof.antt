@@ -1,4 +1,4 @@
-use Rattle.questions_parts.specs.Answers.{passageBy}
+use Rattle.paper_questions.specs.PartAnswers.{passageBy}
 use borrow.Author.Tests.{ne-eqb}
 use borrow.Author.Needs.{needs}
 use Rattle.questions_parts.proofs.answers.passage_by.Statement.{statement}

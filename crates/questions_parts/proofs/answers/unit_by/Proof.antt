@@ -1,8 +1,8 @@
-use Rattle.questions_places.specs.Place.{fieldOf}
-use Rattle.number.specs.Reading.{column}
-use Rattle.questions_refusals.proofs.InOrder.{column-inside}
-use Rattle.questions_refusals.proofs.RowSections.{met-section}
-use Rattle.questions_parts.specs.Answers.{unitBy}
+use Rattle.paper_questions.specs.Place.{fieldOf}
+use Rattle.paper_number.specs.Reading.{column}
+use Rattle.paper_questions.proofs.InOrder.{column-inside}
+use Rattle.paper_questions.proofs.RowSections.{met-section}
+use Rattle.paper_questions.specs.PartAnswers.{unitBy}
 use borrow.Author.Tests.{ne-eqb}
 use mathlib.Core.Path.{_∙_, _≡_, sym}
 use native.Mathlib.Omega.{arith}

@@ -1,7 +1,7 @@
 use Rattle.laws.proofs.Search.{scan-done, scan-found, scan-next}
 use Prim.Native.Nat.{_-_, _≤_}
 use Rattle.laws.proofs.Search.{Scan, scan-upto}
-use Rattle.questions_passages.specs.Passage.{firstText, sought, textAt}
+use Rattle.paper_questions.specs.Passage.{firstText, sought, textAt}
 use mathlib.Core.Path.{_∙_, sym}
 use native.Mathlib.Omega.{arith}
 use borrow.Author.Needs.{needs}

@@ -1,5 +1,5 @@
 use mathlib.Core.Path.{_∙_}
-use Rattle.record_words.proofs.EqualColumns.{equal-ten}
+use Rattle.paper_record.proofs.EqualColumns.{equal-ten}
 use borrow.Author.Needs.{needs}
 use Rattle.questions_passages.proofs.passage.is_keyword.Statement.{statement}
 use Rattle.questions_passages.proofs.passage.is_keyword.Tie as tie

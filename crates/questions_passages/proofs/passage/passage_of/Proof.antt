@@ -1,4 +1,4 @@
-use Rattle.questions_passages.specs.Passage.{passageOf, textRecords}
+use Rattle.paper_questions.specs.Passage.{passageOf, textRecords}
 use borrow.Author.Tests.{le-ltb, lt-ltb}
 use borrow.Author.Needs.{needs}
 use Rattle.questions_passages.proofs.passage.passage_of.Statement.{statement}

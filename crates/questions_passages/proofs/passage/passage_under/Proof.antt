@@ -1,6 +1,6 @@
 use Prim.Native.Nat.{_+_}
 use mathlib.Core.Path.{_≡_}
-use Rattle.questions_passages.specs.Passage.{passageUnder, firstText, hasKeyword, begins}
+use Rattle.paper_questions.specs.Passage.{passageUnder, firstText, hasKeyword, begins}
 use borrow.Author.Tests.{le-ltb, lt-ltb}
 use borrow.Author.Needs.{needs}
 use Rattle.questions_passages.proofs.passage.passage_under.Statement.{statement}

@@ -1,6 +1,6 @@
 use Rattle.laws.proofs.Table.{at}
-use Rattle.questions_places.proofs.Records.{record-there}
-use Rattle.questions_places.specs.Place.{fieldsAt}
+use Rattle.paper_questions.proofs.Records.{record-there}
+use Rattle.paper_questions.specs.Place.{fieldsAt}
 use borrow.Author.Tests.{not-false, not-true}
 use mathlib.Core.Path.{_∙_, refl, sym}
 use native.Mathlib.Nat.{add-sub-cancel-left}

@@ -1,4 +1,4 @@
-use Rattle.questions_places.specs.Place.{headingPlace}
+use Rattle.paper_questions.specs.Place.{headingPlace}
 use mathlib.Core.Path.{refl}
 use native.Mathlib.Omega.{arith}
 use borrow.Author.Needs.{needs}

@@ -1,5 +1,5 @@
 use mathlib.Core.Path.{refl}
-use Rattle.questions_places.specs.Place.{shapeOf}
+use Rattle.paper_questions.specs.Place.{shapeOf}
 use borrow.Author.Tests.{eq-eqb, ne-eqb}
 use native.Mathlib.Omega.{arith}
 use borrow.Author.Needs.{needs}

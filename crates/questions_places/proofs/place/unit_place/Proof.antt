@@ -1,5 +1,5 @@
 use mathlib.Core.Path.{refl}
-use Rattle.questions_places.specs.Place.{unitPlace}
+use Rattle.paper_questions.specs.Place.{unitPlace}
 use native.Mathlib.Omega.{arith}
 use borrow.Author.Needs.{needs}
 use Rattle.questions_places.proofs.place.unit_place.Statement.{statement}

@@ -1,7 +1,7 @@
-use Rattle.entry_verdict.specs.Answer.{refusal}
-use Rattle.questions_refusals.specs.Refused.{noPassage, passageRefusal}
+use Rattle.paper_entry.specs.Answer.{refusal}
+use Rattle.paper_questions.specs.Refused.{noPassage, passageRefusal}
 use mathlib.Core.List.{[], _∷_}
-use Rattle.questions_refusals.proofs.InOrder.{section-first, section-none}
+use Rattle.paper_questions.proofs.InOrder.{section-first, section-none}
 use borrow.Author.Tests.{eq-eqb, ne-eqb}
 use mathlib.Core.Path.{_∙_, sym}
 use borrow.Author.Needs.{needs}

@@ -1,6 +1,6 @@
-use Rattle.entry_step.proofs.Walking.{accepted-good}
-use Rattle.entry_verdict.specs.declared.verdict.Verdict.{Verdict}
-use Rattle.questions_rows.proofs.RowNoted.{found-row, refused-row}
+use Rattle.paper_entry.proofs.Lengths.{accepted-good}
+use Rattle.paper_entry.specs.declared.types.Verdict.{Verdict}
+use Rattle.paper_questions.proofs.FoundRow.{found-row, refused-row}
 use Rattle.questions_rows.proofs.Rows.{met-empty}
 use mathlib.Core.Path.{_∙_, ap, sym}
 use borrow.Author.Needs.{needs}

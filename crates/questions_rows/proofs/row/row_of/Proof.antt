@@ -1,9 +1,9 @@
 use Prim.Native.Nat.{_-_, _/_}
-use Rattle.entry_step.proofs.Numbered.{whole-records}
+use Rattle.paper_entry.proofs.Lengths.{whole-records}
 use Rattle.entry_step.proofs.Walking.{walking-start, walking-bounded, walking-done}
 use Rattle.entry_step.specs.Pass.{Walking}
 use Rattle.questions_rows.proofs.RowNoted.{met-rows, row-passed, row-start}
-use Rattle.questions_rows.specs.Row.{rowAt}
+use Rattle.paper_questions.specs.Located.{rowAt}
 use lib.ListN.{length}
 use mathlib.Core.Path.{_∙_, _≡_, ap, sym}
 use native.Mathlib.Omega.{arith}

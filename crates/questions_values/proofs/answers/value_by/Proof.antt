@@ -1,8 +1,8 @@
-use Rattle.number.specs.Reading.{column}
-use Rattle.questions_values.proofs.ValuePlaces.{value-field, value-placed}
-use Rattle.questions_refusals.proofs.InOrder.{value-inside}
-use Rattle.questions_refusals.proofs.RowSections.{met-section}
-use Rattle.questions_values.specs.Answers.{valueBy}
+use Rattle.paper_number.specs.Reading.{column}
+use Rattle.paper_questions.proofs.ValuePlaces.{value-field, value-placed}
+use Rattle.paper_questions.proofs.InOrder.{value-inside}
+use Rattle.paper_questions.proofs.RowSections.{met-section}
+use Rattle.paper_questions.specs.ValueAnswers.{valueBy}
 use borrow.Author.Tests.{ne-eqb}
 use mathlib.Core.Path.{_∙_, refl, sym}
 use borrow.Author.Needs.{needs}

@@ -1,8 +1,8 @@
 use Prim.Native.Nat.{ℕ}
 use mathlib.Core.Path.{ap}
 use Rattle.laws.proofs.Promise.{said-too}
-use Rattle.record.specs.declared.system.Count.the-variants.{Number}
-use Rattle.record.specs.System.{countAnswer, integerOf}
+use Rattle.paper_record.specs.declared.types.Count.the-variants.{Number}
+use Rattle.paper_record.specs.System.{countAnswer, integerOf}
 use borrow.Author.Needs.{needs}
 use borrow.Author.Tests.{eq-eqb, ne-eqb, not-false, not-true}
 use Rattle.record.proofs.system.count_of.Statement.{statement}

@@ -1,7 +1,7 @@
 use Prim.Native.Nat.{_-_, _≤_}
 use Rattle.laws.proofs.Search.{Scan, scan-next, scan-passed, scan-run, scan-stopped}
 use Rattle.laws.specs.Search.{first}
-use Rattle.record.specs.System.{digitsIn, noDigitAt}
+use Rattle.paper_record.specs.System.{digitsIn, noDigitAt}
 use borrow.Author.Needs.{needs}
 use mathlib.Core.Bool.{not}
 use mathlib.Core.Path.{_∙_, ap, sym}

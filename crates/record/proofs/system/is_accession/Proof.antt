@@ -1,4 +1,4 @@
-use Rattle.record.specs.System.{isAccession}
+use Rattle.paper_record.specs.System.{isAccession}
 use borrow.Author.Needs.{needs}
 use borrow.Author.Tests.{not-false, not-true}
 use Rattle.record.proofs.system.is_accession.Statement.{statement}

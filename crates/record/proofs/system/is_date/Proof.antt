@@ -1,5 +1,5 @@
-use Rattle.columns.specs.Text.{within}
-use Rattle.record.specs.System.{isDate, numberIn}
+use Rattle.paper_record.specs.Text.{within}
+use Rattle.paper_record.specs.System.{isDate, numberIn}
 use borrow.Author.Needs.{needs}
 use borrow.Author.Tests.{not-false, not-true}
 use mathlib.Core.Bool.{Bool, _&&_}

@@ -1,4 +1,4 @@
-use Rattle.record.specs.System.{isEntryN1}
+use Rattle.paper_record.specs.System.{isEntryN1}
 use borrow.Author.Needs.{needs}
 use borrow.Author.Tests.{not-false, not-true}
 use Rattle.record.proofs.system.is_entry_n1.Statement.{statement}

@@ -1,6 +1,6 @@
 use Prim.Native.Nat.{_*_, _+_, _-_, _^_, _≤_}
 use Rattle.record.proofs.Powers.{eleven-below, one-more}
-use Rattle.record.specs.System.{numberIn}
+use Rattle.paper_record.specs.System.{numberIn}
 use borrow.Author.Needs.{needs}
 use mathlib.Core.Path.{_≡_, refl}
 use native.Mathlib.Numerals.{add-one}

@@ -1,4 +1,4 @@
-use Rattle.record.specs.System.{subentryOf}
+use Rattle.paper_record.specs.System.{subentryOf}
 use borrow.Author.Needs.{needs}
 use native.Mathlib.Omega.{arith}
 use Rattle.record.proofs.system.subentry_of.Statement.{statement}

@@ -1,5 +1,5 @@
 use mathlib.Core.Path.{refl}
-use Rattle.record_expected.specs.Expected.{inDigits}
+use Rattle.paper_record.specs.Expected.{inDigits}
 use borrow.Author.Needs.{needs}
 use native.Mathlib.Nat.{div-one}
 use Rattle.record_expected.proofs.expected.five_digits.Statement.{statement}

@@ -1,5 +1,5 @@
-use Rattle.columns.proofs.ReadColumns.{both-read}
-use Rattle.record_expected.specs.Expected.{identificationFor}
+use Rattle.paper_record.proofs.ReadColumns.{both-read}
+use Rattle.paper_record.specs.Expected.{identificationFor}
 use borrow.Author.Needs.{needs}
 use Rattle.record_expected.proofs.expected.identification_for.Statement.{statement}
 use Rattle.record_expected.proofs.expected.identification_for.Tie as tie

@@ -1,4 +1,4 @@
-use Rattle.columns.proofs.ReadColumns.{columns-read}
+use Rattle.paper_record.proofs.ReadColumns.{columns-read}
 use native.Mathlib.Omega.{arith}
 use borrow.Author.Needs.{needs}
 use Rattle.record_expected.proofs.expected.subent_accession.Statement.{statement}

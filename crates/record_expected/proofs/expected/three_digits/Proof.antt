@@ -1,4 +1,4 @@
-use Rattle.record_expected.specs.Expected.{inDigits}
+use Rattle.paper_record.specs.Expected.{inDigits}
 use borrow.Author.Needs.{needs}
 use native.Mathlib.Nat.{div-one}
 use Rattle.record_expected.proofs.expected.three_digits.Statement.{statement}

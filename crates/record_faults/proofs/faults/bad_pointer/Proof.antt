@@ -1,4 +1,4 @@
-use Rattle.record_faults.specs.Faults.{badPointer}
+use Rattle.paper_record.specs.Faults.{badPointer}
 use borrow.Author.Needs.{needs}
 use borrow.Author.Tests.{eq-eqb, ne-eqb}
 use Rattle.record_faults.proofs.faults.bad_pointer.Statement.{statement}

@@ -1,7 +1,7 @@
 use Prim.Native.Nat.{_-_}
 use Rattle.laws.proofs.Search.{Scan, scan-all, scan-done, scan-found, scan-next}
-use Rattle.columns.specs.Fields.{firstField, inField}
-use Rattle.record_faults.specs.Faults.{faultIn}
+use Rattle.paper_record.specs.Fields.{firstField, inField}
+use Rattle.paper_record.specs.Faults.{faultIn}
 use borrow.Author.Needs.{needs}
 use mathlib.Core.Path.{_∙_, sym}
 use native.Mathlib.Omega.{arith}

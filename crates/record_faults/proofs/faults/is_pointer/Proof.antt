@@ -1,4 +1,4 @@
-use Rattle.columns.specs.Text.{isFrom}
+use Rattle.paper_record.specs.Text.{isFrom}
 use borrow.Author.Needs.{needs}
 use mathlib.Core.Bool.{true}
 use mathlib.Core.Path.{_≡_, _∙_, sym}

@@ -1,4 +1,4 @@
-use Rattle.record_faults.specs.Faults.{pointerFault}
+use Rattle.paper_record.specs.Faults.{pointerFault}
 use borrow.Author.Needs.{needs}
 use borrow.Author.Tests.{le-ltb, lt-ltb}
 use Rattle.record_faults.proofs.faults.is_pointer_fault.Statement.{statement}

@@ -1,4 +1,4 @@
-use Rattle.record_faults.specs.Faults.{isUnitWord}
+use Rattle.paper_record.specs.Faults.{isUnitWord}
 use borrow.Author.Needs.{needs}
 use borrow.Author.Tests.{not-false, not-true}
 use Rattle.record_faults.proofs.faults.is_unit.Statement.{statement}

@@ -1,7 +1,7 @@
 use Rattle.laws.proofs.Search.{scan-found, scan-next, scan-done}
 use Prim.Native.Nat.{_-_}
 use Rattle.laws.proofs.Search.{Scan, scan-all}
-use Rattle.record_flags.specs.Flags.{codeDigits, digitBehind}
+use Rattle.paper_record.specs.Flags.{codeDigits, digitBehind}
 use lib.ListN.{length}
 use mathlib.Core.Bool.{not}
 use mathlib.Core.Path.{_∙_, _≡_, ap, sym}

@@ -1,7 +1,7 @@
 use Prim.Native.Nat.{_+_}
 use lib.ListN.{getD}
-use Rattle.record_flags.proofs.Codes.{long-no-code}
-use Rattle.record_flags.specs.Flags.{codeDigits, codeNumber, isCode}
+use Rattle.paper_record.proofs.Codes.{long-no-code}
+use Rattle.paper_record.specs.Flags.{codeDigits, codeNumber, isCode}
 use borrow.Author.Tests.{eq-eqb, ne-eqb}
 use lib.Dec.{eqb}
 use mathlib.Core.Bool.{false, true}

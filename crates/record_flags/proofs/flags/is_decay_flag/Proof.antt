@@ -1,4 +1,4 @@
-use Rattle.record_flags.specs.Flags.{isDecayFlag}
+use Rattle.paper_record.specs.Flags.{isDecayFlag}
 use borrow.Author.Needs.{needs}
 use Rattle.record_flags.proofs.flags.is_decay_flag.Statement.{statement}
 use Rattle.record_flags.proofs.flags.is_decay_flag.Tie as tie

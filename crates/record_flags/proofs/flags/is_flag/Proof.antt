@@ -1,4 +1,4 @@
-use Rattle.record_flags.specs.Flags.{isFlag}
+use Rattle.paper_record.specs.Flags.{isFlag}
 use borrow.Author.Needs.{needs}
 use Rattle.record_flags.proofs.flags.is_flag.Statement.{statement}
 use Rattle.record_flags.proofs.flags.is_flag.Tie as tie

@@ -1,4 +1,4 @@
-use Rattle.record_flags.specs.Flags.{isFlagHeading}
+use Rattle.paper_record.specs.Flags.{isFlagHeading}
 use mathlib.Core.Path.{_∙_, sym}
 use borrow.Author.Needs.{needs}
 use Rattle.record_flags.proofs.flags.is_flag_heading.Statement.{statement}

@@ -1,9 +1,9 @@
-use Rattle.record_flags.proofs.Codes.{digits-few, digit-at, saying-past, saying-next, saying-done}
-use Rattle.number_whole.specs.Whole.{Short}
+use Rattle.paper_record.proofs.Codes.{digits-few, digit-at, saying-past, saying-next, saying-done}
+use Rattle.paper_number.specs.Whole.{Short}
 use Prim.Native.Nat.{_-_, _≤_}
-use Rattle.record_flags.proofs.Codes.{Saying, saying-start}
-use Rattle.record_flags.specs.Flags.{codeDigits}
-use Rattle.record_flags.specs.PlainFlags.{TextColumns}
+use Rattle.paper_record.proofs.Codes.{Saying, saying-start}
+use Rattle.paper_record.specs.Flags.{codeDigits}
+use Rattle.paper_record.specs.PlainFlags.{TextColumns}
 use mathlib.Core.Path.{refl}
 use native.Mathlib.Omega.{arith}
 use borrow.Author.Needs.{needs}

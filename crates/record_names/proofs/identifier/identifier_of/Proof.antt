@@ -1,6 +1,6 @@
 use Prim.Native.Nat.{_-_}
 use Rattle.laws.proofs.Search.{Scan, scan-all, scan-done, scan-found, scan-next}
-use Rattle.record_names.specs.Identifier.{NamesLent, OTHER, identifierOf, isName}
+use Rattle.paper_record.specs.Identifier.{NamesLent, OTHER, identifierOf, isName}
 use borrow.Author.Needs.{needs}
 use mathlib.Core.Path.{_∙_, sym}
 use native.Mathlib.Omega.{arith}

@@ -1,5 +1,5 @@
 use Prim.Native.Nat.{ℕ}
-use Rattle.record_names.proofs.NameTable.{end-letters, name-begins, name-read, no-end}
+use Rattle.paper_record.proofs.NameTable.{end-letters, name-begins, name-read, no-end}
 use borrow.Author.Needs.{needs}
 use borrow.Author.Tests.{eq-eqb, ne-eqb}
 use lib.Dec.{eqb}

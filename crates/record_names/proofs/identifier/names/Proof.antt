@@ -1,5 +1,5 @@
 use Rattle.laws.specs.Members.{joinOf}
-use Rattle.record_names.specs.Identifier.{nameTable}
+use Rattle.paper_record.specs.Identifier.{nameTable}
 use mathlib.Core.Path.{refl}
 use Rattle.record_names.proofs.identifier.names.Statement.{statement}
 use Rattle.record_names.proofs.identifier.names.Tie as tie

@@ -1,4 +1,4 @@
-use Rattle.record_repeats.specs.Repeats.{endsIn}
+use Rattle.paper_record.specs.Repeats.{endsIn}
 use borrow.Author.Tests.{le-leb, lt-leb}
 use borrow.Author.Needs.{needs}
 use Rattle.record_repeats.proofs.repeats.ends_in.Statement.{statement}

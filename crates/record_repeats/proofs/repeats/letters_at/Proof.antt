@@ -1,5 +1,5 @@
 use Rattle.laws.proofs.Table.{at}
-use Rattle.record_repeats.specs.Repeats.{lettersAt}
+use Rattle.paper_record.specs.Repeats.{lettersAt}
 use native.Mathlib.Nat.{add-sub-cancel-left}
 use borrow.Author.Needs.{needs}
 use Rattle.record_repeats.proofs.repeats.letters_at.Statement.{statement}

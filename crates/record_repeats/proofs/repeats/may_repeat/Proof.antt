@@ -1,4 +1,4 @@
-use Rattle.record_repeats.specs.Repeats.{listedWord, mayRepeat}
+use Rattle.paper_record.specs.Repeats.{listedWord, mayRepeat}
 use mathlib.Core.Bool.{false, true}
 use mathlib.Core.Path.{_∙_, _≡_, sym}
 use borrow.Author.Needs.{needs}

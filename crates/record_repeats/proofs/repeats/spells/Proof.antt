@@ -1,4 +1,4 @@
-use Rattle.record_repeats.specs.Repeats.{spells}
+use Rattle.paper_record.specs.Repeats.{spells}
 use borrow.Author.Tests.{eq-eqb, ne-eqb}
 use borrow.Author.Needs.{needs}
 use Rattle.record_repeats.proofs.repeats.spells.Statement.{statement}

@@ -1,4 +1,4 @@
-use Rattle.record_repeats.specs.Repeats.{startsWith}
+use Rattle.paper_record.specs.Repeats.{startsWith}
 use borrow.Author.Tests.{le-leb, lt-leb}
 use borrow.Author.Needs.{needs}
 use Rattle.record_repeats.proofs.repeats.starts_with.Statement.{statement}

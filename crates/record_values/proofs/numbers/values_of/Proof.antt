@@ -1,9 +1,9 @@
 use Prim.Native.Nat.{_-_, _≤_}
 use Rattle.laws.proofs.Search.{Scan, scan-all, scan-done, scan-found, scan-next}
 use Rattle.laws.specs.Search.{howMany}
-use Rattle.number.specs.Form.{Tables}
-use Rattle.columns.specs.Fields.{firstField, inField}
-use Rattle.record_values.specs.Numbers.{isNumberAt, valueFault, valuesOf}
+use Rattle.paper_number.specs.Form.{Tables}
+use Rattle.paper_record.specs.Fields.{firstField, inField}
+use Rattle.paper_record.specs.Numbers.{isNumberAt, valueFault, valuesOf}
 use borrow.Author.Needs.{needs}
 use mathlib.Core.Path.{_∙_, _≡_, refl, sym}
 use native.Mathlib.Nat.{zero-add}

@@ -1,4 +1,4 @@
-use Rattle.record_words.specs.Word.{blankTo}
+use Rattle.paper_record.specs.Word.{blankTo}
 use borrow.Author.Needs.{needs}
 use Rattle.record_words.proofs.word.blank_to.Statement.{statement}
 use Rattle.record_words.proofs.word.blank_to.Tie as tie

@@ -1,4 +1,4 @@
-use Rattle.record_words.specs.Word.{eightAt}
+use Rattle.paper_record.specs.Word.{eightAt}
 use borrow.Author.Needs.{needs}
 use Rattle.record_words.proofs.word.eight_columns.Statement.{statement}
 use Rattle.record_words.proofs.word.eight_columns.Tie as tie

@@ -1,7 +1,7 @@
 use Prim.Native.Nat.{_-_, _≤_}
 use Rattle.laws.proofs.Search.{Scan, scan-all, scan-next, scan-passed, scan-stopped}
 use Rattle.laws.specs.Search.{first}
-use Rattle.record_words.specs.Word.{differAt, equalTo}
+use Rattle.paper_record.specs.Word.{differAt, equalTo}
 use borrow.Author.Needs.{needs}
 use borrow.Author.Tests.{eq-eqb, ne-eqb}
 use lib.ListN.{length}

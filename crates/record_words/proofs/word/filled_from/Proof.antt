@@ -1,6 +1,6 @@
 use Prim.Native.Nat.{_-_, _≤_}
 use Rattle.laws.proofs.Search.{Scan, scan-done, scan-found, scan-next, scan-upto}
-use Rattle.record_words.specs.Word.{filledAt, filledFrom}
+use Rattle.paper_record.specs.Word.{filledAt, filledFrom}
 use borrow.Author.Needs.{needs}
 use borrow.Author.Tests.{eq-eqb, ne-eqb}
 use native.Mathlib.Omega.{arith}

@@ -1,4 +1,4 @@
-use Rattle.record_words.specs.Word.{isWord}
+use Rattle.paper_record.specs.Word.{isWord}
 use borrow.Author.Needs.{needs}
 use borrow.Author.Tests.{eq-eqb, ne-eqb}
 use lib.Dec.{eqb}

@@ -1,6 +1,6 @@
 use Prim.Native.Nat.{_-_}
 use Rattle.laws.proofs.Search.{Scan, scan-all, scan-done, scan-found, scan-next}
-use Rattle.record_words.specs.Word.{blankAt, wordEnd}
+use Rattle.paper_record.specs.Word.{blankAt, wordEnd}
 use borrow.Author.Needs.{needs}
 use borrow.Author.Tests.{eq-eqb, ne-eqb}
 use native.Mathlib.Omega.{arith}

@@ -1,7 +1,7 @@
 use mathlib.Core.Path.{refl}
 use Rattle.laws.proofs.Promise.{said-too}
-use Rattle.rules_roles.specs.Fault.{faultAnswer, firstFault}
-use Rattle.rules.specs.Order.{faultOf}
+use Rattle.paper_rules.specs.Fault.{faultAnswer, firstFault}
+use Rattle.paper_rules.specs.Order.{faultOf}
 use borrow.Author.Tests.{eq-eqb, ne-eqb}
 use Rattle.rules.proofs.order.fault.Statement.{statement}
 use Rattle.rules.proofs.order.fault.Tie as tie

@@ -1,4 +1,4 @@
-use Rattle.rules_roles.specs.Fault.{firstFault}
+use Rattle.paper_rules.specs.Fault.{firstFault}
 use borrow.Author.Tests.{eq-eqb, ne-eqb}
 use borrow.Author.Needs.{needs}
 use Rattle.rules.proofs.order.record_fault.Statement.{statement}
@@ -9,7 +9,7 @@ use Rattle.rules_every.proofs.every.rule4.Reads as rule4-reads
 use Rattle.rules_every.proofs.every.rule5.Reads as rule5-reads
 use Rattle.rules_every.proofs.every.rule6.Reads as rule6-reads
 use Rattle.rules_counts.proofs.counts.rule8.Reads as rule8-reads
-use Rattle.rules_system.proofs.system.rule9.Reads as rule9-reads
+use Rattle.rules_numbers.proofs.numbers.rule9.Reads as rule9-reads
 use Rattle.rules.proofs.order.section_fault.Reads as section-fault-reads
 use Rattle.rules_system.proofs.system.rule7.Reads as rule7-reads
 

@@ -1,7 +1,7 @@
-use Rattle.rules_codes.proofs.CodesNext.{text-lent}
+use Rattle.paper_rules.proofs.CodesNext.{text-lent}
 use Prim.Native.Nat.{_+_, _-_}
 use Rattle.laws.specs.Members.{anyOf}
-use Rattle.rules_codes.proofs.CodesNext.{code-here, text-lent}
+use Rattle.paper_rules.proofs.CodesNext.{code-here, text-lent}
 use borrow.Author.Tests.{not-false, not-true}
 use mathlib.Core.Bool.{false, true}
 use mathlib.Core.Path.{_∙_, _≡_, refl, sym}

@@ -1,6 +1,6 @@
-use Rattle.rules_codes.proofs.CodesNext.{Codes, codes-start, codes-found, codes-next, codes-done}
+use Rattle.paper_rules.proofs.CodesNext.{Codes, codes-start, codes-found, codes-next, codes-done}
 use Prim.Native.Nat.{_-_, _/_}
-use Rattle.number_whole.specs.Whole.{Short}
+use Rattle.paper_number.specs.Whole.{Short}
 use lib.ListN.{length}
 use mathlib.Core.Path.{_∙_, _≡_, refl, sym}
 use native.Mathlib.Omega.{arith}

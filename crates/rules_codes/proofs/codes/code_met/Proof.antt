@@ -1,6 +1,6 @@
 use Rattle.laws.proofs.Members.{any-append}
 use Rattle.laws.specs.Members.{anyOf}
-use Rattle.rules_codes.specs.Codes.{codesOf}
+use Rattle.paper_rules.specs.Codes.{codesOf}
 use lib.Dec.{eqb}
 use mathlib.Core.Bool.{false, true}
 use mathlib.Core.Path.{_∙_, _≡_, sym}

@@ -1,4 +1,4 @@
-use Rattle.rules_counts.specs.Counts.{rule8}
+use Rattle.paper_rules.specs.Counts.{rule8}
 use borrow.Author.Tests.{not-false, not-true}
 use borrow.Author.Needs.{needs}
 use Rattle.rules_counts.proofs.counts.rule8.Statement.{statement}
@@ -11,7 +11,7 @@ use Rattle.record.proofs.system.number_of.Reads as number-of-reads
 use Rattle.rules_roles.proofs.roles.is_system.Reads as is-system-reads
 use Rattle.rules_roles.proofs.roles.opens_section.Reads as opens-section-reads
 use Rattle.rules_counts.proofs.counts.count_true.Reads as count-true-reads
-use Rattle.rules_counts.proofs.counts.announced.Reads as announced-reads
+use Rattle.rules_limits.proofs.limits.announced.Reads as announced-reads
 
 is-system-requires : tie.Need-is-system-requires
 is-system-requires c κs = search needs

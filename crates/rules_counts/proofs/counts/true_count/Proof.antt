@@ -1,5 +1,5 @@
 use mathlib.Core.Path.{refl}
-use Rattle.rules_counts.specs.Counts.{trueCount}
+use Rattle.paper_rules.specs.Counts.{trueCount}
 use borrow.Author.Tests.{eq-eqb, ne-eqb}
 use borrow.Author.Needs.{needs}
 use Rattle.rules_counts.proofs.counts.true_count.Statement.{statement}

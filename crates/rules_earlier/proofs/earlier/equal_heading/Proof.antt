@@ -1,9 +1,9 @@
-use Rattle.rules_earlier.specs.declared.earlier.Found.the-variants.{Nothing}
+use Rattle.paper_rules.specs.declared.types.Found.the-variants.{Nothing}
 use Prim.Native.Nat.{_-_}
 use Rattle.laws.proofs.Search.{Scan, scan-all, scan-done, scan-found, scan-next}
 use Rattle.laws.proofs.Turns.{Run, run-all, run-done, run-next, run-out}
 use Rattle.rules_earlier.proofs.EarlierParts.{left-fits}
-use Rattle.rules_earlier.specs.Earlier.{earlier, equalAt, equalHeading, equalIn, nowhere, sectionTurn}
+use Rattle.paper_rules.specs.Earlier.{earlier, equalAt, equalHeading, equalIn, nowhere, sectionTurn}
 use borrow.Author.Tests.{le-ltb, lt-ltb}
 use mathlib.Core.Path.{_∙_, _≡_, refl, sym}
 use native.Mathlib.Omega.{arith}

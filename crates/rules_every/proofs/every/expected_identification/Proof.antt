@@ -1,4 +1,4 @@
-use Rattle.rules_every.specs.Every.{expectedIdentification}
+use Rattle.paper_rules.specs.Every.{expectedIdentification}
 use borrow.Author.Tests.{eq-eqb, ne-eqb}
 use borrow.Author.Needs.{needs}
 use Rattle.rules_every.proofs.every.expected_identification.Statement.{statement}

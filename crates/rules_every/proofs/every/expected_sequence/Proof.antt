@@ -1,5 +1,5 @@
 use mathlib.Core.Path.{refl}
-use Rattle.rules_every.specs.Every.{expectedSequence}
+use Rattle.paper_rules.specs.Every.{expectedSequence}
 use borrow.Author.Tests.{eq-eqb, ne-eqb}
 use borrow.Author.Needs.{needs}
 use Rattle.rules_every.proofs.every.expected_sequence.Statement.{statement}

@@ -1,5 +1,5 @@
 use mathlib.Core.Path.{refl}
-use Rattle.rules_every.specs.Every.{rule2}
+use Rattle.paper_rules.specs.Every.{rule2}
 use borrow.Author.Needs.{needs}
 use Rattle.rules_every.proofs.every.rule2.Statement.{statement}
 use Rattle.rules_every.proofs.every.rule2.Tie as tie

@@ -1,8 +1,8 @@
 use Rattle.record.proofs.Found.{permitted-first}
 use Prim.Native.Nat.{_+_}
-use Rattle.classes.specs.Class.{notPermitted}
-use Rattle.rules_roles.proofs.Leftmost.{leftmost-where}
-use Rattle.rules_every.specs.Every.{rule3}
+use Rattle.paper_record.specs.Class.{notPermitted}
+use Rattle.paper_rules.proofs.Leftmost.{leftmost-where}
+use Rattle.paper_rules.specs.Every.{rule3}
 use borrow.Author.Tests.{le-ltb, lt-ltb}
 use borrow.Author.Needs.{needs}
 use Rattle.rules_every.proofs.every.rule3.Statement.{statement}

@@ -1,4 +1,4 @@
-use Rattle.rules_every.specs.Every.{rule4}
+use Rattle.paper_rules.specs.Every.{rule4}
 use borrow.Author.Tests.{eq-eqb, ne-eqb}
 use Rattle.rules_every.proofs.every.rule4.Statement.{statement}
 use Rattle.rules_every.proofs.every.rule4.Tie as tie

@@ -1,4 +1,4 @@
-use Rattle.rules_every.specs.Every.{rule5}
+use Rattle.paper_rules.specs.Every.{rule5}
 use borrow.Author.Needs.{needs}
 use Rattle.rules_every.proofs.every.rule5.Statement.{statement}
 use Rattle.rules_every.proofs.every.rule5.Tie as tie

@@ -1,4 +1,4 @@
-use Rattle.rules_every.specs.Every.{rule6}
+use Rattle.paper_rules.specs.Every.{rule6}
 use borrow.Author.Needs.{needs}
 use Rattle.rules_every.proofs.every.rule6.Statement.{statement}
 use Rattle.rules_every.proofs.every.rule6.Tie as tie

@@ -1,8 +1,8 @@
 use mathlib.Core.Bool.{_||_}
-use Rattle.columns.specs.Columns.{columnsAt}
-use Rattle.record_flags.specs.Flags.{isFlagHeading}
+use Rattle.paper_record.specs.Columns.{columnsAt}
+use Rattle.paper_record.specs.Flags.{isFlagHeading}
 use Rattle.rules_flags.proofs.Headings.{letter-of, none-behind}
-use Rattle.record_flags.proofs.Words.{no-letter}
+use Rattle.paper_record.proofs.FlagWords.{no-letter}
 use borrow.Author.Tests.{not-true}
 use lib.Dec.{eqb}
 use lib.ListN.{getD}

@@ -1,6 +1,6 @@
-use Rattle.record_flags.specs.Flags.{isFlagHeading}
+use Rattle.paper_record.specs.Flags.{isFlagHeading}
 use Rattle.rules_flags.proofs.Headings.{heading-of, heading-room}
-use Rattle.rules_flags.specs.Flags.{flagColumn, recordsOver}
+use Rattle.paper_rules.specs.Flags.{flagColumn, recordsOver}
 use mathlib.Core.Path.{_∙_, ap, sym}
 use borrow.Author.Needs.{needs}
 use Rattle.rules_flags.proofs.flags.is_flag_column.Statement.{statement}

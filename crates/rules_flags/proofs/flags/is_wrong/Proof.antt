@@ -1,5 +1,5 @@
-use Rattle.number_whole.specs.Whole.{Few}
-use Rattle.record_flags.specs.Flags.{isFlag}
+use Rattle.paper_number.specs.Whole.{Few}
+use Rattle.paper_record.specs.Flags.{isFlag}
 use borrow.Author.Tests.{not-false, not-true}
 use mathlib.Core.Bool.{false, not, true}
 use mathlib.Core.Path.{_≡_, ap, subst}

@@ -1,9 +1,9 @@
 use Prim.Native.Nat.{_*_}
 use Rattle.rules_flags.proofs.Headings.{below-same, passed-over, records-lent}
 use Rattle.rules_flags.specs.Below.{letterIn}
-use Rattle.rules_flags.specs.Flags.{recordsOver, rule17}
-use Rattle.rules_roles.proofs.Leftmost.{leftmost-where}
-use Rattle.rules_state.specs.Ranging.{seenOf}
+use Rattle.paper_rules.specs.Flags.{recordsOver, rule17}
+use Rattle.paper_rules.proofs.Leftmost.{leftmost-where}
+use Rattle.paper_rules.specs.Ranging.{seenOf}
 use borrow.Author.Tests.{le-ltb, not-false, not-true}
 use mathlib.Core.Bool.{false}
 use mathlib.Core.Path.{_∙_, _≡_, sym}
@@ -19,7 +19,7 @@ use Rattle.rules_flags.proofs.flags.heading_record.Reads as heading-rec
 use Rattle.rules_roles.proofs.fault.field_column.Reads as field-column-reads
 use Rattle.rules_roles.proofs.ranging.part.Reads as part-reads
 use Rattle.rules_roles.proofs.roles.is_value.Reads as is-value-reads
-use Rattle.rules_state.proofs.state.Track.used.Reads as used-reads
+use Rattle.rules_state.proofs.state.used.Reads as used-reads
 
 is-value-requires : tie.Need-is-value-requires
 is-value-requires c κs = search needs

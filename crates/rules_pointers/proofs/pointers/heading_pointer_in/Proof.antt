@@ -1,8 +1,8 @@
 use Rattle.laws.proofs.Members.{look-done, look-found, look-next, Look, look-all}
 use Prim.Native.Nat.{_-_}
 use Rattle.laws.specs.Members.{anyOf}
-use Rattle.rules_pointers.specs.Pointers.{headingPointerAt, headingPointers}
-use Rattle.rules_earlier.specs.Earlier.{headingsIn}
+use Rattle.paper_rules.specs.Pointers.{headingPointerAt, headingPointers}
+use Rattle.paper_rules.specs.Earlier.{headingsIn}
 use borrow.Author.Tests.{eq-eqb, ne-eqb}
 use lib.Dec.{eqb}
 use mathlib.Core.Path.{_≡_}

@@ -3,8 +3,8 @@ use mathlib.Core.Bool.{true}
 use lib.Dec.{eqb}
 use Rattle.laws.specs.Members.{anyOf}
 use Rattle.laws.proofs.Members.{any-append}
-use Rattle.rules_text.specs.Text.{pointersOf}
-use Rattle.rules_pointers.specs.Pointers.{pointersFor}
+use Rattle.paper_rules.specs.Text.{pointersOf}
+use Rattle.paper_rules.specs.Pointers.{pointersFor}
 use borrow.Author.Needs.{needs}
 use Rattle.rules_pointers.proofs.pointers.pointer_found.Statement.{statement}
 use Rattle.rules_pointers.proofs.pointers.pointer_found.Tie as tie

@@ -1,5 +1,5 @@
-use Rattle.rules_roles.proofs.Leftmost.{leftmost-where}
-use Rattle.rules_pointers.specs.Pointers.{rule14}
+use Rattle.paper_rules.proofs.Leftmost.{leftmost-where}
+use Rattle.paper_rules.specs.Pointers.{rule14}
 use borrow.Author.Tests.{eq-eqb, ne-eqb}
 use borrow.Author.Needs.{needs}
 use Rattle.rules_pointers.proofs.pointers.rule14.Statement.{statement}
@@ -8,7 +8,7 @@ use Rattle.rules_pointers.proofs.pointers.rule14.Reads as reads
 use Rattle.rules_pointers.proofs.pointers.rule14.Lts as lts
 use Rattle.rules_roles.proofs.fault.field_column.Reads as field-column-reads
 use Rattle.rules_pointers.proofs.pointers.lost_at.Reads as lost-at-reads
-use Rattle.rules_state.proofs.state.Track.used.Reads as used-reads
+use Rattle.rules_state.proofs.state.used.Reads as used-reads
 use Rattle.rules_roles.proofs.ranging.part.Reads as part-reads
 
 returns : tie.Need-returns

@@ -1,4 +1,4 @@
-use Rattle.rules_repeats.specs.Repeats.{clash}
+use Rattle.paper_rules.specs.Repeats.{clash}
 use borrow.Author.Tests.{eq-eqb, ne-eqb, not-false, not-true}
 use mathlib.Core.Bool.{not}
 use mathlib.Core.Path.{ap, refl}

@@ -1,4 +1,4 @@
-use Rattle.rules_repeats.specs.Repeats.{leftOf}
+use Rattle.paper_rules.specs.Repeats.{leftOf}
 use borrow.Author.Tests.{eq-eqb, ne-eqb}
 use mathlib.Core.Path.{refl}
 use borrow.Author.Needs.{needs}

@@ -1,7 +1,7 @@
 use Prim.Native.Nat.{_-_, _≤_}
 use Rattle.laws.proofs.Search.{Scan, scan-all, scan-done, scan-found, scan-next}
 use Rattle.laws.specs.Search.{first}
-use Rattle.rules_repeats.specs.Repeats.{headingRepeated}
+use Rattle.paper_rules.specs.Repeats.{headingRepeated}
 use mathlib.Core.Path.{_∙_, sym}
 use native.Mathlib.Omega.{arith}
 use borrow.Author.Needs.{needs}

@@ -1,5 +1,5 @@
-use Rattle.rules_roles.proofs.Leftmost.{leftmost-where}
-use Rattle.rules_section.specs.Headings.{rule11Heading}
+use Rattle.paper_rules.proofs.Leftmost.{leftmost-where}
+use Rattle.paper_rules.specs.Headings.{rule11Heading}
 use borrow.Author.Tests.{not-false, not-true}
 use borrow.Author.Needs.{needs}
 use Rattle.rules_section.proofs.headings.rule11_heading.Statement.{statement}
@@ -9,7 +9,7 @@ use Rattle.rules_section.proofs.headings.rule11_heading.Lts as lts
 use Rattle.record_faults.proofs.faults.pointer_fault.Reads as pointer-fault-reads
 use Rattle.rules_roles.proofs.fault.pointer_column.Reads as pointer-column-reads
 use Rattle.rules_roles.proofs.roles.is_heading.Reads as is-heading-reads
-use Rattle.rules_state.proofs.state.Track.used.Reads as used-reads
+use Rattle.rules_state.proofs.state.used.Reads as used-reads
 
 is-heading-requires : tie.Need-is-heading-requires
 is-heading-requires c κs = search needs

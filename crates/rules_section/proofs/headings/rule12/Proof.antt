@@ -1,5 +1,5 @@
-use Rattle.rules_roles.proofs.Leftmost.{leftmost-where}
-use Rattle.rules_section.specs.Headings.{rule12Heading, rule12Unit}
+use Rattle.paper_rules.proofs.Leftmost.{leftmost-where}
+use Rattle.paper_rules.specs.Headings.{rule12Heading, rule12Unit}
 use borrow.Author.Needs.{needs}
 use Rattle.rules_section.proofs.headings.rule12.Statement.{statement}
 use Rattle.rules_section.proofs.headings.rule12.Tie as tie
@@ -10,7 +10,7 @@ use Rattle.record_faults.proofs.faults.unit_fault.Reads as unit-fault-reads
 use Rattle.rules_roles.proofs.fault.field_column.Reads as field-column-reads
 use Rattle.rules_roles.proofs.roles.is_heading.Reads as is-heading-reads
 use Rattle.rules_roles.proofs.roles.is_unit.Reads as is-unit-reads
-use Rattle.rules_state.proofs.state.Track.used.Reads as used-reads
+use Rattle.rules_state.proofs.state.used.Reads as used-reads
 
 is-heading-requires : tie.Need-is-heading-requires
 is-heading-requires c κs = search needs

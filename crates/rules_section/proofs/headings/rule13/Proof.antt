@@ -1,8 +1,8 @@
 use Prim.Native.Nat.{ℕ}
 use mathlib.Core.Path.{_∙_, ap}
-use Rattle.rules_roles.specs.Fault.{columnAt, fieldColumn}
-use Rattle.rules_roles.proofs.Leftmost.{leftmost-where}
-use Rattle.rules_section.specs.Headings.{rule13}
+use Rattle.paper_rules.specs.Fault.{columnAt, fieldColumn}
+use Rattle.paper_rules.proofs.Leftmost.{leftmost-where}
+use Rattle.paper_rules.specs.Headings.{rule13}
 use borrow.Author.Tests.{not-false, not-true}
 use borrow.Author.Needs.{needs}
 use Rattle.rules_section.proofs.headings.rule13.Statement.{statement}
@@ -13,7 +13,7 @@ use Rattle.rules_roles.proofs.fault.field_column.Reads as field-column-reads
 use Rattle.rules_roles.proofs.ranging.part.Reads as part-reads
 use Rattle.rules_roles.proofs.roles.is_heading.Reads as is-heading-reads
 use Rattle.rules_section.proofs.headings.repeated_at.Reads as repeated-at-reads
-use Rattle.rules_state.proofs.state.Track.used.Reads as used-reads
+use Rattle.rules_state.proofs.state.used.Reads as used-reads
 
 is-heading-requires : tie.Need-is-heading-requires
 is-heading-requires c κs = search needs

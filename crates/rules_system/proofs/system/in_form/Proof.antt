@@ -1,4 +1,4 @@
-use Rattle.rules_system.specs.System.{inForm}
+use Rattle.paper_rules.specs.System.{inForm}
 use borrow.Author.Tests.{eq-eqb, ne-eqb}
 use borrow.Author.Needs.{needs}
 use Rattle.rules_system.proofs.system.in_form.Statement.{statement}

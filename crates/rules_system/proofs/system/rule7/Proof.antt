@@ -1,5 +1,5 @@
 use mathlib.Core.Path.{refl}
-use Rattle.rules_system.specs.System.{rule7}
+use Rattle.paper_rules.specs.System.{rule7}
 use borrow.Author.Tests.{not-false, not-true}
 use borrow.Author.Needs.{needs}
 use Rattle.rules_system.proofs.system.rule7.Statement.{statement}

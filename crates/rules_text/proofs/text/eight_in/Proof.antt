@@ -2,8 +2,8 @@ use Rattle.laws.proofs.Members.{look-done, look-found, look-next}
 use Prim.Native.Nat.{_+_, _*_, _-_, _/_}
 use Rattle.laws.proofs.Members.{Look, look-all}
 use Rattle.laws.specs.Members.{anyOf}
-use Rattle.record_words.specs.Word.{eightAt}
-use Rattle.rules_text.specs.Text.{eightsOf}
+use Rattle.paper_record.specs.Word.{eightAt}
+use Rattle.paper_rules.specs.Text.{eightsOf}
 use Rattle.record_words.proofs.word.eight_columns.Reads as eight-columns-reads
 use borrow.Author.Tests.{eq-eqb, ne-eqb}
 use lib.Dec.{eqb}

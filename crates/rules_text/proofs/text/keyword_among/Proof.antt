@@ -2,8 +2,8 @@ use Rattle.laws.proofs.Members.{look-done, look-found, look-next}
 use Prim.Native.Nat.{_-_, _/_}
 use Rattle.laws.proofs.Members.{Look, look-all}
 use Rattle.laws.specs.Members.{anyOf}
-use Rattle.record_words.specs.Word.{equalTo}
-use Rattle.rules_text.specs.Text.{placeInPart, placesOf}
+use Rattle.paper_record.specs.Word.{equalTo}
+use Rattle.paper_rules.specs.Text.{placeInPart, placesOf}
 use lib.ListN.{length}
 use mathlib.Core.Path.{_∙_, _≡_, sym}
 use native.Mathlib.Omega.{arith}

@@ -7,9 +7,9 @@ use lib.ListN.{length}
 use borrow.Author.Tests.{eq-eqb}
 use Rattle.laws.specs.Members.{anyOf}
 use Rattle.laws.proofs.Members.{any-weaker}
-use Rattle.record_words.specs.Word.{equalTo, eightAt}
-use Rattle.record_words.proofs.EightColumns.{eight-equal}
-use Rattle.rules_text.specs.Text.{placeInPart, placesOf, eightsOf}
+use Rattle.paper_record.specs.Word.{equalTo, eightAt}
+use Rattle.paper_record.proofs.EightColumns.{eight-equal}
+use Rattle.paper_rules.specs.Text.{placeInPart, placesOf, eightsOf}
 use borrow.Author.Needs.{needs}
 use Rattle.rules_text.proofs.text.keyword_in.Statement.{statement}
 use Rattle.rules_text.proofs.text.keyword_in.Tie as tie

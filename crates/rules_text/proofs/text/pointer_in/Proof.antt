@@ -2,7 +2,7 @@ use Rattle.laws.proofs.Members.{look-done, look-found, look-next}
 use Prim.Native.Nat.{_-_, _/_}
 use Rattle.laws.proofs.Members.{Look, look-all}
 use Rattle.laws.specs.Members.{anyOf}
-use Rattle.rules_text.specs.Text.{pointerAt, pointersOf}
+use Rattle.paper_rules.specs.Text.{pointerAt, pointersOf}
 use borrow.Author.Tests.{eq-eqb, ne-eqb}
 use lib.Dec.{eqb}
 use lib.ListN.{length}

@@ -1,6 +1,6 @@
 use mathlib.Core.Path.{_≡_}
-use Rattle.rules_roles.specs.Parts.{bytesOf}
-use Rattle.rules_text.specs.Text.{rule10}
+use Rattle.paper_rules.specs.Parts.{bytesOf}
+use Rattle.paper_rules.specs.Text.{rule10}
 use borrow.Author.Tests.{eq-eqb, ne-eqb}
 use borrow.Author.Needs.{needs}
 use Rattle.rules_text.proofs.text.rule10.Statement.{statement}

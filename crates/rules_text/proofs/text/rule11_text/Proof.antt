@@ -1,6 +1,6 @@
 use mathlib.Core.Path.{_≡_}
-use Rattle.rules_roles.specs.Parts.{bytesOf}
-use Rattle.rules_text.specs.Text.{rule11Text}
+use Rattle.paper_rules.specs.Parts.{bytesOf}
+use Rattle.paper_rules.specs.Text.{rule11Text}
 use borrow.Author.Needs.{needs}
 use Rattle.rules_text.proofs.text.rule11_text.Statement.{statement}
 use Rattle.rules_text.proofs.text.rule11_text.Tie as tie

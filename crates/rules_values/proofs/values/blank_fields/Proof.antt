@@ -1,5 +1,5 @@
 use mathlib.Core.Path.{refl}
-use Rattle.record_values.proofs.FoundValues.{values-fault}
+use Rattle.paper_record.proofs.FoundValues.{values-fault}
 use mathlib.Core.Bool.{true}
 use borrow.Author.Needs.{needs}
 use Rattle.rules_values.proofs.values.blank_fields.Statement.{statement}

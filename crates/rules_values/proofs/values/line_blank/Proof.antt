@@ -4,8 +4,8 @@ use Rattle.rules_values.proofs.values.line_blank.Statement.{statement}
 use Rattle.rules_values.proofs.values.line_blank.Tie as tie
 use Rattle.rules_values.proofs.values.line_blank.Reads as reads
 use Rattle.rules_values.proofs.values.line_blank.Lts as lts
-use Rattle.rules_state.proofs.state.Track.row_ends.Reads as row-ends-reads
-use Rattle.rules_state.proofs.state.Track.used.Reads as used-reads
+use Rattle.rules_state.proofs.state.row_ends.Reads as row-ends-reads
+use Rattle.rules_state.proofs.state.used.Reads as used-reads
 use Rattle.rules_values.proofs.values.blank_fields.Reads as blank-fields-reads
 
 returns : tie.Need-returns

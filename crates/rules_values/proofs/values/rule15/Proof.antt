@@ -1,6 +1,6 @@
-use Rattle.rules_roles.proofs.Leftmost.{leftmost-where}
-use Rattle.rules_values.proofs.ReadValues.{fault-read}
-use Rattle.rules_values.specs.Values.{rule15}
+use Rattle.paper_rules.proofs.Leftmost.{leftmost-where}
+use Rattle.paper_rules.proofs.ReadValues.{fault-read}
+use Rattle.paper_rules.specs.Values.{rule15}
 use borrow.Author.Tests.{not-false, not-true}
 use mathlib.Core.Path.{_∙_, sym}
 use borrow.Author.Needs.{needs}

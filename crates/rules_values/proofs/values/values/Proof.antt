@@ -1,4 +1,4 @@
-use Rattle.rules_values.specs.Values.{valuesFor}
+use Rattle.paper_rules.specs.Values.{valuesFor}
 use borrow.Author.Tests.{not-false, not-true}
 use borrow.Author.Needs.{needs}
 use Rattle.rules_values.proofs.values.values.Statement.{statement}
@@ -7,7 +7,7 @@ use Rattle.rules_values.proofs.values.values.Reads as reads
 use Rattle.rules_values.proofs.values.values.Lts as lts
 use Rattle.record_values.proofs.numbers.values_of.Reads as values-of-reads
 use Rattle.rules_roles.proofs.roles.is_value.Reads as is-value-reads
-use Rattle.rules_state.proofs.state.Track.used.Reads as used-reads
+use Rattle.rules_state.proofs.state.used.Reads as used-reads
 
 is-value-requires : tie.Need-is-value-requires
 is-value-requires c κs = search needs

@@ -2,7 +2,7 @@ use mathlib.Core.Path.{_∙_}
 use native.Mathlib.Nat.{add-sub-cancel-left}
 use native.Mathlib.Omega.{arith}
 use lib.ListN.{length-take, length-drop}
-use Rattle.entry_step.proofs.Numbered.{whole-records}
+use Rattle.paper_entry.proofs.Lengths.{whole-records}
 use Rattle.entry_step.proofs.Walking.{pass-at, records-passed, walking-bounded, walking-next}
 use borrow.Author.Needs.{needs}
 use Rattle.entry_step.proofs.step.Judge.pass.Statement.{statement}

@@ -10,7 +10,7 @@ use Rattle.columns.proofs.fields.fields.Reads as fields-reads
 use Rattle.entry_step.proofs.step.Judge.after.Reads as after-reads
 use Rattle.record_names.proofs.identifier.identifier_of.Reads as identifier-of-reads
 use Rattle.rules_values.proofs.values.values.Reads as values-reads
-use Rattle.rules_state.proofs.state.Track.role.Reads as role-reads
+use Rattle.rules_due.proofs.role.role.Reads as role-reads
 
 fields-requires : tie.Need-fields-requires
 fields-requires c κs = search needs

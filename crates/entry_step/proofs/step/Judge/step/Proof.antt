@@ -1,6 +1,6 @@
 use mathlib.Core.Path.{ap}
 use Rattle.entry_step.specs.ByRanges.{stepOf, stepSaid}
-use Rattle.number.proofs.Bounds.{within}
+use Rattle.paper_number.proofs.Bounds.{within}
 use borrow.Author.Needs.{needs}
 use Rattle.entry_step.proofs.step.Judge.step.Statement.{statement}
 use Rattle.entry_step.proofs.step.Judge.step.Tie as tie
@@ -9,7 +9,7 @@ use Rattle.entry_step.proofs.step.Judge.step.Lts as lts
 use Rattle.entry_step.proofs.step.Judge.step_as.Reads as step-as-reads
 use Rattle.columns.proofs.fields.fields.Reads as fields-reads
 use Rattle.record_names.proofs.identifier.identifier_of.Reads as identifier-of-reads
-use Rattle.rules_state.proofs.state.Track.role.Reads as role-reads
+use Rattle.rules_due.proofs.role.role.Reads as role-reads
 
 fields-requires : tie.Need-fields-requires
 fields-requires c κs = search needs

@@ -1,7 +1,7 @@
 use mathlib.Core.Path.{refl}
 use Rattle.entry_step.proofs.Stepping.{stands-after}
 use Rattle.entry_step.specs.ByRanges.{stepAs}
-use Rattle.number.proofs.Bounds.{within}
+use Rattle.paper_number.proofs.Bounds.{within}
 use borrow.Author.Needs.{needs}
 use Rattle.entry_step.proofs.step.Judge.step_as.Statement.{statement}
 use Rattle.entry_step.proofs.step.Judge.step_as.Tie as tie

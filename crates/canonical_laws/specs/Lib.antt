@@ -1,3 +1,0 @@
-pub mod Replacing
-pub mod Marked
-pub mod Claims

@@ -1,3 +1,0 @@
-pub mod Canonical
-pub mod Closed
-pub mod Storing

@@ -1,2 +1,0 @@
-pub mod ReadColumns
-pub mod Within

@@ -1,0 +1,2 @@
+// The copy of one field, stored in its place.
+pub mod fields;

@@ -1,4 +1,0 @@
-pub mod Copy
-pub mod Storing
-pub mod Call
-pub mod Demand

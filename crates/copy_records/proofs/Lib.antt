@@ -1,4 +1,0 @@
-pub mod Pasted
-pub mod WholeRecords
-pub mod StoredNumbers
-pub mod Replaced

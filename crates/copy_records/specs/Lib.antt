@@ -1,3 +1,0 @@
-pub mod CopyField
-pub mod Storing
-pub mod Replaced

@@ -1,2 +1,0 @@
-pub mod Contexts
-pub mod Judging

@@ -1,3 +1,0 @@
-pub mod Verdict
-pub mod Answer
-pub mod Part

@@ -1,0 +1,3 @@
+// How long a file may be, and the verdict behind its last record.
+pub mod ending;
+pub mod limits;

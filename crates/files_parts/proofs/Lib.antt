@@ -1,2 +1,0 @@
-pub mod EntryRecords
-pub mod PlainParts

@@ -1,5 +1,0 @@
-pub mod Grammar
-pub mod Value
-pub mod Reading
-pub mod Form
-pub mod Claims

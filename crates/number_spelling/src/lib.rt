@@ -1,0 +1,2 @@
+// What the columns of a number field spell.
+pub mod spell;

@@ -1,0 +1,16 @@
+pub mod Theorems
+pub mod Characters
+pub mod Promises
+pub mod Laws
+pub mod WriteBack
+pub mod Digits
+pub mod First
+pub mod Laid
+pub mod Layouts
+pub mod Numbers
+pub mod Preparing
+pub mod Says
+pub mod Shortest
+pub mod Sizes
+pub mod Ties
+pub mod Winner

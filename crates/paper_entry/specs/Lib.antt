@@ -1,0 +1,11 @@
+pub mod Tally
+pub mod Counted
+pub mod Claims
+pub mod Due
+pub mod Parts
+pub mod Next
+pub mod Verdict
+pub mod Judging
+pub mod Contexts
+pub mod Answer
+pub mod Part

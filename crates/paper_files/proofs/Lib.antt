@@ -1,0 +1,3 @@
+pub mod EntryRecords
+pub mod PlainParts
+pub mod Roles

@@ -1,0 +1,5 @@
+pub mod Outside
+pub mod File
+pub mod Parts
+pub mod PlainParts
+pub mod Numbers

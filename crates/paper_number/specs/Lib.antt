@@ -1,0 +1,12 @@
+pub mod Grammar
+pub mod Value
+pub mod Reading
+pub mod Claims
+pub mod Form
+pub mod Count
+pub mod Digits
+pub mod DigitClaims
+pub mod Walk
+pub mod Spelt
+pub mod Whole
+pub mod WholeClaims

@@ -1,0 +1,15 @@
+pub mod BlankFields
+pub mod ReadValues
+pub mod CodesNext
+pub mod SomeColumns
+pub mod NoColumns
+pub mod Rising
+pub mod Least
+pub mod FaultSaid
+pub mod ByKind
+pub mod Clean
+pub mod WithoutFault
+pub mod DueRecords
+pub mod Leftmost
+pub mod EitherWay
+pub mod RolePlaces

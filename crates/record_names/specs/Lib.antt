@@ -1,2 +1,0 @@
-pub mod Identifier
-pub mod PlainNames

@@ -1,2 +1,0 @@
-pub mod Repeats
-pub mod PlainRepeats

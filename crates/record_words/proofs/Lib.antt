@@ -1,3 +1,0 @@
-pub mod WordsAndBlanks
-pub mod EqualColumns
-pub mod EightColumns

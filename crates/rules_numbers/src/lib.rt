@@ -1,0 +1,2 @@
+// The rule for subentry numbers: refusal 9.
+pub mod numbers;

@@ -1,3 +1,0 @@
-pub mod Fault
-pub mod Parts
-pub mod Roles

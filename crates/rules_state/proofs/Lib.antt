@@ -1,2 +1,0 @@
-pub mod EitherWay
-pub mod RolePlaces

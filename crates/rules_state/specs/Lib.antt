@@ -1,4 +1,0 @@
-pub mod State
-pub mod Ranging
-pub mod Role
-pub mod Limits

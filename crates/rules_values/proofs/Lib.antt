@@ -1,2 +1,0 @@
-pub mod ReadValues
-pub mod BlankFields
