@@ -1,5 +1,5 @@
--- The questions: an answer comes from the verdict on the entry and the row of the subentry (`..By`, questions_values and
--- questions_parts), and both from the entry alone. Their refusals, in the paper's order, are in questions_refusals.
+-- The questions: an answer comes from the verdict on the entry and the row of the subentry (`..By` in
+-- ValueAnswers and PartAnswers), and both from the entry alone. Their refusals, in the paper's order, are in Refused.
 use Prim.Native.Nat.{ℕ}
 use mathlib.Core.Path.{_≡_}
 use mathlib.Core.List.{List}

@@ -3,7 +3,7 @@
 --
 -- The code follows the definitions of Word, Faults, System and Numbers, which compute. That they say the same is stated
 -- here (`WordExactly` ..), and proved in proofs/PlainColumns, PlainDigits and PlainValues. The names of the system
--- identifiers are said so in PlainNames of record_names.
+-- identifiers are said so in PlainNames.
 use Prim.Native.Nat.{ℕ, _+_, _<_, _≤_}
 use mathlib.Core.Path.{_≡_}
 use mathlib.Core.Bool.{Bool, true, false, _||_}
@@ -24,7 +24,7 @@ use Rattle.paper_record.specs.System.{digitsIn, numberIn, integerOf, Cou
 use Rattle.paper_record.specs.System.{isSubentN1, subentryOf}
 use Rattle.paper_record.specs.Numbers.{formAt, saysNumber, noValue}
 
--- ---- blank columns; equal ones are `SameColumns` of record_words
+-- ---- blank columns; equal ones are `SameColumns` of Same
 
 -- the first w columns are blank
 abbrev pub BlankColumns : ℕ → List ℕ → Type 0

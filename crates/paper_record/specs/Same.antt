@@ -1,5 +1,5 @@
 -- Equal columns in plain words: of columns only, with no search. A column that is not there counts as 0, which is no
--- character. That `equalTo` says the same is stated in Plain of record (`EqualExactly`).
+-- character. That `equalTo` says the same is stated in Plain (`EqualExactly`).
 use Prim.Native.Nat.{ℕ, _<_}
 use mathlib.Core.Path.{_≡_}
 use mathlib.Core.List.{List}

@@ -1,4 +1,4 @@
--- The rules for heading and unit records of COMMON and DATA: refusals 11 to 13. Rule 14 is that of rules_pointers.
+-- The rules for heading and unit records of COMMON and DATA: refusals 11 to 13. Rule 14 is that of Pointers.
 use Prim.Native.Nat.{ℕ}
 use lib.Dec.{eqb}
 use Rattle.paper_record.specs.Fields.{inField}

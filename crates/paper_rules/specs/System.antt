@@ -1,4 +1,4 @@
--- The rules for the fields of system records: refusals 7 and 9. Counts have a rule of their own (rules_counts).
+-- The rules for the fields of system records: refusals 7 and 9. Counts have a rule of their own (Counts).
 use Prim.Native.Nat.{ℕ}
 use mathlib.Core.Bool.{Bool, true, cond, not, _&&_, _||_}
 use mathlib.Core.List.{List, _++_}

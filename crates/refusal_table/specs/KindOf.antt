@@ -59,5 +59,5 @@ pub data KindOf (s : List ℕ) (i : ℕ) : ℕ → Type 0 where
   data-heading : (j : ℕ) → InRow s DATA j 0 i → KindOf s i DATA-HEADING
   data-unit : (j : ℕ) → InRow s DATA j 1 i → KindOf s i DATA-UNIT
   data-value : (j line : ℕ) → 1 ≤ line → line ≤ announcedN2 s j → InRow s DATA j (suc line) i → KindOf s i DATA-VALUE
-  -- what is due is said by `roleIn` (rules_state, Role) alone; here every record may be one that is not
+  -- what is due is said by `roleIn` (paper_rules, Role) alone; here every record may be one that is not
   not-due : KindOf s i NOT-DUE

@@ -3,7 +3,7 @@
 -- (`overField`) goes by the columns that judging has counted; `OverFields` (refusal_table, FlagFaults) tells that
 -- column plainly, by the record's place in its line.
 --
--- The code follows `rule17` (rules_flags, Flags), which computes over the bytes of these records. That it finds exactly
+-- The code follows `rule17` (paper_rules, Flags), which computes over the bytes of these records. That it finds exactly
 -- the values that are said here is stated below (`FlagsExactly`), and of one value by its test (`FlagWrongExactly`,
 -- `FlagFitsExactly`).
 use Prim.Native.Nat.{ℕ, _<_, _≤_}

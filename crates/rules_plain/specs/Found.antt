@@ -2,7 +2,7 @@
 --
 --   "A heading is compared with all earlier ones, section by section, and the search ends at the first equal heading"
 --
--- The code follows `equalHeading` (rules_earlier, Earlier). That it hands back the first place with an equal heading
+-- The code follows `equalHeading` (paper_rules, Earlier). That it hands back the first place with an equal heading
 -- is stated here (`FoundExactly`), and that it hands back none exactly where no heading is equal (`NothingExactly`).
 use Prim.Native.Nat.{ℕ, _-_, _<_, _≤_}
 use mathlib.Core.Path.{_≡_}

@@ -2,7 +2,7 @@
 -- 13 and 14 (document 01, "BIB, headings, pointers"; document 02, M-101): said over these records, with no offset and
 -- no search. What is wrong at a value for refusal 17 is said over them in Flags.
 --
--- The code follows `rule13` (rules_section, Headings) and `rule14` (rules_pointers, Pointers), which compute over the
+-- The code follows `rule13` and `rule14` (paper_rules, Headings and Pointers), which compute over the
 -- bytes of these records. That they find exactly the headings that are said here is stated below (`RepeatedExactly`,
 -- `LostExactly`).
 use Prim.Native.Nat.{ℕ, _-_, _<_}

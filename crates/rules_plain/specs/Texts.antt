@@ -1,7 +1,7 @@
 -- What is wrong at a text record, one inside BIB, for refusals 10 and 11 (document 01, "BIB, headings, pointers"): said
 -- over the records of this BIB before it, with no offset, no search and no state.
 --
--- The code follows `rule10` and `rule11Text` (rules_text, Text), which compute over the bytes of these records. That
+-- The code follows `rule10` and `rule11Text` (paper_rules, Text), which compute over the bytes of these records. That
 -- they find a fault exactly where one is said here is stated below (`KeywordExactly` ..), and proved in proofs/Texts.
 use Prim.Native.Nat.{ℕ, _<_}
 use mathlib.Core.Path.{_≡_}
