@@ -259,21 +259,30 @@ static uint64_t judged(const uint8_t *entry, size_t n, uint64_t totals[4]) {
     return word;
 }
 
-static void copies(const Buffer *entry, Buffer *copy, Buffer *again, uint64_t verdict, const uint64_t totals[4]) {
+typedef uint64_t Copier(const uint8_t *, size_t, uint8_t *, size_t);
+
+// Whether a call copied its input, and what it stored where it did not and past the input's length.
+static int copied_by(Copier *call, const Buffer *input, Buffer *copy, uint64_t verdict) {
     static uint8_t before[ROOM];
-    size_t n = entry->length, room = below(2) ? n + below(100) : below(n + 100);
+    size_t n = input->length, room = below(2) ? n + below(100) : below(n + 100);
     lay(copy, room);
     memset(before, '#', room);
     memcpy(copy->bytes, before, room);
-    uint64_t word = x4_copy(entry->bytes, n, copy->bytes, room);
+    uint64_t word = call(input->bytes, n, copy->bytes, room);
     told(word, verdict, "\x1f\x25");
     if (word) {
         check(x4_refusal(word) == 31 || room < n, "37 where the buffer is shorter");
         check(!memcmp(copy->bytes, before, room), "a refused call stores nothing");
-        return;
+        return 0;
     }
+    check(!memcmp(copy->bytes + n, before, room - n), "bytes past the input's length stay");
+    return 1;
+}
+
+static void copies(const Buffer *entry, Buffer *copy, Buffer *again, uint64_t verdict, const uint64_t totals[4]) {
+    if (!copied_by(x4_copy, entry, copy, verdict)) return;
+    size_t n = entry->length;
     uint64_t copied[4];
-    check(!memcmp(copy->bytes + n, before, room - n), "bytes past the entry's length stay");
     check(judged(copy->bytes, n, copied) == verdict && !memcmp(copied, totals, sizeof copied),
           "the copy has the entry's verdict");
     lay(again, n);
@@ -369,20 +378,9 @@ static void entries_of(const Buffer *file, uint64_t verdict, const uint64_t tota
 static uint64_t file_refusals[64], inside, begun;
 
 static void file_copies(const Buffer *file, Buffer *copy, Buffer *again, uint64_t verdict, const uint64_t totals[4]) {
-    static uint8_t before[ROOM];
-    size_t n = file->length, room = below(2) ? n + below(100) : below(n + 100);
-    lay(copy, room);
-    memset(before, '#', room);
-    memcpy(copy->bytes, before, room);
-    uint64_t word = x4_copy_file(file->bytes, n, copy->bytes, room);
-    told(word, verdict, "\x1f\x25");
-    if (word) {
-        check(x4_refusal(word) == 31 || room < n, "37 where the buffer is shorter");
-        check(!memcmp(copy->bytes, before, room), "a refused call stores nothing");
-        return;
-    }
+    if (!copied_by(x4_copy_file, file, copy, verdict)) return;
+    size_t n = file->length;
     uint64_t copied[4];
-    check(!memcmp(copy->bytes + n, before, room - n), "bytes past the file's length stay");
     check(judged_file(copy->bytes, n, copied) == 0 && !memcmp(copied, totals, sizeof copied),
           "the copy has the file's verdict");
     for (size_t at = RECORD, length; (length = entry_at(file, at)) != 0; at += length) {
