@@ -1,5 +1,5 @@
 //! Finds the archives of proved functions, made by `rt staticlib` of the crates `exports`, `exports_questions`,
-//! `exports_files` and `exports_file_copies`, and has them linked.
+//! `exports_files`, `exports_file_copies` and `exports_reasons`, and has them linked.
 //!
 //! `X4_ARCHIVES` names their folder and they must then be there; otherwise they are looked for where `rt` leaves them.
 //! `rt` makes archives for x86-64. For another processor than theirs, or where one is missing, nothing is linked, the
@@ -8,8 +8,8 @@
 use std::env;
 use std::path::{Path, PathBuf};
 
-/// The crates whose functions are linked. They are four, since a function with one caller in an archive is inlined.
-const CRATES: [&str; 4] = ["exports", "exports_questions", "exports_files", "exports_file_copies"];
+/// The crates whose functions are linked. They are five, since a function with one caller in an archive is inlined.
+const CRATES: [&str; 5] = ["exports", "exports_questions", "exports_files", "exports_file_copies", "exports_reasons"];
 
 fn main() {
     println!("cargo::rustc-check-cfg=cfg(proved)");

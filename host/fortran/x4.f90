@@ -1,11 +1,12 @@
 ! The functions of the proved archives (rt staticlib) for Fortran. The numbers are document 01's; the count of digits is
-! that of document 02, M-104, refusal 17, a flag with an exponent or one that equals no code, that of M-105, and
-! transmissions are those of M-100.
+! that of document 02, M-104, refusal 17, a flag with an exponent or one that equals no code, that of M-105,
+! transmissions are those of M-100, and reasons those of M-108.
 !
 ! A call returns a word, 0 where it is answered, and then stores what it answers in an array that is lent to it:
 ! totals(4) are subentries, keywords, DATA lines, numbers; value(8) are kind (0 blank, 1 number), 1 if below zero,
 ! coefficient, power of ten, count of digits, three zeros; part(3) are the first byte counted from 0, the length, the
-! pointer. A refused call stores nothing. The word has the number of the refusal in bits 0-7, the refusal of the entry
+! pointer. A refused call stores nothing but the reason that it is asked for: facts(3) are its kind and two numbers, and
+! beside them stand eight characters. The word has the number of the refusal in bits 0-7, the refusal of the entry
 ! or transmission in 8-15, its column in 16-23, its record in 24-47, the ordinal of the entry in a transmission in
 ! 48-63.
 module x4
@@ -15,6 +16,7 @@ module x4
   public :: x4_version, x4_interface, x4_refused, x4_value, x4_part, x4_verdict
   public :: x4_judged, x4_ask_value, x4_ask_heading, x4_ask_unit, x4_ask_passage, x4_copied, x4_read, x4_write
   public :: x4_judged_file, x4_entry_at, x4_copied_file
+  public :: x4_reason, x4_explained, x4_explained_file
 
   ! The interface that this module describes; x4_version() is the same of the archives.
   integer(c_int32_t), parameter :: x4_interface = 4
@@ -50,6 +52,21 @@ module x4
     integer(c_int32_t) :: subentries = 0, keywords = 0, lines = 0, numbers = 0
     integer(c_int32_t) :: ordinal = 0
   end type x4_verdict
+
+  ! A verdict, and the facts of its refusal by their kind:
+  !   0  nothing more is said: accepted, or another refusal than 5, 6, 8, 9, 13 and 14
+  !   1  the count that is announced and the true one (8)
+  !   2  the least and the greatest, 0 for none (8)
+  !   3  the number of the subentry before, 0 for none (9)
+  !   4  record and column of the first equal heading (13)
+  !   5  the pointer, by its code (14)
+  !   6  the expected characters: eight, or five and blanks (5 and 6)
+  type :: x4_reason
+    type(x4_verdict) :: verdict
+    integer(c_int32_t) :: kind = 0
+    integer(c_int64_t) :: first = 0, second = 0
+    character(len=8, kind=c_char) :: characters = ' '
+  end type x4_reason
 
   interface
     function x4_version() bind(c, name='x4_version') result(version)
@@ -151,6 +168,24 @@ module x4
       integer(c_size_t), value :: length, out_length
       integer(c_int64_t) :: word
     end function x4_copy_file
+
+    function x4_explain(entry, length, totals, facts, characters) bind(c, name='x4_explain') result(word)
+      import :: c_char, c_int64_t, c_size_t
+      character(kind=c_char), intent(in) :: entry(*)
+      integer(c_size_t), value :: length
+      integer(c_int64_t), intent(inout) :: totals(4), facts(3)
+      character(kind=c_char), intent(inout) :: characters(8)
+      integer(c_int64_t) :: word
+    end function x4_explain
+
+    function x4_explain_file(file, length, totals, facts, characters) bind(c, name='x4_explain_file') result(word)
+      import :: c_char, c_int64_t, c_size_t
+      character(kind=c_char), intent(in) :: file(*)
+      integer(c_size_t), value :: length
+      integer(c_int64_t), intent(inout) :: totals(4), facts(3)
+      character(kind=c_char), intent(inout) :: characters(8)
+      integer(c_int64_t) :: word
+    end function x4_explain_file
   end interface
 
 contains
@@ -193,6 +228,28 @@ contains
     type(x4_refused) :: r
     r = refused_in(x4_copy_file(file, len(file, c_size_t), copy, len(copy, c_size_t)))
   end function x4_copied_file
+
+  ! Judges an entry and says why it is refused.
+  function x4_explained(entry) result(r)
+    character(len=*, kind=c_char), intent(in) :: entry
+    type(x4_reason) :: r
+    integer(c_int64_t) :: word, totals(4), facts(3)
+    totals = 0
+    facts = 0
+    word = x4_explain(entry, len(entry, c_size_t), totals, facts, r%characters)
+    call put_reason(word, totals, facts, r)
+  end function x4_explained
+
+  ! Judges a transmission and says why it is refused; records are counted from TRANS.
+  function x4_explained_file(file) result(r)
+    character(len=*, kind=c_char), intent(in) :: file
+    type(x4_reason) :: r
+    integer(c_int64_t) :: word, totals(4), facts(3)
+    totals = 0
+    facts = 0
+    word = x4_explain_file(file, len(file, c_size_t), totals, facts, r%characters)
+    call put_reason(word, totals, facts, r)
+  end function x4_explained_file
 
   ! The value in a line and a column of section 1 (COMMON, line 1 only) or 2 (DATA) of a subentry.
   function x4_ask_value(entry, subentry, section, line, column) result(v)
@@ -295,6 +352,16 @@ contains
     v%lines = int(totals(3), c_int32_t)
     v%numbers = int(totals(4), c_int32_t)
   end function verdict_in
+
+  ! all but the characters, which are there
+  pure subroutine put_reason(word, totals, facts, r)
+    integer(c_int64_t), intent(in) :: word, totals(4), facts(3)
+    type(x4_reason), intent(inout) :: r
+    r%verdict = verdict_in(word, totals)
+    r%kind = int(facts(1), c_int32_t)
+    r%first = facts(2)
+    r%second = facts(3)
+  end subroutine put_reason
 
   pure function value_in(word, numbers) result(v)
     integer(c_int64_t), intent(in) :: word, numbers(8)

@@ -2,10 +2,10 @@
  *
  * A slice of bytes is a pointer and a length. Every call answers for every argument: nothing has to be tested before,
  * but a pointer must be that of so many bytes or numbers. The numbers are document 01's; the count of digits is that of
- * document 02, M-104, refusal 17 that of M-105, and transmissions are those of M-100.
+ * document 02, M-104, refusal 17 that of M-105, transmissions are those of M-100, and reasons those of M-108.
  *
  * A call returns a word, 0 where it is answered, and then stores what it answers in the array that is lent to it, as
- * long as its parameter says. A refused call stores nothing.
+ * long as its parameter says. A refused call stores nothing but the reason that it is asked for.
  *
  *     bits    the word that a call returns
  *     0-7     the number of its refusal; 0 answered
@@ -21,6 +21,18 @@
  *     totals[3] numbers       value[3] power of ten, two's complement
  *                             value[4] count of digits written
  *                             value[5] to value[7] zeros
+ *
+ *     facts[0]                          facts[1]                                      facts[2]
+ *     0 nothing more is said            0                                             0
+ *     1 a count                         what is announced                             what is true
+ *     2 a range                         the least                                     the greatest; 0 is none
+ *     3 the subentry before             its number; 0 is none                         0
+ *     4 the first equal heading         its record, counted as the verdict counts     the first column of its field
+ *     5 the pointer                     its byte                                      0
+ *     6 the expected characters         0                                             0
+ *
+ * The expected characters stand in characters[8]: eight with refusal 5; with 6 five, and three blanks. It has eight
+ * blanks beside every other kind.
  *
  * Digits count from the first that is not zero to the last written, before and behind the point, none of the exponent:
  * 3 in 0.140, 2 in 0.14, 3 in 100., 1 in 1.+2, 0 in zero and in a blank, at most 10. The canonical copy has the same
@@ -90,6 +102,18 @@ size_t x4_entry_length(const uint8_t *file, size_t length, size_t at);
 /* Stores the canonical copy of a transmission in the front of a buffer that does not overlap it: TRANS and ENDTRANS as
  * they are, each entry its own copy. Refusals: 31, 37 buffer shorter than the transmission. */
 uint64_t x4_copy_file(const uint8_t *file, size_t length, uint8_t *out, size_t out_length);
+
+/* ---- why: the verdict once more, and the facts of its refusal */
+
+/* The word of x4_judge or x4_judge_file for the same bytes, and their totals, which are stored only where it is 0.
+ * The reason is stored always, in facts and characters: 6 with refusals 5 and 6; 1 or 2 with 8; 3 with 9; 4 with 13; 5
+ * with 14; 0 with every other refusal and where the word is 0.
+ *
+ * With 8 the announced count is that of the record itself; where ENDBIB says its own truly, it is N1 of BIB, and the
+ * true one is the number of its keywords. In a transmission the record of an equal heading counts from TRANS. */
+uint64_t x4_explain(const uint8_t *entry, size_t length, uint64_t totals[4], uint64_t facts[3], uint8_t characters[8]);
+uint64_t x4_explain_file(const uint8_t *file, size_t length, uint64_t totals[4], uint64_t facts[3],
+                         uint8_t characters[8]);
 
 /* ---- the word that a call returns */
 

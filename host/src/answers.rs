@@ -140,6 +140,99 @@ impl fmt::Display for Verdict {
     }
 }
 
+/// The facts of a refusal (M-108). Records and columns count as in the verdict.
+#[derive(Clone, Copy, Debug, Default, PartialEq, Eq, Hash)]
+pub enum Reason {
+    /// Nothing more is said: what is accepted, and a refusal other than 5, 6, 8, 9, 13 and 14.
+    #[default]
+    Alone,
+    /// 8: a count that is announced, and the true one.
+    Count {
+        /// What the record says; where ENDBIB itself is true, N1 of BIB.
+        announced: u64,
+        /// What it should say.
+        due: u64,
+    },
+    /// 8: a count out of its range.
+    Range {
+        /// The least.
+        least: u64,
+        /// The greatest; 0 for none.
+        greatest: u64,
+    },
+    /// 9: the number of the subentry before; 0 if there is none.
+    Previous(u32),
+    /// 13: where the first equal heading stands.
+    Equal {
+        /// Its record.
+        record: u32,
+        /// The first column of its field.
+        column: u32,
+    },
+    /// 14: the pointer that is not found.
+    Pointer(u8),
+    /// 5 and 6: the expected characters. With 5 they are eight, with 6 five and three blanks.
+    Expected([u8; 8]),
+}
+
+impl Reason {
+    /// The three numbers that the archives store for it: the kind, and its values.
+    pub fn facts(&self) -> [u64; 3] {
+        match *self {
+            Reason::Alone => [0, 0, 0],
+            Reason::Count { announced, due } => [1, announced, due],
+            Reason::Range { least, greatest } => [2, least, greatest],
+            Reason::Previous(number) => [3, number.into(), 0],
+            Reason::Equal { record, column } => [4, record.into(), column.into()],
+            Reason::Pointer(pointer) => [5, pointer.into(), 0],
+            Reason::Expected(_) => [6, 0, 0],
+        }
+    }
+
+    /// The eight characters that they store beside them: blanks, where none are expected.
+    pub fn characters(&self) -> [u8; 8] {
+        match *self {
+            Reason::Expected(characters) => characters,
+            _ => [b' '; 8],
+        }
+    }
+
+    /// The expected characters as they are printed, if there are any, of a refusal with this number: with 6 five.
+    pub fn expected(&self, number: u32) -> Option<&[u8]> {
+        match self {
+            Reason::Expected(characters) if number == 6 => Some(&characters[..5]),
+            Reason::Expected(characters) => Some(characters),
+            _ => None,
+        }
+    }
+}
+
+/// A verdict with its reason (M-108).
+#[derive(Clone, Copy, Debug, PartialEq, Eq, Hash)]
+pub struct Explained {
+    /// What judging says.
+    pub verdict: Verdict,
+    /// The facts of its refusal.
+    pub reason: Reason,
+}
+
+impl Explained {
+    /// The line that stands below the verdict, if there is one: the facts alone, as the program `why` prints them.
+    pub fn line(&self) -> Option<String> {
+        let number = self.verdict.refusal()?.number;
+        match self.reason {
+            Reason::Alone => None,
+            Reason::Count { announced: one, due: other } | Reason::Range { least: one, greatest: other } => {
+                Some(format!("{one} {other}"))
+            }
+            Reason::Previous(number) => Some(format!("{number:03}")),
+            Reason::Equal { record, column } => Some(format!("{record} {column}")),
+            Reason::Pointer(pointer) => Some(char::from(pointer).to_string()),
+            Reason::Expected(_) => self.reason.expected(number).map(|text| String::from_utf8_lossy(text).into_owned()),
+        }
+    }
+}
+
 /// Why a question, a copy, a reading or a writing has no answer.
 #[derive(Clone, Copy, Debug, PartialEq, Eq, Hash)]
 pub struct NoAnswer {

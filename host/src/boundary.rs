@@ -6,7 +6,7 @@
 //! of the tests, `stack` is too.
 
 #[cfg(proved)]
-use crate::{words, Decimal, FieldRead, NoAnswer, Part, Verdict};
+use crate::{words, Decimal, Explained, FieldRead, NoAnswer, Part, Verdict};
 use std::ffi::{c_char, c_double, CStr};
 
 extern "C" {
@@ -51,6 +51,20 @@ extern "C" {
     fn x4_judge_file(file: *const u8, length: usize, totals: *mut [u64; 4]) -> u64;
     fn x4_entry_length(file: *const u8, length: usize, at: usize) -> usize;
     fn x4_copy_file(file: *const u8, length: usize, out: *mut u8, out_length: usize) -> u64;
+    fn x4_explain(
+        entry: *const u8,
+        length: usize,
+        totals: *mut [u64; 4],
+        facts: *mut [u64; 3],
+        characters: *mut [u8; 8],
+    ) -> u64;
+    fn x4_explain_file(
+        file: *const u8,
+        length: usize,
+        totals: *mut [u64; 4],
+        facts: *mut [u64; 3],
+        characters: *mut [u8; 8],
+    ) -> u64;
 }
 
 /// The version of the archives' interface, which is to be [`words::VERSION`].
@@ -156,6 +170,24 @@ pub fn copy_file(file: &[u8], buffer: &mut [u8]) -> Result<(), NoAnswer> {
     words::answered(unsafe { x4_copy_file(file.as_ptr(), file.len(), first, length) })
 }
 
+/// Judges one entry and says why it is refused.
+#[cfg(proved)]
+pub fn explain(entry: &[u8]) -> Explained {
+    let (mut totals, mut facts, mut characters) = ([0; 4], [0; 3], [0; 8]);
+    // SAFETY: the pointer and the length are those of one slice, which is only read; the arrays are this call's own.
+    let word = unsafe { x4_explain(entry.as_ptr(), entry.len(), &mut totals, &mut facts, &mut characters) };
+    words::explained(word, totals, facts, characters)
+}
+
+/// Judges one transmission and says why it is refused.
+#[cfg(proved)]
+pub fn explain_file(file: &[u8]) -> Explained {
+    let (mut totals, mut facts, mut characters) = ([0; 4], [0; 3], [0; 8]);
+    // SAFETY: the pointer and the length are those of one slice, which is only read; the arrays are this call's own.
+    let word = unsafe { x4_explain_file(file.as_ptr(), file.len(), &mut totals, &mut facts, &mut characters) };
+    words::explained(word, totals, facts, characters)
+}
+
 /// What C's own reader makes of a text: for comparisons of speed.
 pub fn c_read(text: &CStr) -> f64 {
     // SAFETY: the text ends with a zero byte, and no end is asked for.
@@ -177,6 +209,9 @@ mod tests {
     use crate::{DATA, RECORD};
 
     const BEFORE: u64 = 0xa5a5_a5a5_a5a5_a5a5;
+
+    /// A call that says why.
+    type Explain = unsafe extern "C" fn(*const u8, usize, *mut [u64; 4], *mut [u64; 3], *mut [u8; 8]) -> u64;
 
     #[test]
     fn header_and_archives_are_of_one_version() {
@@ -269,6 +304,53 @@ mod tests {
         // SAFETY: the pointer and the length are those of one slice, which is only read.
         let lengths = lengths.map(|at| unsafe { x4_entry_length(file.as_ptr(), file.len(), at) });
         assert_eq!(lengths, [0, 26 * 81, 0, 26 * 81, 0, 0, 0, 0]);
+    }
+
+    /// The reason is stored always, the totals of what is accepted alone.
+    #[test]
+    fn reasons_are_stored() {
+        let sample = include_bytes!("../data/sample.x4");
+        let line = |text: &str| format!("{text:80}\n").into_bytes();
+        let (trans, end) = (line("TRANS             X001   20240105"), line("ENDTRANS             1"));
+        let asked = |entry: &[u8], file: &[u8]| {
+            let ask = |call: Explain, bytes: &[u8]| {
+                let (mut totals, mut facts, mut characters) = ([BEFORE; 4], [BEFORE; 3], [b'#'; 8]);
+                // SAFETY: the pointer and the length are those of one slice; the arrays are this function's own.
+                let word = unsafe { call(bytes.as_ptr(), bytes.len(), &mut totals, &mut facts, &mut characters) };
+                (word, totals, facts, characters)
+            };
+            [ask(x4_explain, entry), ask(x4_explain_file, file)]
+        };
+        let changed = |record: usize, column: usize, text: &str| {
+            let mut entry = sample.to_vec();
+            entry[(record - 1) * RECORD + column - 1..][..text.len()].copy_from_slice(text.as_bytes());
+            let file = [&trans[..], &entry, &end].concat();
+            asked(&entry, &file)
+        };
+        let beside = |number: u64, record: u64, column: u64, ordinal: u64| {
+            number + (number << 8) + (column << 16) + (record << 24) + (ordinal << 48)
+        };
+        let (totals, blanks) = ([2, 3, 2, 6], *b"        ");
+        assert_eq!(changed(1, 80, " "), [(0, totals, [0; 3], blanks); 2]);
+        // heading EN in record 20: the COMMON of 001 has it, on record 8 of the entry
+        let equal = |record| [4, record, 1];
+        assert_eq!(
+            changed(20, 1, "EN "),
+            [
+                (beside(13, 20, 1, 0), [BEFORE; 4], equal(8), blanks),
+                (beside(13, 21, 1, 1), [BEFORE; 4], equal(9), blanks)
+            ]
+        );
+        assert_eq!(
+            changed(20, 79, "9"),
+            [
+                (beside(6, 20, 75, 0), [BEFORE; 4], [6, 0, 0], *b"00008   "),
+                (beside(6, 21, 75, 1), [BEFORE; 4], [6, 0, 0], *b"00008   ")
+            ]
+        );
+        // 15 has no reason, nor has an empty input
+        assert_eq!(changed(22, 12, "X").map(|said| (said.2, said.3)), [([0; 3], blanks); 2]);
+        assert_eq!(asked(&[], &[]), [(beside(1, 0, 0, 0), [BEFORE; 4], [0; 3], blanks); 2]);
     }
 
     /// The array behind a reading that is answered.

@@ -4,11 +4,12 @@
 
 use crate::generate::{self, Kind, Random, Sheet, BELOW, CAUSES};
 use crate::reference::record::permitted;
-use crate::{library, reference, Decimal, FieldRead, NoAnswer, Part, Refusal, Verdict, RECORD};
+use crate::{library, reference, Decimal, Explained, FieldRead, NoAnswer, Part, Reason, Refusal, Verdict, RECORD};
 use std::collections::BTreeMap;
 use std::fmt;
 
-/// What an implementation of the paper answers. By default the answers are the reference's.
+/// What an implementation of the paper answers. By default the answers are the reference's, and what is explained has
+/// the verdict of judging.
 pub trait Implementation {
     /// The verdict on an entry.
     fn judge(&self, entry: &[u8]) -> Verdict {
@@ -49,6 +50,14 @@ pub trait Implementation {
     fn copy_file(&self, file: &[u8], buffer: &mut [u8]) -> Result<(), NoAnswer> {
         reference::copy_file(file, buffer)
     }
+    /// The verdict on an entry, and why.
+    fn explain(&self, entry: &[u8]) -> Explained {
+        Explained { verdict: self.judge(entry), ..reference::explain(entry) }
+    }
+    /// The verdict on a transmission, and why.
+    fn explain_file(&self, file: &[u8]) -> Explained {
+        Explained { verdict: self.judge_file(file), ..reference::explain_file(file) }
+    }
     /// The reading of a field, and its count of digits.
     fn read_number(&self, field: &[u8]) -> Result<FieldRead, NoAnswer> {
         reference::read_number(field)
@@ -62,7 +71,14 @@ pub trait Implementation {
 /// The reference.
 pub struct Reference;
 
-impl Implementation for Reference {}
+impl Implementation for Reference {
+    fn explain(&self, entry: &[u8]) -> Explained {
+        reference::explain(entry)
+    }
+    fn explain_file(&self, file: &[u8]) -> Explained {
+        reference::explain_file(file)
+    }
+}
 
 /// The library.
 pub struct Library;
@@ -97,6 +113,12 @@ impl Implementation for Library {
     }
     fn copy_file(&self, file: &[u8], buffer: &mut [u8]) -> Result<(), NoAnswer> {
         library::copy_file(file, buffer)
+    }
+    fn explain(&self, entry: &[u8]) -> Explained {
+        library::explain(entry)
+    }
+    fn explain_file(&self, file: &[u8]) -> Explained {
+        library::explain_file(file)
     }
     fn read_number(&self, field: &[u8]) -> Result<FieldRead, NoAnswer> {
         library::read_number(field)
@@ -160,6 +182,8 @@ pub struct Counts {
     pub verdicts: Tally,
     /// Verdicts on the same entries with other records below the refused one, or with one behind an accepted entry.
     pub below: Tally,
+    /// Reasons of verdicts, those with other records below among them, by the kind that the archives store.
+    pub reasons: Tally,
     /// Answers to questions and copies.
     pub answers: Tally,
     /// Verdicts on transmissions.
@@ -168,6 +192,8 @@ pub struct Counts {
     pub inside: Tally,
     /// Verdicts on the same transmissions with other records below the refused one, or with one behind ENDTRANS.
     pub files_below: Tally,
+    /// Reasons of verdicts on transmissions, by kind.
+    pub file_reasons: Tally,
     /// Copies of transmissions.
     pub file_copies: Tally,
     /// Bytes of transmissions at which an entry begins, and at which none does.
@@ -183,10 +209,12 @@ impl fmt::Display for Counts {
         let groups = [
             ("verdicts", &self.verdicts),
             ("verdicts with other records below", &self.below),
+            ("reasons by kind", &self.reasons),
             ("questions and copies", &self.answers),
             ("verdicts on transmissions", &self.files),
             ("those inside an entry", &self.inside),
             ("verdicts on transmissions with other records below", &self.files_below),
+            ("reasons of transmissions by kind", &self.file_reasons),
             ("copies of transmissions", &self.file_copies),
             ("number fields read", &self.readings),
             ("decimals written", &self.writings),
@@ -222,24 +250,31 @@ impl<'i> Pair<'i> {
             let mut random = Random::seeded(seed);
             let sheet = input(&mut random);
             let asked = self.entry(&mut random, &sheet);
-            let verdict = asked.map_err(|words| Difference { seed, words, input: sheet.bytes.clone() })?;
-            if let Some((input, due)) = other_below(&mut random, &sheet.bytes, verdict) {
+            let explained = asked.map_err(|words| Difference { seed, words, input: sheet.bytes.clone() })?;
+            if let Some((input, due)) = other_below(&mut random, &sheet.bytes, explained) {
                 self.below(&input, &due).map_err(|words| Difference { seed, words, input })?;
             }
         }
         Ok(())
     }
 
-    /// Asks both to judge an entry with one byte changed, for every byte and all of these values.
+    /// Asks both about the verdicts on the same entries and why, and nothing else.
+    pub fn verdicts(&mut self, seed: u64, count: u64) -> Result<(), Difference> {
+        for seed in seed..seed + count {
+            let input = input(&mut Random::seeded(seed)).bytes;
+            self.judged(&input).map_err(|words| Difference { seed, words, input })?;
+        }
+        Ok(())
+    }
+
+    /// Asks both to judge an entry and say why with one byte changed, for every byte and all of these values.
     pub fn bytes(&mut self, entry: &[u8], values: &[u8]) -> Result<(), Difference> {
         let mut changed = entry.to_vec();
         for place in 0..entry.len() {
             for &value in values {
                 changed[place] = value;
-                let (one, other) = (self.one.judge(&changed), self.other.judge(&changed));
-                self.counts.verdicts.count(one.numbers()[0]);
                 let seed = place as u64;
-                same("judge", &one, &other).map_err(|words| Difference { seed, words, input: changed.clone() })?;
+                self.judged(&changed).map_err(|words| Difference { seed, words, input: changed.clone() })?;
             }
             changed[place] = entry[place];
         }
@@ -262,28 +297,49 @@ impl<'i> Pair<'i> {
         seeded.try_for_each(|(seed, file)| self.file(seed, &mut Random::seeded(seed), file))
     }
 
-    /// The verdict on one transmission, the lengths of its entries and a copy; and the verdict with other records
-    /// below.
+    /// The verdict on one transmission and why, the lengths of its entries and a copy; and the verdict with other
+    /// records below.
     fn file(&mut self, seed: u64, random: &mut Random, file: &[u8]) -> Result<(), Difference> {
         let asked = self.whole_file(random, file);
-        let verdict = asked.map_err(|words| Difference { seed, words, input: file.to_vec() })?;
-        let Some((input, due)) = other_below(random, file, verdict) else { return Ok(()) };
+        let explained = asked.map_err(|words| Difference { seed, words, input: file.to_vec() })?;
+        let Some((input, due)) = other_below(random, file, explained) else { return Ok(()) };
         // Behind a full one the length is refused.
-        let due = if input.len() > MOST_IN_FILE { Verdict::Refused(Refusal::new(1, 0, 0)) } else { due };
-        let (one, other) = (self.one.judge_file(&input), self.other.judge_file(&input));
-        self.counts.files_below.count(one.numbers()[0]);
-        let same = same("judge_file with other records below", &one, &other)
-            .and_then(|()| same("judge_file with other records below: both, and what is due", &one, &due));
-        same.map_err(|words| Difference { seed, words, input })
+        let due = if input.len() > MOST_IN_FILE { alone(Refusal::new(1, 0, 0)) } else { due };
+        self.file_below(&input, &due).map_err(|words| Difference { seed, words, input })
     }
 
-    /// What both say of one transmission. Hands back the verdict.
-    fn whole_file(&mut self, random: &mut Random, file: &[u8]) -> Result<Verdict, String> {
+    /// The verdict on a transmission with other records below and why, beside what is due.
+    fn file_below(&mut self, input: &[u8], due: &Explained) -> Result<(), String> {
+        let (one, other) = (self.one.judge_file(input), self.other.judge_file(input));
+        self.counts.files_below.count(one.numbers()[0]);
+        same("judge_file with other records below", &one, &other)?;
+        same("judge_file with other records below: both, and what is due", &one, &due.verdict)?;
+        let explained = self.explained_file(input, one)?;
+        same("explain_file with other records below: both, and what is due", &explained, due)
+    }
+
+    /// The verdict on a transmission, and why.
+    fn judged_file(&mut self, file: &[u8]) -> Result<Explained, String> {
         let (verdict, other) = (self.one.judge_file(file), self.other.judge_file(file));
         same("judge_file", &verdict, &other)?;
         self.counts.files.count(verdict.numbers()[0]);
-        if verdict.ordinal() > 0 {
-            self.counts.inside.count(verdict.numbers()[0]);
+        self.explained_file(file, verdict)
+    }
+
+    /// Why a transmission has its verdict.
+    fn explained_file(&mut self, file: &[u8], verdict: Verdict) -> Result<Explained, String> {
+        let (one, other) = (self.one.explain_file(file), self.other.explain_file(file));
+        same("explain_file", &one, &other)?;
+        same("judge_file, and explain_file", &verdict, &one.verdict)?;
+        self.counts.file_reasons.count(kind(&one.reason));
+        Ok(one)
+    }
+
+    /// What both say of one transmission. Hands back the verdict, and why.
+    fn whole_file(&mut self, random: &mut Random, file: &[u8]) -> Result<Explained, String> {
+        let explained = self.judged_file(file)?;
+        if explained.verdict.ordinal() > 0 {
+            self.counts.inside.count(explained.verdict.numbers()[0]);
         }
         // At every record's first byte, at some others, and past the end.
         let odd = [file.len(), file.len() + 1, file.len() + RECORD, usize::MAX, 1, RECORD - 1, RECORD + 1];
@@ -300,21 +356,19 @@ impl<'i> Pair<'i> {
         self.counts.file_copies.add(&copied);
         same("copy_file", &copied, &other)?;
         match first == second {
-            true => Ok(verdict),
+            true => Ok(explained),
             false => Err("copy_file: other bytes".into()),
         }
     }
 
-    /// Asks both to judge a transmission with one byte of TRANS or ENDTRANS changed, for all of these values.
+    /// Asks both to judge a transmission and say why with one byte of TRANS or ENDTRANS changed, for all of these values.
     pub fn file_bytes(&mut self, file: &[u8], values: &[u8]) -> Result<(), Difference> {
         let mut changed = file.to_vec();
         for place in (0..RECORD).chain(file.len() - RECORD..file.len()) {
             for &value in values {
                 changed[place] = value;
-                let (one, other) = (self.one.judge_file(&changed), self.other.judge_file(&changed));
-                self.counts.files.count(one.numbers()[0]);
                 let seed = place as u64;
-                same("judge_file", &one, &other).map_err(|words| Difference { seed, words, input: changed.clone() })?;
+                self.judged_file(&changed).map_err(|words| Difference { seed, words, input: changed.clone() })?;
             }
             changed[place] = file[place];
         }
@@ -351,12 +405,10 @@ impl<'i> Pair<'i> {
         Ok(())
     }
 
-    /// The verdict, some questions and a copy of one input. Hands back the verdict.
-    fn entry(&mut self, random: &mut Random, sheet: &Sheet) -> Result<Verdict, String> {
+    /// The verdict, some questions and a copy of one input. Hands back the verdict, and why.
+    fn entry(&mut self, random: &mut Random, sheet: &Sheet) -> Result<Explained, String> {
         let entry = &sheet.bytes;
-        let (verdict, other) = (self.one.judge(entry), self.other.judge(entry));
-        same("judge", &verdict, &other)?;
-        self.counts.verdicts.count(verdict.numbers()[0]);
+        let explained = self.judged(entry)?;
         for _ in 0..12 {
             self.question(random, sheet)?;
         }
@@ -367,16 +419,34 @@ impl<'i> Pair<'i> {
         let other = self.other.canonical_copy(entry, &mut second);
         self.counts.answers.add(&copied);
         same("canonical_copy", &(copied, first), &(other, second))?;
-        Ok(verdict)
+        Ok(explained)
     }
 
-    /// The verdict on an input with other records below, beside what is due.
-    fn below(&mut self, input: &[u8], due: &Verdict) -> Result<(), String> {
+    /// The verdict on an entry, and why.
+    fn judged(&mut self, entry: &[u8]) -> Result<Explained, String> {
+        let (verdict, other) = (self.one.judge(entry), self.other.judge(entry));
+        same("judge", &verdict, &other)?;
+        self.counts.verdicts.count(verdict.numbers()[0]);
+        self.explained(entry, verdict)
+    }
+
+    /// Why an entry has its verdict.
+    fn explained(&mut self, entry: &[u8], verdict: Verdict) -> Result<Explained, String> {
+        let (one, other) = (self.one.explain(entry), self.other.explain(entry));
+        same("explain", &one, &other)?;
+        same("judge, and explain", &verdict, &one.verdict)?;
+        self.counts.reasons.count(kind(&one.reason));
+        Ok(one)
+    }
+
+    /// The verdict on an input with other records below and why, beside what is due.
+    fn below(&mut self, input: &[u8], due: &Explained) -> Result<(), String> {
         let (one, other) = (self.one.judge(input), self.other.judge(input));
         same("judge with other records below", &one, &other)?;
-        same("judge with other records below: both, and what is due", &one, due)?;
+        same("judge with other records below: both, and what is due", &one, &due.verdict)?;
         self.counts.below.count(one.numbers()[0]);
-        Ok(())
+        let explained = self.explained(input, one)?;
+        same("explain with other records below: both, and what is due", &explained, due)
     }
 
     /// One question, often inside the entry's shape and sometimes beside it.
@@ -443,17 +513,27 @@ fn input(random: &mut Random) -> Sheet {
     sheet
 }
 
-/// The same input with other records below the refused one, and the same verdict, as the refusal depends on none of them;
-/// or with one record behind an accepted entry, which is refused there (M-111).
-fn other_below(random: &mut Random, input: &[u8], verdict: Verdict) -> Option<(Vec<u8>, Verdict)> {
-    match verdict {
+/// The kind of a reason.
+fn kind(reason: &Reason) -> u32 {
+    reason.facts()[0] as u32
+}
+
+/// A refusal of which nothing more is said.
+fn alone(refusal: Refusal) -> Explained {
+    Explained { verdict: Verdict::Refused(refusal), reason: Reason::Alone }
+}
+
+/// The same input with other records below the refused one, and the same verdict and reason, as the refusal depends on
+/// none of them; or with one record behind an accepted entry, which is refused there (M-111).
+fn other_below(random: &mut Random, input: &[u8], explained: Explained) -> Option<(Vec<u8>, Explained)> {
+    match explained.verdict {
         Verdict::Accepted(_) => {
             let added = generate::added(random, input);
-            Some(([input, &added].concat(), Verdict::Refused(behind(input, &added))))
+            Some(([input, &added].concat(), alone(behind(input, &added))))
         }
         Verdict::Refused(refusal) if refusal.at_record() => {
             let below = random.one(&BELOW);
-            Some((generate::with_below(random, input, refusal.record as usize, below), verdict))
+            Some((generate::with_below(random, input, refusal.record as usize, below), explained))
         }
         Verdict::Refused(_) => None,
     }

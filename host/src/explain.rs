@@ -1,18 +1,18 @@
 //! A refusal in words: what was expected in that place, what stands there, and the record with a mark under it.
 //!
-//! The number, record and column come from judging. The words are made here, from the entry laid out by the reference,
-//! and like the refusal they depend on nothing below its record (M-111). Three look at all the input: the words for 1,
-//! the note on an input that holds several entries, and the count of the records below. In a transmission (M-100) the
-//! words on a refusal inside an entry are those of that entry, with its records counted from the start of the
-//! transmission.
+//! The number, record and column come from judging, and for 5, 6, 8, 9, 13 and 14 the facts come from the same call, as
+//! the reason (M-108). The words are made here, with what else they say from the entry laid out by the reference. Like
+//! the refusal they depend on nothing below its record (M-111). Three look at all the input: the words for 1, the note
+//! on an input that holds several entries, and the count of the records below. In a transmission (M-100) the words on a
+//! refusal inside an entry are those of that entry, with its records counted from the start of the transmission.
 
 use crate::answers::counted;
 use crate::reference::flags::{codes, without_zeros_before, Codes, FlagFault, FlagHeading};
-use crate::reference::record::{blank, is_pointer, is_word, Name, Record};
+use crate::reference::may_repeat;
+use crate::reference::record::{blank, count, is_pointer, is_word, Name, Record};
 use crate::reference::tree::{Cell, Role, Stop, Subentry, Table, Tree};
-use crate::reference::{identification_due, keyword_total, may_repeat};
 use crate::transmission::Place;
-use crate::{Refusal, RECORD};
+use crate::{Reason, Refusal, RECORD};
 use std::collections::BTreeSet;
 
 /// What can be said of a refusal.
@@ -26,23 +26,24 @@ pub struct Explanation {
     pub note: Option<String>,
 }
 
-/// Explains a refusal, where `refusal` is what judging says of this very entry.
-pub fn explain(entry: &[u8], refusal: &Refusal) -> Explanation {
+/// Puts a refusal into words, where it and its reason are what [`crate::library::explain`] says of this very entry.
+pub fn explain(entry: &[u8], refusal: &Refusal, reason: Reason) -> Explanation {
     match refusal.number {
         1 => wrong_length(entry, "20,000"),
-        _ => explain_behind(entry, refusal, 0),
+        _ => explain_behind(entry, refusal, reason, 0),
     }
 }
 
-/// Explains the refusal of a transmission, where `refusal` is what judging says of this very transmission.
-pub fn explain_file(file: &[u8], refusal: &Refusal) -> Explanation {
+/// Puts the refusal of a transmission into words, where it and its reason are what [`crate::library::explain_file`]
+/// says of this very transmission.
+pub fn explain_file(file: &[u8], refusal: &Refusal, reason: Reason) -> Explanation {
     if refusal.number == 1 {
         return wrong_length(file, "200,000");
     }
     let place = Place::of(file, refusal);
     let own = Refusal::new(refusal.number, place.record as u32, refusal.column);
-    let Some(entry) = place.entry else { return explain_outside(file, &own, &place) };
-    let mut words = explain_behind(entry, &own, place.before);
+    let Some(entry) = place.entry else { return explain_outside(file, &own, reason, &place) };
+    let mut words = explain_behind(entry, &own, reason, place.before);
     if (own.number, own.record) == (4, 20_001) {
         words.expected = "nothing: an entry has 20,000 records at the most".into();
         return words;
@@ -61,10 +62,10 @@ fn not_ended(entry: &[u8], refusal: &Refusal, place: &Place) -> Option<String> {
 }
 
 /// Explains the refusal of a record that is in no entry: TRANS, ENDTRANS, one between entries or one behind ENDTRANS.
-fn explain_outside(file: &[u8], refusal: &Refusal, place: &Place) -> Explanation {
+fn explain_outside(file: &[u8], refusal: &Refusal, reason: Reason, place: &Place) -> Explanation {
     let seen = &file[..((place.before + place.record) * RECORD).min(file.len())];
     let tree = Tree::of(&seen[(seen.len() - RECORD)..]);
-    let case = Case { tree: &tree, at: 0, column: refusal.column as usize, before: 0 };
+    let case = Case { tree: &tree, at: 0, column: refusal.column as usize, before: 0, reason };
     let due = match (place.before, place.record, place.entries) {
         (0, ..) => "TRANS",
         (_, 1, 0) => "ENTRY",
@@ -77,26 +78,35 @@ fn explain_outside(file: &[u8], refusal: &Refusal, place: &Place) -> Explanation
         7 if place.before > 0 => (COUNT.into(), case.field()),
         7 if refusal.column == 12 => ("7 blanks and the file identifier: 4 capitals or digits".into(), case.field()),
         7 => (DATE.into(), case.field()),
-        8 => (format!("{}, the entries", place.entries), case.field()),
+        8 => (case.count(), case.field()),
         _ => (due.into(), "the end of the input".into()),
     };
     let empty = refusal.number == 4 && due == "ENTRY" && Name::of(case.record()) == Some(Name::EndTrans);
     let empty = empty.then(|| "a transmission has one entry at least".into());
-    Explanation { expected, found, note: empty.or_else(|| note(seen, refusal, 0)) }
+    Explanation { expected: or_meaning(expected, refusal), found, note: empty.or_else(|| note(seen, refusal, 0)) }
+}
+
+/// Where the input is laid out otherwise than judging took it, or the reason is another's, the refusal's own words are
+/// left.
+fn or_meaning(expected: String, refusal: &Refusal) -> String {
+    match expected.is_empty() {
+        true => format!("not this: {}", refusal.meaning()),
+        false => expected,
+    }
 }
 
 /// Explains a refusal in an entry that so many records stand before, which do not belong to it.
-fn explain_behind(entry: &[u8], refusal: &Refusal, before: usize) -> Explanation {
+fn explain_behind(entry: &[u8], refusal: &Refusal, reason: Reason, before: usize) -> Explanation {
     // The records up to the refused one, which with 16 is one past the last.
     let seen = &entry[..(refusal.record as usize).min(entry.len() / RECORD) * RECORD];
     let tree = Tree::of(seen);
     let at = refusal.record as usize - 1;
-    let case = Case { tree: &tree, at, column: refusal.column as usize, before };
+    let case = Case { tree: &tree, at, column: refusal.column as usize, before, reason };
     let (expected, found) = match refusal.number {
         2 | 3 => case.characters(refusal.number),
         4 => (case.due_record(), case.columns(1, 11)),
-        5 => (case.identification().0, case.columns(67, 74)),
-        6 => (case.identification().1, case.columns(75, 79)),
+        5 => (case.identification(5), case.columns(67, 74)),
+        6 => (case.identification(6), case.columns(75, 79)),
         7 => (case.form().into(), case.field()),
         8 => (case.count(), case.field()),
         9 => (case.subentry_number(), case.field()),
@@ -109,9 +119,8 @@ fn explain_behind(entry: &[u8], refusal: &Refusal, before: usize) -> Explanation
         17 => (case.flag(), case.field()),
         _ => (case.due_record(), "the end of the input".into()),
     };
-    // Where the entry is laid out otherwise than judging took it, the refusal's own words are left.
-    let expected = if expected.is_empty() { format!("not this: {}", refusal.meaning()) } else { expected };
-    Explanation { expected, found, note: case.flag_note(refusal).or_else(|| note(seen, refusal, before)) }
+    let note = case.flag_note(refusal).or_else(|| note(seen, refusal, before));
+    Explanation { expected: or_meaning(expected, refusal), found, note }
 }
 
 /// The record of a refusal as compilers of programs show a line: its number, its text, and a mark under the column.
@@ -176,6 +185,8 @@ struct Case<'t, 'a> {
     column: usize,
     /// How many records of a transmission stand before the entry.
     before: usize,
+    /// The facts of the refusal.
+    reason: Reason,
 }
 
 impl<'t, 'a> Case<'t, 'a> {
@@ -233,10 +244,9 @@ impl<'t, 'a> Case<'t, 'a> {
         self.tree.subentries.iter().rev().find(|subentry| subentry.opening <= self.at)
     }
 
-    /// Refusals 5 and 6: the owner and the sequence.
-    fn identification(&self) -> (String, String) {
-        let (accession, number, sequence) = identification_due(self.tree, self.at, self.subentry());
-        (quoted(&[accession, number].concat()), quoted(format!("{sequence:05}").as_bytes()))
+    /// Refusals 5 and 6: the owner, or the sequence.
+    fn identification(&self, number: u32) -> String {
+        self.reason.expected(number).map_or(String::new(), quoted)
     }
 
     /// The table that the record lies in.
@@ -316,48 +326,53 @@ impl<'t, 'a> Case<'t, 'a> {
 
     /// Refusal 8: the range, or the true count.
     fn count(&self) -> String {
-        let number = |field| String::from_utf8_lossy(self.record().field(field)).trim().to_string();
-        let Some(subentry) = self.subentry() else { return String::new() };
-        let between = |opening: usize| format!("{}, the records between", self.at - opening - 1);
-        match (self.name(), self.column) {
-            (Some(Name::Bib), 12) => "at least 1 keyword".into(),
-            (Some(Name::Bib), _) => format!("at least {} records, one for each keyword", number(1)),
-            (Some(Name::Common | Name::Data), 12) => "1 to 18 columns".into(),
-            (Some(Name::Common), _) => {
-                let columns = number(1).parse::<usize>().unwrap_or(0);
-                format!("{} records for {}", 3 * columns.div_ceil(6), counted(columns, "column", "columns"))
+        match self.reason {
+            Reason::Range { least, greatest: 0 } => match self.column {
+                12 => format!("at least {}", counted(least, "keyword", "keywords")),
+                _ => format!("at least {}, one for each keyword", counted(least, "record", "records")),
+            },
+            Reason::Range { least, greatest } => {
+                format!("{least} to {greatest} {}", if self.column == 12 { "columns" } else { "lines" })
             }
-            (Some(Name::Data), _) => "1 to 20,000 lines".into(),
-            (Some(Name::EndBib), _) => self.end_bib(subentry),
-            (Some(Name::EndCommon), _) => between(subentry.common.as_ref().map_or(0, |table| table.opening)),
-            (Some(Name::EndData), _) => between(subentry.data.as_ref().map_or(0, |table| table.opening)),
-            (Some(Name::EndSubent), _) => between(subentry.opening),
-            _ => format!("{}, the subentries", self.tree.subentries.len()),
+            Reason::Count { announced, due } => self.true_count(announced, due),
+            _ => String::new(),
         }
     }
 
-    /// On ENDBIB its own count is judged, and the keyword total that BIB announced.
-    fn end_bib(&self, subentry: &Subentry) -> String {
-        let Some(bib) = &subentry.bib else { return String::new() };
-        let total = keyword_total(self.tree, bib);
-        let announced = String::from_utf8_lossy(self.tree.records[bib.opening].n1()).trim().to_string();
-        if announced.parse() == Ok(total) {
-            return format!("{}, the records between", bib.text.len());
+    /// What it is that was counted.
+    fn true_count(&self, announced: u64, due: u64) -> String {
+        match Name::of(self.record()) {
+            Some(Name::Common) => {
+                let columns = count(self.record().n1()).unwrap_or(0);
+                format!("{due} records for {}", counted(columns, "column", "columns"))
+            }
+            Some(Name::EndBib) => self.end_bib(announced, due),
+            Some(Name::EndEntry) => format!("{due}, the subentries"),
+            Some(Name::EndTrans) => format!("{due}, the entries"),
+            _ => format!("{due}, the records between"),
         }
-        let total = counted(total, "keyword", "keywords");
-        format!("{total} in N1 of BIB on record {}, which says {announced}", self.counted(bib.opening))
+    }
+
+    /// On ENDBIB its own count is judged, and then the keyword total that BIB announced.
+    fn end_bib(&self, announced: u64, due: u64) -> String {
+        let bib = self.subentry().and_then(|subentry| subentry.bib.as_ref());
+        let says = count(self.record().n1());
+        match bib.filter(|bib| says == Some(bib.text.len() as u64)) {
+            None => format!("{due}, the records between"),
+            Some(bib) => {
+                let total = counted(due, "keyword", "keywords");
+                format!("{total} in N1 of BIB on record {}, which says {announced}", self.counted(bib.opening))
+            }
+        }
     }
 
     /// Refusal 9.
     fn subentry_number(&self) -> String {
         let accession = quoted(self.tree.records[0].columns(18, 22));
-        let before = self.tree.subentries.iter().take_while(|subentry| subentry.opening < self.at).last();
-        match before {
-            None => format!("accession {accession} and number 001, as this is the first subentry"),
-            Some(before) => {
-                let number = String::from_utf8_lossy(self.tree.number(before));
-                format!("accession {accession} and a number above {number}, at most 998")
-            }
+        match self.reason {
+            Reason::Previous(0) => format!("accession {accession} and number 001, as this is the first subentry"),
+            Reason::Previous(before) => format!("accession {accession} and a number above {before:03}, at most 998"),
+            _ => String::new(),
         }
     }
 
@@ -399,28 +414,26 @@ impl<'t, 'a> Case<'t, 'a> {
 
     /// Refusal 13: in another section, not a word that may repeat, or apart from the others.
     fn other_heading(&self) -> String {
+        let Reason::Equal { record, column } = self.reason else { return String::new() };
         let (Some(subentry), Some(table), Some(own)) = (self.subentry(), self.table(), self.cell()) else {
             return String::new();
         };
-        let first = self.tree.subentries.first().and_then(|first| first.common.as_ref());
-        let mut headings = first
-            .into_iter()
-            .chain(subentry.tables())
-            .flat_map(|section| section.headings(self.tree).map(move |cell| (section, cell)));
-        let Some((section, same)) = headings.find(|(_, cell)| cell.bytes == own.bytes) else { return String::new() };
-        let wanted = if section.opening != table.opening {
-            let whose = if section.opening < subentry.opening { " of 001" } else { "" };
-            format!("a heading that {}{whose} does not have", section.name.spelling())
+        let at = (record as usize).saturating_sub(self.before + 1);
+        let wanted = if at < subentry.opening {
+            "a heading that COMMON of 001 does not have".into()
+        } else if at < table.opening {
+            "a heading that COMMON does not have".into()
         } else if may_repeat(own.word(), table.name) {
             "a heading that is new here, or one beside its equals".into()
         } else {
             format!("a heading that is new here, as this one may not repeat in {}", table.name.spelling())
         };
-        format!("{wanted}; record {}, column {} has this one", self.counted(same.record), same.first_column())
+        format!("{wanted}; record {record}, column {column} has this one")
     }
 
-    /// Refusal 14.
+    /// Refusal 14: the pointer, and those that there are.
     fn known_pointer(&self) -> String {
+        let Reason::Pointer(pointer) = self.reason else { return String::new() };
         let first = self.tree.subentries.first();
         let mut known = BTreeSet::new();
         for place in first.into_iter().chain(self.subentry()) {
@@ -431,7 +444,7 @@ impl<'t, 'a> Case<'t, 'a> {
         }
         let known: Vec<String> = known.into_iter().filter(|&byte| byte != b' ').map(|byte| quoted(&[byte])).collect();
         let known = if known.is_empty() { "there is none".into() } else { format!("there are {}", known.join(" ")) };
-        format!("a pointer of BIB or COMMON, in this subentry or 001 ({known})")
+        format!("a pointer of BIB or COMMON, in this subentry or 001 ({known}), not {}", quoted(&[pointer]))
     }
 
     /// Refusal 15.

@@ -1,21 +1,25 @@
-//! Reads EXFOR entries, from ENTRY to ENDENTRY: judges them, answers questions about their tables and passages, reads
-//! and writes number fields, and copies entries canonically. A whole transmission, from TRANS to ENDTRANS, is judged,
+//! Reads EXFOR entries, from ENTRY to ENDENTRY: judges them and says why, answers questions about their tables and
+//! passages, reads and writes number fields, and copies entries canonically. A whole transmission, from TRANS to ENDTRANS, is judged,
 //! taken apart into its entries and copied.
 //!
-//! "The paper" is document 01, `Build requirements and exact rules`, with four requests of document 02: M-104, the
-//! count of digits, M-101, headings that may repeat, M-105, a number under FLAG equals a code, and M-100, whole
-//! transmissions. Its numbers are kept: a refusal here has the number that the paper gives it, records, lines and
-//! columns count from 1, and an accepted entry has the paper's four totals. Programs call [`library`]; [`reference`] is
-//! a second implementation, written from the paper alone, which the tests hold against the first.
+//! "The paper" is document 01, `Build requirements and exact rules`, with five requests of document 02: M-104, the
+//! count of digits, M-101, headings that may repeat, M-105, a number under FLAG equals a code, M-100, whole
+//! transmissions, and M-108, the reason of a refusal. Its numbers are kept: a refusal here has the number that the paper
+//! gives it, records, lines and columns count from 1, and an accepted entry has the paper's four totals. Programs call
+//! [`library`]; [`reference`] is a second implementation, written from the paper alone, which the tests hold against the
+//! first.
 //!
 //! ```
-//! use glockenbeacon::{library, Value, Verdict, DATA};
+//! use glockenbeacon::{library, Reason, Value, Verdict, DATA};
 //!
 //! let entry = std::fs::read("data/sample.x4")?;
 //! match library::judge(&entry) {
 //!     Verdict::Accepted(totals) => assert_eq!(totals.numbers, 6),
 //!     Verdict::Refused(refusal) => panic!("{refusal}"),
 //! }
+//! let mut wrong = entry.clone();
+//! wrong[5 * 81 + 21] = b'1'; // ENDBIB says that there is 1 record
+//! assert_eq!(library::explain(&wrong).reason, Reason::Count { announced: 1, due: 2 });
 //! let read = library::value(&entry, 2, DATA, 1, 2)?;
 //! if let Value::Number(decimal) = read.value {
 //!     assert_eq!((decimal.to_string().as_str(), read.digits), ("0.145", 3));
@@ -47,7 +51,7 @@ pub mod tables;
 pub mod transmission;
 pub mod words;
 
-pub use answers::{NoAnswer, Part, Refusal, Totals, Verdict};
+pub use answers::{Explained, NoAnswer, Part, Reason, Refusal, Totals, Verdict};
 pub use decimal::{Decimal, FieldRead, Value};
 
 /// "A record is 80 columns and one line feed (81 bytes)."

@@ -6,10 +6,10 @@ use crate::boundary as archives_or_reference;
 #[cfg(not(proved))]
 use crate::reference as archives_or_reference;
 use crate::transmission::Entries;
-use crate::{Decimal, FieldRead, NoAnswer, Part, Verdict};
+use crate::{Decimal, Explained, FieldRead, NoAnswer, Part, Verdict};
 
 /// Every call, in the order of this module.
-pub const CALLS: [&str; 11] = [
+pub const CALLS: [&str; 13] = [
     "judge",
     "value",
     "heading",
@@ -21,6 +21,8 @@ pub const CALLS: [&str; 11] = [
     "judge_file",
     "entry_length",
     "copy_file",
+    "explain",
+    "explain_file",
 ];
 
 /// The calls that the archives of proved functions answer in this build.
@@ -32,9 +34,9 @@ pub fn proved() -> &'static [&'static str] {
 }
 
 /// The paths of the archives that are linked, if they are.
-pub fn archives() -> Option<[String; 4]> {
+pub fn archives() -> Option<[String; 5]> {
     let folder = option_env!("X4_LINKED").filter(|_| cfg!(proved))?;
-    let crates = ["exports", "exports_questions", "exports_files", "exports_file_copies"];
+    let crates = ["exports", "exports_questions", "exports_files", "exports_file_copies", "exports_reasons"];
     Some(crates.map(|name| format!("{folder}/libx4_{name}.a")))
 }
 
@@ -108,4 +110,15 @@ pub fn entries(file: &[u8]) -> Entries<'_> {
 /// its own copy. Refused, it stores nothing.
 pub fn copy_file(file: &[u8], buffer: &mut [u8]) -> Result<(), NoAnswer> {
     archives_or_reference::copy_file(file, buffer)
+}
+
+/// Judges one entry and says why it is refused (M-108): the verdict of [`judge`], and the facts of its refusal.
+pub fn explain(entry: &[u8]) -> Explained {
+    archives_or_reference::explain(entry)
+}
+
+/// Judges one transmission and says why it is refused: the verdict of [`judge_file`], and the facts of its refusal, where
+/// records count from TRANS.
+pub fn explain_file(file: &[u8]) -> Explained {
+    archives_or_reference::explain_file(file)
 }

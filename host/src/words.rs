@@ -12,8 +12,18 @@
 //! A value is kind (0 blank, 1 number), whether it is below zero, coefficient, power of ten in two's complement, the
 //! count of digits written, and three zeros; a part is first byte, length and pointer; the totals are subentries,
 //! keywords, lines and numbers.
+//!
+//! | facts of a reason | | |
+//! |---|---|---|
+//! | 0 | 0, 0 | nothing more is said |
+//! | 1 | announced, true | a count |
+//! | 2 | least, greatest (0 none) | a range |
+//! | 3 | number of the subentry before (0 none), 0 | |
+//! | 4 | record, column | the first equal heading |
+//! | 5 | pointer, 0 | |
+//! | 6 | 0, 0 | the expected characters stand beside them, which are eight blanks else |
 
-use crate::{Decimal, FieldRead, NoAnswer, Part, Refusal, Totals, Value, Verdict};
+use crate::{Decimal, Explained, FieldRead, NoAnswer, Part, Reason, Refusal, Totals, Value, Verdict};
 
 /// The version of the interface that this module takes apart.
 pub const VERSION: u32 = 4;
@@ -56,9 +66,53 @@ pub fn part([first, length, pointer]: [u64; 3]) -> Part {
     Part { offset: first as usize, length: length as usize, pointer: pointer as u8 }
 }
 
+/// What the arrays of a reason say.
+pub fn reason([kind, one, other]: [u64; 3], characters: [u8; 8]) -> Reason {
+    match kind {
+        0 => Reason::Alone,
+        1 => Reason::Count { announced: one, due: other },
+        2 => Reason::Range { least: one, greatest: other },
+        3 => Reason::Previous(one as u32),
+        4 => Reason::Equal { record: one as u32, column: other as u32 },
+        5 => Reason::Pointer(one as u8),
+        _ => Reason::Expected(characters),
+    }
+}
+
+/// What the word and the arrays of an explained verdict say.
+pub fn explained(word: u64, totals: [u64; 4], facts: [u64; 3], characters: [u8; 8]) -> Explained {
+    Explained { verdict: verdict(word, totals), reason: reason(facts, characters) }
+}
+
 #[cfg(test)]
 mod tests {
     use super::*;
+
+    /// The table of facts, both ways.
+    #[test]
+    fn facts_are_where_the_table_says() {
+        let blanks = *b"        ";
+        for (facts, characters, said) in [
+            ([0, 0, 0], blanks, Reason::Alone),
+            ([1, 99_999_999_999, 7], blanks, Reason::Count { announced: 99_999_999_999, due: 7 }),
+            ([2, 1, 20_000], blanks, Reason::Range { least: 1, greatest: 20_000 }),
+            ([3, 998, 0], blanks, Reason::Previous(998)),
+            ([4, 200_000, 56], blanks, Reason::Equal { record: 200_000, column: 56 }),
+            ([5, u64::from(b'Z'), 0], blanks, Reason::Pointer(b'Z')),
+            ([6, 0, 0], *b"90001002", Reason::Expected(*b"90001002")),
+            ([6, 0, 0], *b"00008   ", Reason::Expected(*b"00008   ")),
+        ] {
+            assert_eq!(reason(facts, characters), said);
+            assert_eq!((said.facts(), said.characters()), (facts, characters));
+        }
+        let refusal = Refusal { number: 8, record: 28, column: 12, ordinal: 0 };
+        let reason = Reason::Count { announced: 3, due: 1 };
+        let word = 8 + (8 << 8) + (12 << 16) + (28 << 24);
+        assert_eq!(
+            explained(word, [7; 4], [1, 3, 1], blanks),
+            Explained { verdict: Verdict::Refused(refusal), reason }
+        );
+    }
 
     #[test]
     fn rooms_are_where_the_table_says() {

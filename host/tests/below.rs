@@ -134,11 +134,12 @@ fn a_refusal_depends_on_nothing_below() {
 fn the_words_depend_on_nothing_below() {
     let mut random = Random::seeded(SEED + 4);
     for (entry, due) in refused(SEED + 5, 8) {
-        let words = (explain(&entry, &due), shown(&entry, &due));
+        let words = |input: &[u8]| (explain(input, &due, library::explain(input).reason), shown(input, &due));
+        let whole = words(&entry);
         for below in BELOW {
             let input = with_below(&mut random, &entry, due.record as usize, below);
             let text = String::from_utf8_lossy(&input);
-            assert_eq!((explain(&input, &due), shown(&input, &due)), words, "{below:?} below:\n{text}");
+            assert_eq!(words(&input), whole, "{below:?} below:\n{text}");
         }
     }
 }

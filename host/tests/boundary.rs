@@ -1,10 +1,10 @@
-//! Numbers, verdicts and transmissions asked from C, by `include/x4.h`, and from Fortran, by `fortran/x4.f90`.
+//! Numbers, verdicts, transmissions and reasons asked from C, by `include/x4.h`, and from Fortran, by `fortran/x4.f90`.
 
 mod common;
 
 use common::{compiled, say, C};
 use glockenbeacon::generate::{self, Random};
-use glockenbeacon::{library, reference, Value, Verdict};
+use glockenbeacon::{library, reference, Explained, Value, Verdict};
 use std::io::Write;
 use std::path::Path;
 use std::process::{Command, Stdio};
@@ -127,31 +127,37 @@ fn fortran_programs_get_the_same_verdicts() {
     }
 }
 
-/// Transmissions: damaged by each cause, good, at the limits, and none at all.
-fn files() -> Vec<Vec<u8>> {
+/// Transmissions: damaged by each cause, good, and none at all.
+fn small_files() -> Vec<Vec<u8>> {
     let mut files = vec![Vec::new(), common::transmission(&[&common::sample()])];
     for cause in 0..generate::FILE_CAUSES.len() {
         files.push(generate::damaged_file(&mut Random::seeded(cause as u64), cause).0.bytes());
     }
     files.extend((0..40).map(|seed| generate::file_input(&mut Random::seeded(1_000 + seed))));
-    files.extend(generate::file_limits());
     files
+}
+
+/// The same, and those at the limits.
+fn files() -> Vec<Vec<u8>> {
+    [small_files(), generate::file_limits()].concat()
+}
+
+/// The seven numbers of a verdict and the ordinal.
+fn eight_numbers(verdict: Verdict) -> String {
+    let numbers = verdict.numbers().into_iter().chain([verdict.ordinal()]).map(|number| number.to_string());
+    numbers.collect::<Vec<_>>().join(" ") + "\n"
 }
 
 /// What both programs print of a transmission, by the reference.
 fn file_in_numbers(file: &[u8]) -> String {
-    let said = |verdict: Verdict| {
-        let numbers = verdict.numbers().into_iter().chain([verdict.ordinal()]).map(|number| number.to_string());
-        numbers.collect::<Vec<_>>().join(" ") + "\n"
-    };
-    let mut words = said(reference::judge_file(file));
+    let mut words = eight_numbers(reference::judge_file(file));
     let mut at = 81;
     loop {
         let length = reference::entry_length(file, at);
         if length == 0 {
             break;
         }
-        words += &format!("{at} {length} {}", said(reference::judge(&file[at..at + length])));
+        words += &format!("{at} {length} {}", eight_numbers(reference::judge(&file[at..at + length])));
         at += length;
     }
     let mut copy = vec![b'#'; file.len()];
@@ -187,6 +193,50 @@ fn fortran_programs_get_the_same_transmissions() {
     let arguments = ["-std=f2008", "-O2", "-Wall", "-Werror", "-J", modules];
     if let Some(program) = compiled("gfortran", "files-f", &arguments, &["fortran/x4.f90", "fortran/files.f90"]) {
         files_agree(&program, "files-f");
+    }
+}
+
+/// An entry or a transmission and why it is refused, by the reference.
+fn explained(input: &[u8]) -> Explained {
+    match input.starts_with(b"TRANS      ") {
+        true => reference::explain_file(input),
+        false => reference::explain(input),
+    }
+}
+
+/// What both programs print of it.
+fn reason_in_numbers(Explained { verdict, reason }: Explained) -> String {
+    let facts = reason.facts().map(|number| number.to_string()).join(" ");
+    format!("{}{facts} [{}]\n", eight_numbers(verdict), String::from_utf8_lossy(&reason.characters()))
+}
+
+fn reasons_agree(program: &Path, name: &str) {
+    let mut kinds = [0; 7];
+    for (index, input) in entries().into_iter().chain(small_files()).enumerate() {
+        let path = Path::new(env!("CARGO_TARGET_TMPDIR")).join(format!("{name}.x4"));
+        std::fs::write(&path, &input).unwrap();
+        let output = Command::new(program).arg(&path).stdin(std::fs::File::open(&path).unwrap()).output().unwrap();
+        let due = explained(&input);
+        assert_eq!(String::from_utf8_lossy(&output.stdout), reason_in_numbers(due), "input {index}");
+        kinds[due.reason.facts()[0] as usize] += 1;
+    }
+    assert!(kinds.iter().all(|&times| times > 0), "every kind of reason occurs: {kinds:?}");
+}
+
+#[test]
+fn c_programs_get_the_same_reasons() {
+    if let Some(program) = compiled("gcc", "reasons-c", &C, &["tests/c/reasons.c"]) {
+        reasons_agree(&program, "reasons-c");
+    }
+}
+
+#[test]
+fn fortran_programs_get_the_same_reasons() {
+    let modules = concat!(env!("CARGO_TARGET_TMPDIR"), "/reasons");
+    std::fs::create_dir_all(modules).unwrap();
+    let arguments = ["-std=f2008", "-O2", "-Wall", "-Werror", "-J", modules];
+    if let Some(program) = compiled("gfortran", "reasons-f", &arguments, &["fortran/x4.f90", "fortran/reasons.f90"]) {
+        reasons_agree(&program, "reasons-f");
     }
 }
 

@@ -8,7 +8,9 @@ use glockenbeacon::generate::{self, Random};
 use glockenbeacon::reference::may_repeat;
 use glockenbeacon::reference::record::{permitted, Name};
 use glockenbeacon::reference::tree::{Cell, Role, Subentry, Tree};
-use glockenbeacon::{reference, Decimal, FieldRead, NoAnswer, Part, Refusal, Totals, Value, Verdict};
+use glockenbeacon::{
+    reference, Decimal, Explained, FieldRead, NoAnswer, Part, Reason, Refusal, Totals, Value, Verdict,
+};
 
 /// The short run: a long one is `cargo run --release --bin differ`.
 const SEED: u64 = 7;
@@ -26,6 +28,7 @@ fn the_library_and_the_reference_agree() {
     assert!((0..=17).all(|number| counts.verdicts.of(number) >= 5), "every refusal occurs:\n{counts}");
     let at_record = |number: &u32| Refusal::new(*number, 1, 1).at_record();
     assert!((1..=17).filter(at_record).all(|number| counts.below.of(number) >= 5), "with others below:\n{counts}");
+    assert!((0..=6).all(|kind| counts.reasons.of(kind) >= 20), "every kind of reason occurs:\n{counts}");
     for number in [0, 31, 32, 33, 34, 35, 36, 37] {
         assert!(counts.answers.of(number) >= 100, "every answer occurs:\n{counts}");
     }
@@ -46,6 +49,7 @@ fn the_library_and_the_reference_agree_on_transmissions() {
     assert!([0, 1, 2, 3, 4, 7, 8, 16].iter().all(|&number| counts.files.of(number) >= 20), "{counts}");
     assert!([2, 3, 4, 5, 6, 7, 8, 9].iter().all(|&number| counts.inside.of(number) >= 1), "{counts}");
     assert!((2..=4).all(|number| counts.files_below.of(number) >= 20), "{counts}");
+    assert!((0..=6).all(|kind| counts.file_reasons.of(kind) >= 3), "every kind of reason occurs:\n{counts}");
     assert!([0, 31, 37].iter().all(|&number| counts.file_copies.of(number) >= 20), "{counts}");
     assert!(counts.begins.iter().all(|&times| times >= 1_000), "{counts}");
 }
@@ -749,6 +753,274 @@ fn slips_in_parts_and_copies_are_found() {
         let mut pair = Pair::new(slip, &Reference);
         assert!(pair.files(SEED, FILES).and_then(|()| pair.given_files(&limits)).is_err(), "{name}: goes unseen");
     }
+}
+
+/// A reason that is otherwise than it should be, of entries and of transmissions.
+struct ReasonSlip(fn(&[u8], &Refusal, Reason) -> Reason);
+
+impl ReasonSlip {
+    fn slipped(&self, input: &[u8], explained: Explained) -> Explained {
+        let Some(refusal) = explained.verdict.refusal() else { return explained };
+        Explained { reason: (self.0)(input, &refusal, explained.reason), ..explained }
+    }
+}
+
+impl Implementation for ReasonSlip {
+    fn explain(&self, entry: &[u8]) -> Explained {
+        self.slipped(entry, reference::explain(entry))
+    }
+    fn explain_file(&self, file: &[u8]) -> Explained {
+        self.slipped(file, reference::explain_file(file))
+    }
+}
+
+fn count(announced: u64, due: u64) -> Reason {
+    Reason::Count { announced, due }
+}
+
+/// Another count, where the reason is one.
+fn counting(reason: Reason, change: impl Fn(u64, u64) -> Reason) -> Reason {
+    match reason {
+        Reason::Count { announced, due } => change(announced, due),
+        other => other,
+    }
+}
+
+/// Another range, where the reason is one.
+fn ranging(reason: Reason, change: impl Fn(u64, u64) -> (u64, u64)) -> Reason {
+    match reason {
+        Reason::Range { least, greatest } => {
+            let (least, greatest) = change(least, greatest);
+            Reason::Range { least, greatest }
+        }
+        other => other,
+    }
+}
+
+/// Another place of an equal heading, where the reason is one.
+fn placing(reason: Reason, change: impl Fn(u32, u32) -> (u32, u32)) -> Reason {
+    match reason {
+        Reason::Equal { record, column } => {
+            let (record, column) = change(record, column);
+            Reason::Equal { record, column }
+        }
+        other => other,
+    }
+}
+
+/// Other characters of a refusal with this number, where the reason is such.
+fn expecting(refusal: &Refusal, reason: Reason, number: u32, change: impl Fn(&mut [u8; 8])) -> Reason {
+    match reason {
+        Reason::Expected(mut characters) if refusal.number == number => {
+            change(&mut characters);
+            Reason::Expected(characters)
+        }
+        other => other,
+    }
+}
+
+/// What is left to say of an entry with the true count in the place of the one announced: on ENDBIB the keywords.
+fn keywords_first(entry: &[u8], refusal: &Refusal, reason: Reason) -> Reason {
+    if !at(entry, refusal).starts_with(b"ENDBIB") {
+        return reason;
+    }
+    counting(reason, |_, due| {
+        let (mut mended, first) = (entry.to_vec(), 81 * refusal.record as usize - 70);
+        mended[first..first + 11].copy_from_slice(format!("{due:>11}").as_bytes());
+        let left = reference::explain(&mended);
+        if left.verdict == Verdict::Refused(*refusal) {
+            left.reason
+        } else {
+            reason
+        }
+    })
+}
+
+/// The nearest equal heading on the refused record, where there is one.
+fn nearest(input: &[u8], refusal: &Refusal, reason: Reason) -> Reason {
+    let headings: Vec<&[u8]> = at(input, refusal).chunks(11).take(6).collect();
+    let own = refusal.column as usize / 11;
+    placing(reason, |record, column| match (0..own).rfind(|&field| headings[field] == headings[own]) {
+        Some(field) => (refusal.record, 11 * field as u32 + 1),
+        None => (record, column),
+    })
+}
+
+/// Each is found by the same entries.
+fn reasons_found(slips: &[(&str, ReasonSlip)]) {
+    for (name, slip) in slips {
+        let words = Pair::new(slip, &Reference).verdicts(SEED, ENTRIES).expect_err(name).words;
+        assert!(words.starts_with("explain\n"), "{name}: {words}");
+    }
+}
+
+/// The readings of 8 taken otherwise.
+#[test]
+fn slips_in_counts_are_found() {
+    reasons_found(&[
+        ("true before announced", ReasonSlip(|_, _, r| counting(r, |announced, due| count(due, announced)))),
+        ("the keywords before ENDBIB's own", ReasonSlip(keywords_first)),
+        (
+            "2k records of COMMON",
+            ReasonSlip(|input, refusal, r| match at(input, refusal).starts_with(b"COMMON") {
+                true => counting(r, |announced, due| count(announced, due / 3 * 2)),
+                false => r,
+            }),
+        ),
+        (
+            "COMMON's records as a range",
+            ReasonSlip(|input, refusal, r| match at(input, refusal).starts_with(b"COMMON") {
+                true => counting(r, |_, due| Reason::Range { least: due, greatest: due }),
+                false => r,
+            }),
+        ),
+        ("18 at the most on BIB", ReasonSlip(|_, _, r| ranging(r, |least, most| (least, most.max(18))))),
+        ("one record of BIB is enough", ReasonSlip(|_, _, r| ranging(r, |_, most| (1, most)))),
+        ("from 0 on", ReasonSlip(|_, _, r| ranging(r, |least, most| (least.saturating_sub(1), most)))),
+        ("19,999 lines at the most", ReasonSlip(|_, _, r| ranging(r, |least, most| (least, most.min(19_999))))),
+        ("counts of 32 bits", ReasonSlip(|_, _, r| counting(r, |said, due| count(u64::from(said as u32), due)))),
+        (
+            "ENDSUBENT with its own record",
+            ReasonSlip(|input, refusal, r| match at(input, refusal).starts_with(b"ENDSUBENT") {
+                true => counting(r, |announced, due| count(announced, due + 1)),
+                false => r,
+            }),
+        ),
+    ]);
+}
+
+/// Those of 9, 13 and 14, and of what has no reason.
+#[test]
+fn slips_in_reasons_are_found() {
+    reasons_found(&[
+        (
+            "the number of the refused subentry",
+            ReasonSlip(|input, refusal, r| match r {
+                Reason::Previous(_) => {
+                    Reason::Previous(String::from_utf8_lossy(&at(input, refusal)[19..22]).parse().unwrap_or(0))
+                }
+                _ => r,
+            }),
+        ),
+        (
+            "the least number that is due",
+            ReasonSlip(|_, _, r| if let Reason::Previous(before) = r { Reason::Previous(before + 1) } else { r }),
+        ),
+        ("the nearest equal heading", ReasonSlip(nearest)),
+        ("the equal heading on the refused record", ReasonSlip(|_, f, r| placing(r, |_, column| (f.record, column)))),
+        ("the column of the table", ReasonSlip(|_, _, r| placing(r, |record, column| (record, column / 11 + 1)))),
+        ("records from 0", ReasonSlip(|_, _, r| placing(r, |record, column| (record - 1, column)))),
+        (
+            "the pointer of the first heading",
+            ReasonSlip(|input, refusal, r| match r {
+                Reason::Pointer(_) => Reason::Pointer(at(input, refusal)[10]),
+                _ => r,
+            }),
+        ),
+        (
+            "a reason for 7",
+            ReasonSlip(|_, refusal, r| if refusal.number == 7 { Reason::Expected(*b"        ") } else { r }),
+        ),
+    ]);
+}
+
+/// Those of 5 and 6.
+#[test]
+fn slips_in_expected_characters_are_found() {
+    reasons_found(&[
+        (
+            "no zeros before a sequence number",
+            ReasonSlip(|_, f, r| {
+                expecting(f, r, 6, |c| {
+                    let zeros = c.iter().position(|&byte| byte != b'0').unwrap_or(0);
+                    c[..zeros].fill(b' ');
+                })
+            }),
+        ),
+        (
+            "what stands there",
+            ReasonSlip(|input, f, r| expecting(f, r, 5, |c| c.copy_from_slice(&at(input, f)[66..74]))),
+        ),
+        (
+            "the entry's accession on SUBENT",
+            ReasonSlip(|input, f, r| expecting(f, r, 5, |c| c[..5].copy_from_slice(&input[17..22]))),
+        ),
+        (
+            "000 on ENDENTRY",
+            ReasonSlip(|input, f, r| {
+                let end = at(input, f).starts_with(b"ENDENTRY");
+                expecting(f, r, 5, |c| {
+                    if end {
+                        c[5..].copy_from_slice(b"000")
+                    }
+                })
+            }),
+        ),
+    ]);
+}
+
+/// Those of transmissions.
+#[test]
+fn slips_in_reasons_of_transmissions_are_found() {
+    let slips = [
+        (
+            "13 counted from ENTRY",
+            ReasonSlip(|file, refusal, r| {
+                placing(r, |record, column| (record - before(file, refusal.ordinal), column))
+            }),
+        ),
+        (
+            "no reason on ENDTRANS",
+            ReasonSlip(|file, refusal, r| if at(file, refusal).starts_with(b"ENDTRANS") { Reason::Alone } else { r }),
+        ),
+        (
+            "one entry too few",
+            ReasonSlip(|file, refusal, r| match at(file, refusal).starts_with(b"ENDTRANS") {
+                true => counting(r, |announced, due| count(announced, due - 1)),
+                false => r,
+            }),
+        ),
+        ("no reason inside an entry", ReasonSlip(|_, refusal, r| if refusal.ordinal > 0 { Reason::Alone } else { r })),
+    ];
+    for (name, slip) in &slips {
+        let words = Pair::new(slip, &Reference).files(SEED, FILES).expect_err(name).words;
+        assert!(words.starts_with("explain_file\n"), "{name}: {words}");
+    }
+}
+
+/// A reason that hangs on what stands below: found by other records there.
+#[test]
+fn a_reason_from_below_is_found() {
+    let slip = ReasonSlip(|input, refusal, r| {
+        let last = input.len() / 81 == refusal.record as usize;
+        counting(r, |announced, due| if last { count(announced, due + 1) } else { r })
+    });
+    let words = Pair::new(&slip, &slip).entries(SEED, ENTRIES).expect_err("it goes unseen").words;
+    assert!(words.starts_with("explain with other records below: both, and what is due\n"), "{words}");
+    let words = Pair::new(&slip, &slip).files(SEED, FILES).expect_err("it goes unseen").words;
+    assert!(words.starts_with("explain_file with other records below: both, and what is due\n"), "{words}");
+}
+
+/// A verdict that judging and explaining do not share.
+struct OtherVerdict;
+
+impl Implementation for OtherVerdict {
+    fn explain(&self, entry: &[u8]) -> Explained {
+        let explained = reference::explain(entry);
+        Explained { verdict: refusing(explained.verdict, |r| Refusal { column: r.column + 1, ..r }), ..explained }
+    }
+    fn explain_file(&self, file: &[u8]) -> Explained {
+        let explained = reference::explain_file(file);
+        Explained { verdict: refusing(explained.verdict, |r| Refusal { ordinal: 0, ..r }), ..explained }
+    }
+}
+
+#[test]
+fn another_verdict_is_found() {
+    let words = Pair::new(&OtherVerdict, &OtherVerdict).entries(SEED, ENTRIES).expect_err("it goes unseen").words;
+    assert!(words.starts_with("judge, and explain\n"), "{words}");
+    let words = Pair::new(&OtherVerdict, &OtherVerdict).files(SEED, FILES).expect_err("it goes unseen").words;
+    assert!(words.starts_with("judge_file, and explain_file\n"), "{words}");
 }
 
 /// TRANS and ENDTRANS taken for keywords in BIB, and ENDTRANS for a heading, a unit or a value.

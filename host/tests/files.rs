@@ -384,8 +384,10 @@ fn a_refusal_depends_on_nothing_below() {
     for cause in (0..4).flat_map(|_| 0..FILE_CAUSES.len()) {
         let (parts, Some(due)) = damaged_file(&mut random, cause) else { continue };
         let file = parts.bytes();
-        let words = (explain_file(&file, &due), shown(&file, &due));
-        assert!(!words.0.expected.is_empty() && !words.0.found.is_empty(), "{due}");
+        let words = |file: &[u8]| (explain_file(file, &due, library::explain_file(file).reason), shown(file, &due));
+        let whole = words(&file);
+        assert!(!whole.0.expected.is_empty() && !whole.0.found.is_empty(), "{due}");
+        assert!(!whole.0.expected.starts_with("not this: "), "{due}");
         if !due.at_record() {
             continue;
         }
@@ -394,7 +396,7 @@ fn a_refusal_depends_on_nothing_below() {
             for by in BOTH {
                 assert_eq!(by.judge_file(&input), Verdict::Refused(due), "{below:?} below {}", FILE_CAUSES[cause].0);
             }
-            assert_eq!((explain_file(&input, &due), shown(&input, &due)), words, "{below:?} below {due}");
+            assert_eq!(words(&input), whole, "{below:?} below {due}");
         }
     }
 }

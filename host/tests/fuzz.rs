@@ -34,6 +34,8 @@ fn mutated_entries_are_answered() {
     for refusal in [" 0:", " 31:", " 32:", " 33:", " 34:", " 35:", " 36:", " 37:"] {
         assert!(words.contains(refusal), "every answer occurs: {words}");
     }
+    let reasons = words.split("reasons by kind").nth(1).unwrap_or_default();
+    assert!(reasons.contains(" 6:") && !reasons.contains(":0"), "reasons of every kind occur: {words}");
     let files = words.split("transmissions by refusal").nth(1).unwrap_or_default();
     for refusal in [" 0:", " 1:", " 2:", " 3:", " 4:", " 5:", " 7:", " 8:"] {
         assert!(files.contains(refusal), "transmissions of every kind occur: {words}");

@@ -3,13 +3,13 @@
 
 use glockenbeacon::explain::{explain, shown};
 use glockenbeacon::generate::{self, damage, damaged, damaged_file, Kind, Random, Shape, CAUSES, FILE_CAUSES, SHAPES};
+use glockenbeacon::library::{self, entries, judge_file};
 use glockenbeacon::library::{canonical_copy, copy_file, heading, judge, read_number, unit, value, write_number};
-use glockenbeacon::library::{entries, judge_file};
 use glockenbeacon::reference::flags::{Codes, FlagHeading};
 use glockenbeacon::reference::number::{canonical_text, read, Reading};
 use glockenbeacon::reference::tree::{Cell, Subentry, Tree};
 use glockenbeacon::tables::tables;
-use glockenbeacon::{Decimal, FieldRead, Refusal, Totals, Value, Verdict, COMMON, DATA, RECORD};
+use glockenbeacon::{Decimal, FieldRead, Reason, Refusal, Totals, Value, Verdict, COMMON, DATA, RECORD};
 use std::collections::{BTreeMap, BTreeSet};
 use std::ops::Range;
 
@@ -373,23 +373,37 @@ fn refusals_are_explained() {
             0 => _ = damage(&mut random, &mut sheet, round / 2 % CAUSES.len()),
             _ => generate::noise(&mut random, &mut sheet),
         }
-        if let Verdict::Refused(refusal) = judge(&sheet.bytes) {
-            let words = explain(&sheet.bytes, &refusal);
+        let explained = library::explain(&sheet.bytes);
+        if let Verdict::Refused(refusal) = explained.verdict {
+            let words = explain(&sheet.bytes, &refusal, explained.reason);
             assert!(!words.expected.is_empty() && !words.found.is_empty(), "{refusal}: {words:?}");
+            assert!(!words.expected.starts_with("not this: "), "{refusal}: {words:?}");
             assert_eq!(shown(&sheet.bytes, &refusal).is_some(), !matches!(refusal.number, 1 | 16));
         }
     }
 }
 
-/// A refusal that the reference does not see has words, too.
+/// A refusal that the reference does not see has words, too, whatever its reason.
 #[test]
 fn an_expectation_is_never_empty() {
     let entry = include_bytes!("../data/flags.x4");
-    for number in [8, 10, 12, 13, 15, 17] {
+    let reasons = [
+        Reason::Alone,
+        Reason::Count { announced: 1, due: 2 },
+        Reason::Range { least: 1, greatest: 0 },
+        Reason::Range { least: 1, greatest: 18 },
+        Reason::Previous(0),
+        Reason::Equal { record: 0, column: 0 },
+        Reason::Equal { record: 200_000, column: 56 },
+        Reason::Pointer(b' '),
+        Reason::Expected(*b"        "),
+    ];
+    for number in (5..=15).chain([17]) {
         for record in 1..=30 {
-            for column in [1, 12, 23, 34, 45, 56] {
-                let words = explain(entry, &Refusal::new(number, record, column));
-                assert!(!words.expected.is_empty(), "{number} on record {record}, column {column}");
+            for (column, reason) in [1, 12, 23, 34, 45, 56].into_iter().flat_map(|column| reasons.map(|r| (column, r)))
+            {
+                let words = explain(entry, &Refusal::new(number, record, column), reason);
+                assert!(!words.expected.is_empty(), "{number} on record {record}, column {column}, {reason:?}");
             }
         }
     }

@@ -60,6 +60,20 @@ a sign and digits, or E and digits
     assert_eq!((printed(&output).as_str(), output.status.code()), (words, Some(1)));
 }
 
+/// The sample with 2 keywords announced in 002, where there is 1, and 7 records said to be there.
+fn both_untrue() -> Vec<u8> {
+    let mut entry = changed(14, 22, "2");
+    put(&mut entry, 17, 22, "7");
+    entry
+}
+
+/// The sample with another number of a subentry, on the record that opens it.
+fn numbered(record: usize, digits: &str) -> Vec<u8> {
+    let mut entry = changed(record, 20, digits);
+    put(&mut entry, record, 72, digits);
+    entry
+}
+
 /// One damaged sample for each refusal: what was expected, and what was found.
 #[test]
 fn every_refusal_is_explained() {
@@ -89,10 +103,18 @@ fn every_refusal_is_explained() {
         (changed(16, 75, "00003"), "'00004'", "'00003'"),
         (changed(1, 23, "   20241305"), "3 blanks and a date YYYYMMDD, month 01-12, day 01-31", "'   20241305'"),
         (changed(3, 12, "          x"), "a count: blanks, then digits up to the last column", "'          x'"),
+        (changed(3, 22, "0"), "at least 1 keyword", "'          0'"),
+        (changed(3, 33, "1"), "at least 2 records, one for each keyword", "'          1'"),
+        (changed(7, 22, "0"), "1 to 18 columns", "'          0'"),
         (changed(7, 33, "4"), "3 records for 1 column", "'          4'"),
+        (changed(19, 21, "19"), "1 to 18 columns", "'         19'"),
+        (changed(19, 33, "0"), "1 to 20000 lines", "'          0'"),
         (changed(6, 22, "1"), "2, the records between", "'          1'"),
         (changed(14, 22, "2"), "1 keyword in N1 of BIB on record 14, which says 2", "'          2'"),
+        (both_untrue(), "2, the records between", "'          7'"),
         (changed(26, 22, "3"), "2, the subentries", "'          3'"),
+        (numbered(2, "002"), "accession '90001' and number 001, as this is the first subentry", "'   90001002'"),
+        (numbered(13, "001"), "accession '90001' and a number above 001, at most 998", "'   90001001'"),
         (changed(5, 1, "TITLE "), "a keyword that this BIB does not have yet; record 4 has this one", "'TITLE     '"),
         (changed(4, 1, "     "), "a keyword, as this is the first record of BIB", "blanks"),
         (changed(16, 11, "1"), "a pointer that is new under its keyword; record 15 has this one", "'1'"),
@@ -116,7 +138,7 @@ fn every_refusal_is_explained() {
         ),
         (
             changed(20, 33, "3"),
-            "a pointer of BIB or COMMON, in this subentry or 001 (there are '1' '2')",
+            "a pointer of BIB or COMMON, in this subentry or 001 (there are '1' '2'), not '3'",
             "'DATA      3'",
         ),
         (changed(10, 1, "   "), "a number: COMMON values are never blank", "blanks"),
@@ -430,7 +452,7 @@ fn transmissions_as_json() {
     let words = printed(&run(&["judge", "--json"], &twice(28, 26, "X")));
     let due = "{\"file\":\"-\",\"accepted\":false,\"refusal\":7,\"record\":28,\"column\":23,\"subentries\":0,\
                \"keywords\":0,\"lines\":0,\"numbers\":0,\"ordinal\":2,\"accession\":\"90001\",\"entry_record\":1,\
-               \"meaning\":\"the system field is not in its form\",\
+               \"meaning\":\"the system field is not in its form\",\"reason\":null,\
                \"expected\":\"3 blanks and a date YYYYMMDD, month 01-12, day 01-31\",\"found\":\"'   X0240105'\",\
                \"note\":null}\n";
     assert_eq!(words, due);
@@ -525,8 +547,30 @@ fn verdicts_as_json() {
     assert_eq!(printed(&run(&["judge", "--json"], &sample())), words);
     let words = "{\"file\":\"-\",\"accepted\":false,\"refusal\":6,\"record\":4,\"column\":75,\"subentries\":0,\
                  \"keywords\":0,\"lines\":0,\"numbers\":0,\"meaning\":\"wrong sequence in columns 75-79\",\
-                 \"expected\":\"'00003'\",\"found\":\"'00004'\",\"note\":null}\n";
+                 \"reason\":{\"characters\":\"00003\"},\"expected\":\"'00003'\",\"found\":\"'00004'\",\"note\":null}\n";
     assert_eq!(printed(&run(&["judge", "--json"], &changed(4, 79, "4"))), words);
+}
+
+/// M-108: the facts of a refusal, under their names.
+#[test]
+fn reasons_as_json() {
+    for (input, reason) in [
+        (changed(20, 72, "001"), r#"{"characters":"90001002"}"#),
+        (changed(6, 22, "1"), r#"{"announced":1,"true":2}"#),
+        (changed(3, 22, "0"), r#"{"least":1,"greatest":0}"#),
+        (numbered(2, "002"), r#"{"previous":0}"#),
+        (changed(20, 1, "EN "), r#"{"record":8,"column":1}"#),
+        (changed(20, 33, "3"), r#"{"pointer":"3"}"#),
+        (twice(47, 1, "EN "), r#"{"record":35,"column":1}"#),
+        (twice(54, 22, "3"), r#"{"announced":3,"true":2}"#),
+        (changed(22, 12, "       1.5E"), "null"),
+    ] {
+        let words = printed(&run(&["judge", "--json"], &input));
+        assert!(words.contains(&format!(",\"reason\":{reason},\"expected\":")), "{reason}: {words}");
+    }
+    assert!(!printed(&run(&["judge", "--json"], &sample())).contains("reason"));
+    let help = printed(&run(&["help", "judge"], b""));
+    assert!(help.contains("come from the proved library, as the verdict does"), "{help}");
 }
 
 #[test]

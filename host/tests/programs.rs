@@ -202,10 +202,10 @@ fn change(case: &mut Vec<u8>, line: &[u8]) {
     }
 }
 
-#[test]
-fn cases_are_judged_as_stored() {
+/// What is said of each case in the input of a program: its title, and what follows from the kind and the case.
+fn cases(program: &str, say: impl Fn(u8, &[u8]) -> String) -> Vec<u8> {
     let (mut whole, mut case, mut said) = (Vec::new(), Vec::new(), Vec::new());
-    for line in stored("verdicts", "stdin").split(|&byte| byte == b'\n') {
+    for line in stored(program, "stdin").split(|&byte| byte == b'\n') {
         match line.first() {
             None | Some(b'#') => {}
             Some(b'*') => {
@@ -216,21 +216,54 @@ fn cases_are_judged_as_stored() {
                 let start = (numbered(line, 1, 6) - 1) * RECORD;
                 drop(case.splice(start..start, whole.iter().copied()));
             }
-            Some(kind @ (b'!' | b'%')) => {
-                said.extend([&line[2..], b":"].concat());
-                let numbers = match kind {
-                    b'!' => reference::judge(&case).numbers().to_vec(),
-                    _ => {
-                        let verdict = reference::judge_file(&case);
-                        [verdict.numbers().as_slice(), &[verdict.ordinal()]].concat()
-                    }
-                };
-                numbers.iter().for_each(|number| said.extend(format!(" {number}").bytes()));
-                said.push(b'\n');
+            Some(&kind @ (b'!' | b'%')) => {
+                said.extend([&line[2..], b":", say(kind, &case).as_bytes()].concat());
                 case = whole.clone();
             }
             Some(_) => change(&mut case, line),
         }
     }
+    said
+}
+
+/// An entry (`!`) or a transmission (`%`) explained: its seven or eight numbers, each behind a blank, and its line.
+fn case_explained(kind: u8, case: &[u8]) -> (String, Option<String>) {
+    let (explained, ordinal) = match kind {
+        b'!' => (reference::explain(case), None),
+        _ => {
+            let explained = reference::explain_file(case);
+            (explained, Some(explained.verdict.ordinal()))
+        }
+    };
+    let numbers = explained.verdict.numbers().into_iter().chain(ordinal);
+    (numbers.map(|number| format!(" {number}")).collect(), explained.line())
+}
+
+#[test]
+fn cases_are_judged_as_stored() {
+    let said = cases("verdicts", |kind, case| case_explained(kind, case).0 + "\n");
     same_lines("verdicts", &said);
+}
+
+/// A line below the numbers where there is a reason.
+fn below(line: Option<String>) -> String {
+    line.map_or(String::new(), |line| line + "\n")
+}
+
+#[test]
+fn cases_are_explained_as_stored() {
+    let said = cases("reason_cases", |kind, case| {
+        let (numbers, line) = case_explained(kind, case);
+        format!("{numbers}\n{}", below(line))
+    });
+    same_lines("reason_cases", &said);
+}
+
+/// The program takes 809 records at the most; a longer input it refuses by 1.
+#[test]
+fn an_entry_is_explained_as_stored() {
+    let entry = stored("why", "stdin");
+    assert!(entry.len() <= 809 * RECORD);
+    let (numbers, line) = case_explained(b'!', &entry);
+    same_lines("why", format!("{}\n{}", numbers.trim_start(), below(line)).as_bytes());
 }

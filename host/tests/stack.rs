@@ -34,6 +34,8 @@ mod measured {
         fn x4_judge_file();
         fn x4_entry_length();
         fn x4_copy_file();
+        fn x4_explain();
+        fn x4_explain_file();
     }
 
     type Function = unsafe extern "C" fn();
@@ -261,6 +263,26 @@ mod measured {
         }
         assert!(said.iter().flatten().all(|&times| times > 0), "{said:?}");
         [judge, begins, copy].iter().for_each(Measured::say);
+    }
+
+    /// Verdicts with their reasons: every kind of these, of entries and of transmissions.
+    #[test]
+    fn reasons_are_measured() {
+        let mut entry = Measured::new("x4_explain", x4_explain);
+        let mut file = Measured::new("x4_explain_file", x4_explain_file);
+        let (mut totals, mut facts, mut characters) = ([0u64; 4], [0u64; 3], [0u8; 8]);
+        let mut seen = BTreeSet::new();
+        for input in entries() {
+            let whole = transmission(&[&input, &input]);
+            for (call, input) in [(&mut entry, &input), (&mut file, &whole)] {
+                let [first, length] = bytes(input);
+                let arrays = [lent(&mut totals), lent(&mut facts), lent(&mut characters)];
+                call.call([first, length, arrays[0], arrays[1], arrays[2], 0, 0, 0]);
+                seen.insert((call.name, facts[0]));
+            }
+        }
+        assert_eq!(seen.len(), 2 * 7, "{seen:?}");
+        [entry, file].iter().for_each(Measured::say);
     }
 
     #[test]

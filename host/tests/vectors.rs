@@ -1,12 +1,12 @@
-//! Verdicts, answers, copies, entries of transmissions and counts of digits that others worked out from the papers,
-//! where their tables are beside the project: in `../shared/vectors/02`. The library and the reference are held against
-//! them.
+//! Verdicts, reasons, answers, copies, entries of transmissions and counts of digits that others worked out from the
+//! papers, where their tables are beside the project: in `../shared/vectors/02`. The library and the reference are held
+//! against them.
 
 mod common;
 
 use common::{copied, say, sha256, BOTH};
 use glockenbeacon::differ::Implementation;
-use glockenbeacon::{library, reference, Decimal, FieldRead, NoAnswer, Part, Value, RECORD};
+use glockenbeacon::{library, reference, Decimal, Explained, FieldRead, NoAnswer, Part, Value, Verdict, RECORD};
 use std::collections::BTreeMap;
 use std::path::PathBuf;
 
@@ -233,14 +233,32 @@ fn copies_are_told_by_their_hash() {
     assert_eq!(sha256(two_blocks), "248d6a61d20638b8e5c026930c3e6039a33ce45964ff2167f6ecedd419db06c1");
 }
 
-/// Single entries, many of them with TRANS or ENDTRANS inside (M-100).
+/// The reason's line, or `-`; the verdict beside it is that of judging.
+fn reason(explained: &Explained, verdict: Verdict) -> String {
+    assert_eq!(explained.verdict, verdict);
+    explained.line().unwrap_or("-".into())
+}
+
+/// How many rows have a reason, and of which refusals: each of these is among them.
+fn with_reasons(rows: &[Vec<String>], column: usize, numbers: &[&str]) -> usize {
+    let given: Vec<&str> = rows.iter().filter(|row| row[column] != "-").map(|row| row[1].as_str()).collect();
+    assert!(numbers.iter().all(|number| given.contains(number)), "{given:?}");
+    given.len()
+}
+
+/// Single entries, many of them with TRANS or ENDTRANS inside (M-100), and why they are refused (M-108).
 #[test]
 fn entries_beside_transmissions() {
     let Some(rows) = table("files/entries.tsv") else { return };
     for row in &rows {
         same_verdict("files", &row[0], &row[1..8], &row[11]);
+        let entry = entry("files", &row[0]);
+        for by in BOTH {
+            assert_eq!(reason(&by.explain(&entry), by.judge(&entry)), row[8], "{row:?}");
+        }
     }
-    say(&format!("files/entries.tsv: {} entries", rows.len()));
+    let given = with_reasons(&rows, 8, &["5", "6", "8", "9", "13", "14"]);
+    say(&format!("files/entries.tsv: {} entries, {given} of them with a reason", rows.len()));
 }
 
 /// The entries of a transmission as a table has them: first byte and length of each, one behind the other.
@@ -255,7 +273,7 @@ fn parts(by: &dyn Implementation, file: &[u8]) -> String {
     }
 }
 
-/// Verdicts on transmissions with their ordinals, and of those that are accepted the entries and the copy.
+/// Verdicts on transmissions with their ordinals and reasons, and of those that are accepted the entries and the copy.
 #[test]
 fn transmissions_that_others_made() {
     let Some(rows) = table("files/files.tsv") else { return };
@@ -266,6 +284,7 @@ fn transmissions_that_others_made() {
             let verdict = by.judge_file(&file);
             let judged = verdict.numbers().map(|number| number.to_string());
             assert_eq!((&judged[..], verdict.ordinal().to_string()), (&row[1..8], row[8].clone()), "{row:?}");
+            assert_eq!(reason(&by.explain_file(&file), verdict), row[9], "{row:?}");
             if row[1] == "0" {
                 assert_eq!(
                     (parts(by, &file), sha256(&copied(by, &file))),
@@ -277,7 +296,9 @@ fn transmissions_that_others_made() {
         accepted += usize::from(row[1] == "0");
     }
     let ordinals = rows.iter().filter(|row| row[8] != "0").count();
-    let words = format!("{accepted} of them accepted and copied, {ordinals} refused inside an entry");
+    let given = with_reasons(&rows, 9, &["5", "6", "8", "13"]);
+    let words =
+        format!("{accepted} of them accepted and copied, {ordinals} refused inside an entry, {given} with a reason");
     say(&format!("files/files.tsv: {} transmissions, {words}", rows.len()));
 }
 

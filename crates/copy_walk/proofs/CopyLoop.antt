@@ -16,7 +16,7 @@ use Rattle.paper_entry.specs.Judging.{Accepted}
 use Rattle.entry_step.specs.ByRanges.{startJudge}
 use Rattle.paper_entry.specs.Contexts.{contextAt}
 use Rattle.entry_step.specs.Pass.{Walking, PassedAt}
-use Rattle.entry_next.proofs.Following.{range-kept}
+use Rattle.entry_ranges.proofs.Following.{range-kept}
 use Rattle.paper_entry.proofs.Lengths.{whole-records}
 use Rattle.entry_step.proofs.Walking.{walking-start, track-stands, context-stands, records-passed, walking-placed}
 use Rattle.paper_rules.specs.State.{Context}

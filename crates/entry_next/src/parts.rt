@@ -4,7 +4,7 @@ ghost use mathlib.Core.Bool.{cond};
 ghost use Prim.Native.Nat.{_+_, _-_, _<_};
 ghost use Rattle.paper_rules.specs.Limits.{MOST-RECORDS};
 ghost use Rattle.paper_entry.specs.Parts.{emptiesBib, bibChange, underChange, tableChange, ends001};
-ghost use Rattle.entry_next.specs.Ranging.{rangeAfter, commonAfter, rangesAfter};
+ghost use Rattle.paper_entry.specs.Ranging.{rangeAfter, commonAfter, rangesAfter};
 use crate::due::is_either;
 use paper_entry::types::Change;
 use paper_record::types::Index;

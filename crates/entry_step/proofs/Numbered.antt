@@ -29,7 +29,7 @@ use Rattle.paper_entry.specs.Verdict.{refused, lengthGood}
 use Rattle.entry_step.specs.ByRanges.{contextOf, judgeAfter, stepFor, stepAs, stepOf, startJudge, onStep}
 use Rattle.entry_step.specs.ByRanges.{stepTurn, finishOf, judgeByRanges, Ready}
 use Rattle.entry_step.proofs.Stepping.{next-bytes, stood-start, stood-next, context-next}
-use Rattle.entry_next.proofs.Following.{Joins}
+use Rattle.entry_ranges.proofs.Following.{Joins}
 use Rattle.paper_entry.proofs.Lengths.{whole-records}
 
 module _ (s : List ℕ) (n : ℕ) (whole : length s ≡ n * 81) (few : n ≤ MOST-RECORDS) where

@@ -20,7 +20,7 @@ use Rattle.paper_entry.specs.Verdict.{lengthGood}
 use Rattle.entry_step.specs.ByRanges.{contextOf, judgeAfter, startJudge, stepTurn, finishOf, judgeByRanges}
 use Rattle.entry_step.specs.ByRanges.{Ready}
 use Rattle.paper_entry.proofs.Counting.{Follows, track-follows}
-use Rattle.entry_next.proofs.Following.{Joins, all-placed, seen-next, reaches, joins-next}
+use Rattle.entry_ranges.proofs.Following.{Joins, all-placed, seen-next, reaches, joins-next}
 
 -- the state after a record stands before the next one
 pub stands-after : (j : Judge) (before rec : List ℕ) → Ready j before rec → (role : ℕ) (fs : List (List ℕ))

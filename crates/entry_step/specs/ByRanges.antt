@@ -25,7 +25,7 @@ use Rattle.entry_step.specs.declared.step.Step.{Step}
 use Rattle.paper_entry.specs.declared.types.Verdict.{Verdict}
 use Rattle.paper_entry.specs.Due.{phaseAfter}
 use Rattle.paper_entry.specs.Counted.{trackAfter}
-use Rattle.entry_next.specs.Ranging.{rangesAfter}
+use Rattle.paper_entry.specs.Ranging.{rangesAfter}
 use Rattle.paper_entry.specs.Judging.{roleOf, refusedBy}
 use Rattle.paper_entry.specs.Verdict.{refused, accepted, isDone, lengthGood}
 

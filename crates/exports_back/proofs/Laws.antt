@@ -30,7 +30,9 @@ use Rattle.paper_entry.specs.Judging.{judgeOf}
 use Rattle.exports_words.specs.Words.{answerWord, answerIn, lentAfter}
 use Rattle.exports_words.specs.Values.{bit, twos, valueNumbers, readingAnswer, readingStored, readingIn}
 use Rattle.exports_verdicts.specs.Verdicts.{verdictAnswer, totalsNumbers, verdictIn}
-use Rattle.exports_back.specs.Claims.{ReadingBack, VerdictBack}
+use Rattle.paper_reasons.specs.Reason.{explain}
+use Rattle.exports_facts.proofs.FactsBack.{facts-back}
+use Rattle.exports_back.specs.Claims.{ReadingBack, VerdictBack, ExplainedBack}
 use Rattle.exports_back.proofs.Sizes.{NearRefusal, Fitting, accepting, refusing, judge-fits}
 use Rattle.exports_words.proofs.Twos.{twos-back}
 
@@ -210,3 +212,12 @@ fitting-back before (refusing o n at k z h) = rw (answer-refused o n at k z) (re
 -- the verdict on an entry comes back
 pub verdict-back : VerdictBack
 verdict-back s before = fitting-back before (judge-fits s)
+
+-- and with its reason
+pub explained-back : ExplainedBack
+unfolding explain
+explained-back s before =
+    λ k. record {
+      verdict = verdict-back s before k;
+      reason = record { facts = facts-back (explain s .reason .facts) k; characters = explain s .reason .characters };
+    }

@@ -8,6 +8,8 @@ use Rattle.paper_entry.specs.Judging.{judgeOf}
 use Rattle.exports_words.specs.Words.{answerWord, lentAfter}
 use Rattle.exports_words.specs.Values.{readingAnswer, readingStored, readingIn}
 use Rattle.exports_verdicts.specs.Verdicts.{verdictAnswer, totalsNumbers, verdictIn}
+use Rattle.paper_reasons.specs.Reason.{explain}
+use Rattle.exports_facts.specs.Facts.{factsNumbers, explainedIn}
 
 abbrev pub ReadingBack : Type 0
 ReadingBack =
@@ -20,3 +22,11 @@ VerdictBack =
     → verdictIn (answerWord (verdictAnswer (judgeOf s)))
     (lentAfter (judgeOf s .refusal) before (totalsNumbers (judgeOf s .totals)))
     ≡ judgeOf s
+
+abbrev pub ExplainedBack : Type 0
+ExplainedBack =
+    (s before : List ℕ)
+    → explainedIn (answerWord (verdictAnswer (judgeOf s)))
+    (lentAfter (judgeOf s .refusal) before (totalsNumbers (judgeOf s .totals)))
+    (factsNumbers (explain s .reason .facts)) (explain s .reason .characters)
+    ≡ explain s

@@ -11,12 +11,26 @@ use Rattle.paper_entry.specs.Answer.{isRefused}
 use Rattle.exports_back.proofs.Laws.{word-back, beside-fits, fitting-back}
 use Rattle.paper_files.specs.File.{judgeFile}
 use Rattle.files_copy_laws.specs.CopyFile.{copiedFile}
-use Rattle.files_back.specs.Claims.{FileBack, FileCopiedBack}
+use Rattle.paper_reasons.specs.File.{explainFile}
+use Rattle.exports_facts.proofs.FactsBack.{facts-back}
+use Rattle.files_back.specs.Claims.{FileBack, FileCopiedBack, FileExplainedBack}
 use Rattle.files_back.proofs.Sizes.{file-fits}
 
 -- the verdict on a file comes back
 pub file-back : FileBack
 file-back s before = fitting-back before (file-fits s)
+
+-- and with its reason
+pub file-explained-back : FileExplainedBack
+unfolding explainFile
+file-explained-back s before =
+    λ k. record {
+      verdict = file-back s before k;
+      reason = record {
+        facts = facts-back (explainFile s .reason .facts) k;
+        characters = explainFile s .reason .characters;
+      };
+    }
 
 -- and what the copy answers
 pub file-copied-back : FileCopiedBack

@@ -7,6 +7,8 @@ use Rattle.exports_words.specs.Words.{answerWord, answerIn, lentAfter}
 use Rattle.exports_verdicts.specs.Verdicts.{verdictAnswer, totalsNumbers, verdictIn}
 use Rattle.paper_files.specs.File.{judgeFile}
 use Rattle.files_copy_laws.specs.CopyFile.{copiedFile}
+use Rattle.paper_reasons.specs.File.{explainFile}
+use Rattle.exports_facts.specs.Facts.{factsNumbers, explainedIn}
 
 abbrev pub FileBack : Type 0
 FileBack =
@@ -17,3 +19,11 @@ FileBack =
 
 abbrev pub FileCopiedBack : Type 0
 FileCopiedBack = (s : List ℕ) (room : ℕ) → answerIn (answerWord (copiedFile s room)) ≡ copiedFile s room
+
+abbrev pub FileExplainedBack : Type 0
+FileExplainedBack =
+    (s before : List ℕ)
+    → explainedIn (answerWord (verdictAnswer (judgeFile s)))
+    (lentAfter (judgeFile s .refusal) before (totalsNumbers (judgeFile s .totals)))
+    (factsNumbers (explainFile s .reason .facts)) (explainFile s .reason .characters)
+    ≡ explainFile s

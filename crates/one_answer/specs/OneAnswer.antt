@@ -37,6 +37,10 @@ use Rattle.files_copy.proofs.copy_file.copy_file.Reads as copy-file
 use Rattle.exports_files.proofs.transmissions.x4_judge_file.Reads as x4-judge-file
 use Rattle.exports_file_copies.proofs.copying.x4_entry_length.Reads as x4-entry-length
 use Rattle.exports_file_copies.proofs.copying.x4_copy_file.Reads as x4-copy-file
+use Rattle.reasons.proofs.explain.explain.Reads as explain
+use Rattle.files_reasons.proofs.explain_file.explain_file.Reads as explain-file
+use Rattle.exports_reasons.proofs.explaining.x4_explain.Reads as explained
+use Rattle.exports_reasons.proofs.explaining.x4_explain_file.Reads as explained-file
 use Rattle.one_answer.specs.Determined.{Determined, DeterminedWith, DeterminedPart}
 
 pub record OneAnswer : Type 0 where
@@ -59,6 +63,8 @@ pub record OneAnswer : Type 0 where
   pub entry-length : Determined entry-length.Post
   pub entry-from : DeterminedPart entry-from.Post
   pub copy-file : DeterminedWith copy-file.Post (λ κs s. now (s .1 .0))
+  pub explain : Determined explain.Post
+  pub explain-file : Determined explain-file.Post
   -- for host programs
   pub x4-version : Determined x4-version.Post
   pub x4-judge : DeterminedWith x4-judge.Post (λ κs s. now (s .1 .0))
@@ -72,3 +78,10 @@ pub record OneAnswer : Type 0 where
   pub x4-judge-file : DeterminedWith x4-judge-file.Post (λ κs s. now (s .1 .0))
   pub x4-entry-length : Determined x4-entry-length.Post
   pub x4-copy-file : DeterminedWith x4-copy-file.Post (λ κs s. now (s .1 .0))
+  -- three arrays are lent: totals, facts and characters
+  pub x4-explain : DeterminedWith explained.Post (λ κs s. now (s .1 .0))
+  pub x4-explain-facts : DeterminedWith explained.Post (λ κs s. now (s .1 .1 .0))
+  pub x4-explain-characters : DeterminedWith explained.Post (λ κs s. now (s .1 .1 .1 .0))
+  pub x4-explain-file : DeterminedWith explained-file.Post (λ κs s. now (s .1 .0))
+  pub x4-explain-file-facts : DeterminedWith explained-file.Post (λ κs s. now (s .1 .1 .0))
+  pub x4-explain-file-characters : DeterminedWith explained-file.Post (λ κs s. now (s .1 .1 .1 .0))

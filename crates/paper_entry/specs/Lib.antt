@@ -9,3 +9,4 @@ pub mod Judging
 pub mod Contexts
 pub mod Answer
 pub mod Part
+pub mod Ranging

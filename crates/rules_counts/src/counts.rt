@@ -19,7 +19,7 @@ use rules_roles::roles::is_system;
 use rules_roles::roles::opens_section;
 
 // The count that an END record must give.
-fn true_count(track: Track, role: usize) -> u64
+pub fn true_count(track: Track, role: usize) -> u64
     ensures { λ r. ⌜ r ≡ trueCount track role ⌝ }
 {
     if role == ENDENTRY {

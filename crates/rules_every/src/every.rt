@@ -58,7 +58,7 @@ pub fn rule4(role: usize) -> u8
 }
 
 // The identification that a record with the role and these fields must bear.
-fn expected_identification(track: Track, role: usize, fs: [[u8; 11]; 6]) -> [u8; 8]
+pub fn expected_identification(track: Track, role: usize, fs: [[u8; 11]; 6]) -> [u8; 8]
     ensures { λ r. ⌜ r ≡ expectedIdentification track role fs ⌝ }
 {
     let f = fs[1];
@@ -90,7 +90,7 @@ pub fn rule5(track: Track, role: usize, fs: [[u8; 11]; 6], rec: &[u8]) -> u8
 }
 
 // The sequence number that a record with the role must bear.
-fn expected_sequence(track: Track, role: usize) -> u32
+pub fn expected_sequence(track: Track, role: usize) -> u32
     requires { ⌜ Bounded track ⌝ }
     ensures { λ r. ⌜ r ≡ expectedSequence track role ⌝ }
 {

@@ -14,7 +14,7 @@ pub const MOST_COLUMNS: u64 = 18;
 
 pub const MOST_LINES: u64 = 20000;
 
-fn limit_n1(role: usize) -> Limit
+pub fn limit_n1(role: usize) -> Limit
     ensures { λ r. ⌜ r ≡ limitN1 role ⌝ }
 {
     if role == BIB {
@@ -23,7 +23,7 @@ fn limit_n1(role: usize) -> Limit
     Limit::Between(1, MOST_COLUMNS)
 }
 
-fn limit_n2(role: usize, n: u64) -> Limit
+pub fn limit_n2(role: usize, n: u64) -> Limit
     requires { ⌜ Few role n ⌝ }
     ensures { λ r. ⌜ r ≡ limitN2 role n ⌝ }
 {

@@ -2,10 +2,11 @@
 
 #![forbid(unsafe_code)]
 
+use glockenbeacon::explain::Explanation;
 use glockenbeacon::json::{object, text};
 use glockenbeacon::tables::{file_tables, from_csv, tables, to_csv, to_json, Row, Table};
 use glockenbeacon::transmission::{accession, entries_in_words, is_transmission, Place};
-use glockenbeacon::{compare, explain, library, NoAnswer, Refusal, Verdict};
+use glockenbeacon::{compare, explain, library, NoAnswer, Reason, Refusal, Verdict};
 use std::ffi::{OsStr, OsString};
 use std::io::{self, IsTerminal, Read, Write};
 use std::process::ExitCode;
@@ -14,7 +15,7 @@ const HELP: &str = "\
 x4 reads EXFOR entries and transmissions. A file is one entry, from ENTRY to ENDENTRY, or, where its first record is
 TRANS, one transmission: TRANS, one or more entries, ENDTRANS.
 
-  x4 judge [--json] [FILE..]       is it good, and if not, where is its first fault
+  x4 judge [--json] [FILE..]       is it good, and if not, where is its first fault, and why
   x4 tables [--json] [--digits] [FILE]
                                    every COMMON and DATA table, as comma-separated values
   x4 canon [FILE]                  the canonical copy: every number but flags in its shortest spelling
@@ -32,6 +33,11 @@ x4 judge [--json] [FILE..]
 Prints seven numbers: refusal, record, column, subentries, keywords, DATA lines, numbers. A good entry has refusal 0.
 A refused one has the number, record and column of its first fault, and zeros; then come what was expected there, what
 stands there, and the record with a mark under the column. With --json each file is one line, an object.
+
+For refusals 5, 6, 8, 9, 13 and 14 the facts in these words come from the proved library, as the verdict does: the
+expected characters; the announced and the true count, or the least and the greatest; the number of the subentry before;
+record and column of the first equal heading; the pointer. With --json they are the object 'reason', where 0 stands for
+no greatest and no subentry before; for other refusals it is null. The words around them are x4's own.
 
 Of a transmission there are eight numbers. The record is counted from TRANS, the totals are those of all entries, and
 the eighth is the ordinal of the entry that is refused: 0 where it is good, with refusals 1 and 16, and outside ENTRY to
@@ -269,22 +275,21 @@ fn place<'i>(input: &'i [u8], refusal: &Refusal) -> Option<Place<'i>> {
     (is_transmission(input) && refusal.record > 0).then(|| Place::of(input, refusal))
 }
 
-/// What was expected, what was found, and the note.
-fn explained(input: &[u8], refusal: &Refusal) -> (String, String, Option<String>) {
-    let words = match is_transmission(input) {
-        true => explain::explain_file(input, refusal),
-        false => explain::explain(input, refusal),
-    };
-    let note = match is_transmission(input) {
-        true => words.note,
-        false => explain::note_on(input, refusal, &words),
-    };
-    (words.expected, words.found, note)
+/// The facts of a refusal, and its words with the note on all the input.
+fn explained(input: &[u8], refusal: &Refusal) -> (Reason, Explanation) {
+    if is_transmission(input) {
+        let reason = library::explain_file(input).reason;
+        return (reason, explain::explain_file(input, refusal, reason));
+    }
+    let reason = library::explain(input).reason;
+    let words = explain::explain(input, refusal, reason);
+    let note = explain::note_on(input, refusal, &words);
+    (reason, Explanation { note, ..words })
 }
 
 /// A refusal in words, and its record.
 fn refused_words(input: &[u8], refusal: &Refusal) -> String {
-    let (expected, found, note) = explained(input, refusal);
+    let Explanation { expected, found, note } = explained(input, refusal).1;
     let mut said = format!("{refusal}\n{}", explain::shown(input, refusal).unwrap_or_default());
     let place = place(input, refusal).filter(|_| refusal.ordinal > 0);
     if let Some((place, entry)) = place.and_then(|place| Some((place, place.entry_in_words()?))) {
@@ -323,12 +328,31 @@ fn judged_json(file: &OsStr, input: &[u8], verdict: &Verdict) -> String {
         members.push(("accession", or_null(named)));
         members.push(("entry_record", place.map_or("null".into(), |place| place.record.to_string())));
     }
-    let (expected, found, note) = explained(input, refusal);
+    let (reason, Explanation { expected, found, note }) = explained(input, refusal);
     members.push(("meaning", text(refusal.meaning())));
+    members.push(("reason", reason_json(&reason, refusal)));
     members.push(("expected", text(&expected)));
     members.push(("found", text(&found)));
     members.push(("note", or_null(note)));
     object(&members) + "\n"
+}
+
+/// The facts of a refusal under their names; null where nothing more is said.
+fn reason_json(reason: &Reason, refusal: &Refusal) -> String {
+    let number = |number: u64| number.to_string();
+    let members = match *reason {
+        Reason::Alone => return "null".into(),
+        Reason::Count { announced, due } => vec![("announced", number(announced)), ("true", number(due))],
+        Reason::Range { least, greatest } => vec![("least", number(least)), ("greatest", number(greatest))],
+        Reason::Previous(before) => vec![("previous", number(before.into()))],
+        Reason::Equal { record, column } => vec![("record", number(record.into())), ("column", number(column.into()))],
+        Reason::Pointer(pointer) => vec![("pointer", text(&char::from(pointer).to_string()))],
+        Reason::Expected(_) => {
+            let expected = reason.expected(refusal.number).unwrap_or_default();
+            vec![("characters", text(&String::from_utf8_lossy(expected)))]
+        }
+    };
+    object(&members)
 }
 
 /// The message for an input that is refused where a good one is needed.

@@ -57,6 +57,7 @@ pub const CAUSES: &[(&str, Act)] = &[
     ("8 lines out of range", lines_range),
     ("8 END count untrue", end_count),
     ("8 keyword total untrue", keyword_total),
+    ("8 keyword total and count of ENDBIB untrue", both_on_end_bib),
     ("9 other accession", other_accession),
     ("9 first not 001", first_not_001),
     ("9 not rising", not_rising),
@@ -493,9 +494,14 @@ fn lines_range(random: &mut Random, sheet: &mut Sheet) -> Option<Fault> {
 
 fn end_count(random: &mut Random, sheet: &mut Sheet) -> Option<Fault> {
     let at = system(random, sheet, &["ENDBIB", "ENDCOMMON", "ENDDATA", "ENDSUBENT", "ENDENTRY"])?;
+    Some(untrue(random, sheet, at))
+}
+
+/// Another count on an END record.
+fn untrue(random: &mut Random, sheet: &mut Sheet, at: usize) -> Fault {
     let count = number(sheet, at, 1);
     set(sheet, at, 1, random.one(&[count + 1, count - 1, count + 4_294_967_296, count * 10]));
-    Some((8, at, 12))
+    (8, at, 12)
 }
 
 fn keyword_total(random: &mut Random, sheet: &mut Sheet) -> Option<Fault> {
@@ -507,6 +513,11 @@ fn keyword_total(random: &mut Random, sheet: &mut Sheet) -> Option<Fault> {
     }
     set(sheet, at, 1, wrong);
     Some((8, sheet.next(at, "ENDBIB")?, 12))
+}
+
+fn both_on_end_bib(random: &mut Random, sheet: &mut Sheet) -> Option<Fault> {
+    let (_, at, _) = keyword_total(random, sheet)?;
+    Some(untrue(random, sheet, at))
 }
 
 fn other_accession(random: &mut Random, sheet: &mut Sheet) -> Option<Fault> {

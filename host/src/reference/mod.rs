@@ -6,12 +6,14 @@
 //! neighbours for headings that may (M-101); the verdict is the least of the noted faults. A number field is taken
 //! apart as text, its digits are counted by its characters, a flag is its code (M-105) by its digits, and the canonical
 //! field is found by trying the shapes of fields in the paper's order of preference. A transmission (M-100) is cut
-//! behind each ENDENTRY, and every piece is judged as an entry of its own.
+//! behind each ENDENTRY, and every piece is judged as an entry of its own. Why it is refused (M-108) is read off the tree
+//! of the records up to the refused one.
 
 mod files;
 pub mod flags;
 pub mod number;
 pub mod questions;
+mod reasons;
 pub mod record;
 mod rules;
 pub mod tree;
@@ -20,7 +22,8 @@ use crate::{Refusal, Verdict};
 pub use files::{copy_file, entry_length, judge_file};
 pub use number::{read_number, write_number};
 pub use questions::{canonical_copy, heading, passage, unit, value};
-pub use rules::{identification_due, keyword_total, may_repeat};
+pub use reasons::{explain, explain_file};
+pub use rules::may_repeat;
 use tree::Tree;
 
 /// "An entry is 1 to 20,000 records."

@@ -203,17 +203,12 @@ fn end_counts(tree: &Tree, notes: &mut Notes) {
     let says = |at: usize| count(tree.records[at].n1());
     let between = |opening: usize, end: usize| Some((end - opening - 1) as u64);
     for subentry in &tree.subentries {
-        let bib = subentry.bib.as_ref();
-        let sections = bib
-            .iter()
-            .map(|bib| (bib.opening, bib.end))
-            .chain(subentry.tables().map(|table| (table.opening, table.end)));
-        for (opening, end) in sections.chain([(subentry.opening, subentry.end)]) {
+        for (opening, end) in subentry.spans() {
             if let Some(end) = end {
                 notes.check(says(end) == between(opening, end), 8, end, 12);
             }
         }
-        if let Some((bib, end)) = bib.and_then(|bib| Some((bib, bib.end?))) {
+        if let Some((bib, end)) = subentry.bib.as_ref().and_then(|bib| Some((bib, bib.end?))) {
             notes.check(says(bib.opening) == Some(keyword_total(tree, bib) as u64), 8, end, 12);
         }
     }

@@ -150,6 +150,13 @@ impl Subentry {
     pub fn tables(&self) -> impl Iterator<Item = &Table> {
         self.common.iter().chain(self.data.iter())
     }
+
+    /// Its sections and itself: the record that opens each, and the one that ends it.
+    pub fn spans(&self) -> impl Iterator<Item = (usize, Option<usize>)> + '_ {
+        let bib = self.bib.iter().map(|bib| (bib.opening, bib.end));
+        let tables = self.tables().map(|table| (table.opening, table.end));
+        bib.chain(tables).chain([(self.opening, self.end)])
+    }
 }
 
 /// An entry laid out.

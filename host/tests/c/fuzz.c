@@ -65,6 +65,24 @@ static void fill(Buffer *b, const uint8_t *bytes, size_t length) {
 
 static uint8_t work[ROOM];
 
+/* another number in a system record, the first from a byte on that opens a section or a subentry: a count, or the
+ * number of the subentry in both its places */
+static void renumber(size_t n, size_t at) {
+    static const char *opens[] = {"BIB        ", "COMMON     ", "DATA       ", "SUBENT     "};
+    for (; at + RECORD <= n; at += RECORD) {
+        for (int i = 0; i < 4; i++) {
+            if (memcmp(work + at, opens[i], 11)) continue;
+            if (i < 3) {
+                memcpy(work + at + 11 * (1 + below(2)), below(2) ? "          0" : "99999999999", 11);
+            } else {
+                memcpy(work + at + 19, "000", 3);
+                memcpy(work + at + 71, "000", 3);
+            }
+            return;
+        }
+    }
+}
+
 /* changes the first n bytes of it, up to three times */
 static size_t mutate(size_t n) {
     static const char *names[] = {"ENTRY      ", "ENDENTRY   ", "SUBENT     ", "NOSUBENT   ", "ENDSUBENT  ",
@@ -76,7 +94,7 @@ static size_t mutate(size_t n) {
     static const char likely[] = " 0123456789+-.EA\n";
     for (size_t times = below(4); times > 0 && n > RECORD; times--) {
         size_t records = n / RECORD, at = below(n), a = below(records) * RECORD, b = below(records) * RECORD;
-        switch (below(9)) {
+        switch (below(11)) {
         case 0: work[at] = (uint8_t)bits(); break;
         case 1: work[at] = (uint8_t)likely[below(sizeof likely - 1)]; break;
         case 2: memmove(work + a, work + b, RECORD); break;
@@ -90,6 +108,8 @@ static size_t mutate(size_t n) {
         case 5: memcpy(work + a + 11 * below(6), names[below(sizeof names / sizeof *names)], 11); break;
         case 6: n = below(6) ? n - RECORD : at; break;
         case 7: memmove(work + a + 11 * below(6), work + a + 11 * below(6), 11); break; /* a heading repeated */
+        case 8: renumber(n, a); break;
+        case 9: work[a + 11 * below(6) + 10] = (uint8_t) "123456789ABCXYZ"[below(15)]; break; /* a pointer */
         default: work[at] ^= (uint8_t)(1u << below(8)); break;
         }
     }
@@ -313,6 +333,89 @@ static void fields(Buffer *field) {
     }
 }
 
+/* ---- reasons */
+
+typedef uint64_t Judge(const uint8_t *, size_t, uint64_t *);
+typedef uint64_t Explainer(const uint8_t *, size_t, uint64_t *, uint64_t *, uint8_t *);
+
+static uint64_t kinds[7];
+
+/* which kind of reason a refusal has */
+static int fits(uint32_t refusal, uint64_t kind) {
+    switch (refusal) {
+    case 5:
+    case 6: return kind == 6;
+    case 8: return kind == 1 || kind == 2;
+    case 9: return kind == 3;
+    case 13: return kind == 4;
+    case 14: return kind == 5;
+    default: return kind == 0;
+    }
+}
+
+/* with the expected characters in their place the refusal is gone, and none before it has come */
+static void mended(Judge *judge, const Buffer *input, uint64_t word, const uint8_t characters[8]) {
+    static uint8_t copy[ROOM];
+    size_t at = (x4_entry_record(word) - 1) * (size_t)RECORD + x4_entry_column(word) - 1;
+    memcpy(copy, input->bytes, input->length);
+    memcpy(copy + at, characters, x4_refusal(word) == 5 ? 8 : 5);
+    uint64_t left = judge(copy, input->length, lend(4));
+    check(!left || x4_entry_record(left) > x4_entry_record(word) ||
+              (x4_entry_record(left) == x4_entry_record(word) && x4_refusal(left) > x4_refusal(word)),
+          "the expected characters mend it");
+}
+
+/* the equal heading stands before the refused one, and is equal */
+static void equal_heading(const Buffer *input, uint64_t word, uint64_t record, uint64_t column) {
+    uint64_t own = (x4_entry_record(word) - UINT64_C(1)) * RECORD + x4_entry_column(word) - 1;
+    uint64_t at = (record - 1) * RECORD + column - 1;
+    check(record > 0 && column % 11 == 1 && column <= 56, "a field of a record");
+    check(at < own && !memcmp(input->bytes + at, input->bytes + own, 11), "an equal heading before it");
+}
+
+static void reason(Judge *judge, const Buffer *input, uint64_t word, const uint64_t f[3], const uint8_t characters[8]) {
+    const uint8_t *record = input->bytes + (f[0] ? (x4_entry_record(word) - 1) * (size_t)RECORD : 0);
+    check(f[0] == 6 || !memcmp(characters, "        ", 8), "blanks where no characters are expected");
+    switch (f[0]) {
+    case 1: check(f[1] != f[2] && f[1] <= UINT64_C(99999999999), "a count that is untrue"); break;
+    case 2: check(f[1] > 0 && (!f[2] || f[1] < f[2]), "the least and the greatest"); break;
+    case 3: check(f[1] <= 998 && !f[2], "a number of a subentry"); break;
+    case 4: equal_heading(input, word, f[1], f[2]); break;
+    case 5: check(f[1] == record[x4_entry_column(word) + 9] && !f[2], "the heading's pointer"); break;
+    case 6:
+        check(!f[1] && !f[2] && (x4_refusal(word) == 5 || !memcmp(characters + 5, "   ", 3)), "eight, or five");
+        mended(judge, input, word, characters);
+        break;
+    default: check(!f[1] && !f[2], "zeros where nothing is said"); break;
+    }
+}
+
+/* the verdict once more, with the same totals or none, and a reason that is stored always */
+static void explained_by(Explainer *call, Judge *judge, const Buffer *input, uint64_t verdict,
+                         const uint64_t totals[4]) {
+    static Buffer facts, characters;
+    if (!facts.pages) {
+        facts = fenced();
+        characters = fenced();
+    }
+    uint64_t *own = lend(4), numbers[3];
+    uint8_t expected[8];
+    lay(&facts, sizeof numbers);
+    lay(&characters, sizeof expected);
+    memset(facts.bytes, 0xa5, facts.length);
+    memset(characters.bytes, 0xa5, characters.length);
+    uint64_t *lent_facts = (uint64_t *)(void *)facts.bytes;
+    uint64_t word = call(input->bytes, input->length, own, lent_facts, characters.bytes);
+    memcpy(numbers, facts.bytes, sizeof numbers);
+    memcpy(expected, characters.bytes, sizeof expected);
+    check(word == verdict, "the verdict of judging");
+    untouched(word);
+    check(word || !memcmp(own, totals, 4 * sizeof *totals), "the totals of judging");
+    check(numbers[0] <= 6 && fits(x4_refusal(word), numbers[0]), "a kind of reason that the refusal has");
+    kinds[numbers[0]]++;
+    reason(judge, input, word, numbers, expected);
+}
+
 /* ---- transmissions */
 
 /* an entry that begins with a byte: it lies in the file, from ENTRY to the first ENDENTRY */
@@ -399,6 +502,7 @@ static void transmissions(Buffer *file, Buffer *copy, Buffer *again, size_t coun
     uint64_t totals[4], verdict = judged_file(file->bytes, n, totals);
     file_refusals[x4_refusal(verdict)]++;
     inside += x4_entry_ordinal(verdict) > 0;
+    explained_by(x4_explain_file, x4_judge_file, file, verdict, totals);
     entries_of(file, verdict, totals);
     for (size_t at = 0; at < n; at += RECORD) {
         begun += entry_at(file, at) > 0;
@@ -427,6 +531,7 @@ int main(int count, char **words) {
         fill(&entry, work, n);
         uint64_t totals[4], verdict = judged(entry.bytes, n, totals);
         accepted += verdict == 0;
+        explained_by(x4_explain, x4_judge, &entry, verdict, totals);
         for (int i = 0; i < 8; i++) {
             questions(&entry, &keyword, verdict);
         }
@@ -450,6 +555,10 @@ int main(int count, char **words) {
             printf(" %d:%" PRIu64, i, file_refusals[i]);
         }
     }
-    printf(", %" PRIu64 " of them refused in an entry, %" PRIu64 " entries begun\n", inside, begun);
+    printf(", %" PRIu64 " of them refused in an entry, %" PRIu64 " entries begun; reasons by kind", inside, begun);
+    for (int i = 0; i < 7; i++) {
+        printf(" %d:%" PRIu64, i, kinds[i]);
+    }
+    putchar('\n');
     return 0;
 }

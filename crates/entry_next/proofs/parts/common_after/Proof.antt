@@ -1,4 +1,4 @@
-use Rattle.entry_next.specs.Ranging.{commonAfter}
+use Rattle.paper_entry.specs.Ranging.{commonAfter}
 use borrow.Author.Tests.{eq-eqb, ne-eqb}
 use borrow.Author.Needs.{needs}
 use Rattle.entry_next.proofs.parts.common_after.Statement.{statement}

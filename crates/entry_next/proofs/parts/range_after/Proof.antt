@@ -1,4 +1,4 @@
-use Rattle.entry_next.specs.Ranging.{rangeAfter}
+use Rattle.paper_entry.specs.Ranging.{rangeAfter}
 use borrow.Author.Needs.{needs}
 use Rattle.entry_next.proofs.parts.range_after.Statement.{statement}
 use Rattle.entry_next.proofs.parts.range_after.Tie as tie

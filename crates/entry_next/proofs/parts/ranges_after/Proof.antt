@@ -1,5 +1,5 @@
 use mathlib.Core.Path.{refl}
-use Rattle.entry_next.specs.Ranging.{rangesAfter}
+use Rattle.paper_entry.specs.Ranging.{rangesAfter}
 use borrow.Author.Needs.{needs}
 use Rattle.entry_next.proofs.parts.ranges_after.Statement.{statement}
 use Rattle.entry_next.proofs.parts.ranges_after.Tie as tie

@@ -1,0 +1,4 @@
+pub mod OneRecord
+pub mod Before
+pub mod LastOf
+pub mod Openers

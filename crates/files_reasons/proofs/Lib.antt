@@ -1,0 +1,2 @@
+pub mod There
+pub mod Answers

@@ -1,0 +1,3 @@
+// Why a file is refused.
+pub mod explain_file;
+pub mod within;

@@ -1,0 +1,2 @@
+pub mod PassedEntries
+pub mod Reasons

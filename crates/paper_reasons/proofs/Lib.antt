@@ -1,0 +1,2 @@
+pub mod NoReason
+pub mod Passed

@@ -1,0 +1,48 @@
+-- Safe, and ends at the wanted length. The room keeps its own.
+use lib.ListN.{length}
+use Prim.Native.Nat.{_-_}
+use mathlib.Core.Path.{_≡_}
+use borrow.Author.Needs.{needs}
+use Rattle.program_cases.proofs.case.resize.Statement.{statement}
+use Rattle.program_cases.proofs.case.resize.Tie as tie
+
+abbrev Inv-loop : tie.InvT-loop
+Inv-loop case₀ size wanted i₀ case i = length case ≡ length case₀
+
+abbrev μ-loop : tie.MeasureT-loop
+μ-loop case₀ size wanted i₀ case i = wanted - i
+
+loop-holds : tie.Need-loop-holds Inv-loop μ-loop
+loop-holds c = search needs
+
+put-requires : tie.Need-put-requires Inv-loop μ-loop
+put-requires c κs = search needs
+
+add-i : tie.Need-add-i Inv-loop μ-loop
+add-i c = search needs
+
+loop-less : tie.Need-loop-less Inv-loop μ-loop
+loop-less c = search needs
+
+loop-again : tie.Need-loop-again Inv-loop μ-loop
+loop-again c = search needs
+
+same-length : tie.Need-same-length Inv-loop μ-loop
+same-length c = search needs
+
+returns : tie.Need-returns Inv-loop μ-loop
+returns c = search needs
+
+pub resize-spec : {M : Type 1} → statement M
+resize-spec =
+    tie.close
+    (tie.spec
+    Inv-loop
+    μ-loop
+    loop-holds
+    put-requires
+    add-i
+    loop-less
+    loop-again
+    same-length
+    returns)

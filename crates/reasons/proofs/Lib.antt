@@ -1,0 +1,3 @@
+pub mod RangesAt
+pub mod AskedFor
+pub mod Characters

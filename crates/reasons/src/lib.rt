@@ -1,0 +1,3 @@
+// Why an entry is refused.
+pub mod explain;
+pub mod state;

@@ -1,0 +1,2 @@
+pub mod HeadingsFound
+pub mod RoundedUp

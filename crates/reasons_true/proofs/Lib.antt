@@ -1,0 +1,14 @@
+pub mod Long
+pub mod Put
+pub mod ReasonAt
+pub mod Mended
+pub mod Ranged
+pub mod RangeRows
+pub mod Sections
+pub mod FirstPlace
+pub mod Told
+pub mod Leading
+pub mod LeastPlace
+pub mod Counts
+pub mod Small
+pub mod Alone

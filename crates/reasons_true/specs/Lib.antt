@@ -1,0 +1,4 @@
+pub mod Mended
+pub mod Counted
+pub mod Equal
+pub mod Said
