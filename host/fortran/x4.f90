@@ -1,6 +1,6 @@
 ! The functions of the proved archives (rt staticlib) for Fortran. The numbers are document 01's; the count of digits is
 ! that of document 02, M-104, refusal 17, a flag with an exponent or one that equals no code, that of M-105,
-! transmissions are those of M-100, and reasons those of M-108.
+! transmissions are those of M-100, reasons those of M-108, and the index of subentries is that of M-102.
 !
 ! A call returns a word, 0 where it is answered, and then stores what it answers in an array that is lent to it:
 ! totals(4) are subentries, keywords, DATA lines, numbers; value(8) are kind (0 blank, 1 number), 1 if below zero,
@@ -17,9 +17,14 @@ module x4
   public :: x4_judged, x4_ask_value, x4_ask_heading, x4_ask_unit, x4_ask_passage, x4_copied, x4_read, x4_write
   public :: x4_judged_file, x4_entry_at, x4_copied_file
   public :: x4_reason, x4_explained, x4_explained_file
+  public :: x4_most_numbers, x4_made_index, x4_find_row
+  public :: x4_index_ask_value, x4_index_ask_heading, x4_index_ask_unit, x4_index_ask_passage
 
   ! The interface that this module describes; x4_version() is the same of the archives.
   integer(c_int32_t), parameter :: x4_interface = 4
+
+  ! The most numbers that an index has: five to a subentry, of which there are 998 at the most.
+  integer, parameter :: x4_most_numbers = 4990
 
   ! A refusal by its number, 0 where there is none; beside 31 why the entry or transmission is refused, else zeros. The
   ! ordinal is that of the entry in a transmission, 0 for a single entry and outside entries.
@@ -186,6 +191,69 @@ module x4
       character(kind=c_char), intent(inout) :: characters(8)
       integer(c_int64_t) :: word
     end function x4_explain_file
+
+    function c_index(entry, length, index, numbers, rows) bind(c, name='x4_index') result(word)
+      import :: c_char, c_int32_t, c_int64_t, c_size_t
+      character(kind=c_char), intent(in) :: entry(*)
+      integer(c_int32_t), intent(inout) :: index(*)
+      integer(c_size_t), value :: length, numbers
+      integer(c_int64_t), intent(inout) :: rows(1)
+      integer(c_int64_t) :: word
+    end function c_index
+
+    function c_index_row(index, numbers, subentry, before) bind(c, name='x4_index_row') result(word)
+      import :: c_int32_t, c_int64_t, c_size_t
+      integer(c_int32_t), intent(in) :: index(*)
+      integer(c_size_t), value :: numbers
+      integer(c_int32_t), value :: subentry
+      integer(c_int64_t), intent(inout) :: before(1)
+      integer(c_int64_t) :: word
+    end function c_index_row
+
+    function c_index_value(entry, length, index, numbers, subentry, section, line, column, value) &
+        bind(c, name='x4_index_value') result(word)
+      import :: c_char, c_int32_t, c_int64_t, c_size_t
+      character(kind=c_char), intent(in) :: entry(*)
+      integer(c_int32_t), intent(in) :: index(*)
+      integer(c_size_t), value :: length, numbers
+      integer(c_int32_t), value :: subentry, section, line, column
+      integer(c_int64_t), intent(inout) :: value(8)
+      integer(c_int64_t) :: word
+    end function c_index_value
+
+    function c_index_heading(entry, length, index, numbers, subentry, section, column, part) &
+        bind(c, name='x4_index_heading') result(word)
+      import :: c_char, c_int32_t, c_int64_t, c_size_t
+      character(kind=c_char), intent(in) :: entry(*)
+      integer(c_int32_t), intent(in) :: index(*)
+      integer(c_size_t), value :: length, numbers
+      integer(c_int32_t), value :: subentry, section, column
+      integer(c_int64_t), intent(inout) :: part(3)
+      integer(c_int64_t) :: word
+    end function c_index_heading
+
+    function c_index_unit(entry, length, index, numbers, subentry, section, column, part) &
+        bind(c, name='x4_index_unit') result(word)
+      import :: c_char, c_int32_t, c_int64_t, c_size_t
+      character(kind=c_char), intent(in) :: entry(*)
+      integer(c_int32_t), intent(in) :: index(*)
+      integer(c_size_t), value :: length, numbers
+      integer(c_int32_t), value :: subentry, section, column
+      integer(c_int64_t), intent(inout) :: part(3)
+      integer(c_int64_t) :: word
+    end function c_index_unit
+
+    function c_index_passage(entry, length, index, numbers, subentry, keyword, keyword_length, pointer, part) &
+        bind(c, name='x4_index_passage') result(word)
+      import :: c_char, c_int8_t, c_int32_t, c_int64_t, c_size_t
+      character(kind=c_char), intent(in) :: entry(*), keyword(*)
+      integer(c_int32_t), intent(in) :: index(*)
+      integer(c_size_t), value :: length, numbers, keyword_length
+      integer(c_int32_t), value :: subentry
+      integer(c_int8_t), value :: pointer
+      integer(c_int64_t), intent(inout) :: part(3)
+      integer(c_int64_t) :: word
+    end function c_index_passage
   end interface
 
 contains
@@ -296,6 +364,88 @@ contains
                      transfer(pointer, 0_c_int8_t), numbers)
     p = part_in(word, numbers)
   end function x4_ask_passage
+
+  ! Makes the index of an entry in the front of an array: five numbers to a subentry, which are its number, its first
+  ! record, and the records BIB, COMMON and DATA, 0 where there is none; numbers past them stay. `rows` is how many
+  ! subentries there are, 0 where it is refused: 31, or 38 where the array is too short. Questions take index(:5*rows).
+  function x4_made_index(entry, index, rows) result(r)
+    character(len=*, kind=c_char), intent(in) :: entry
+    integer(c_int32_t), contiguous, intent(inout) :: index(:)
+    integer, intent(out) :: rows
+    type(x4_refused) :: r
+    integer(c_int64_t) :: stored(1)
+    stored = 0
+    r = refused_in(c_index(entry, len(entry, c_size_t), index, size(index, kind=c_size_t), stored))
+    rows = int(stored(1))
+  end function x4_made_index
+
+  ! The first row of a subentry is index(first:first+4), which is an index by itself; first is 1 where it is refused: 38
+  ! numbers that are not whole rows, 32 no row of it.
+  function x4_find_row(index, subentry, first) result(r)
+    integer(c_int32_t), contiguous, intent(in) :: index(:)
+    integer(c_int32_t), intent(in) :: subentry
+    integer, intent(out) :: first
+    type(x4_refused) :: r
+    integer(c_int64_t) :: before(1)
+    before = 0
+    r = refused_in(c_index_row(index, size(index, kind=c_size_t), subentry, before))
+    first = 5*int(before(1)) + 1
+  end function x4_find_row
+
+  ! The questions by an index. For an accepted entry and its own index, cut to its rows, their answers are those of the
+  ! full questions. With any other bytes and numbers there is an answer, too, or one of these refusals: 38, numbers that
+  ! are not whole rows, 32 to 36, or 39, what is read is not what the index says. The entry is not judged.
+  function x4_index_ask_value(entry, index, subentry, section, line, column) result(v)
+    character(len=*, kind=c_char), intent(in) :: entry
+    integer(c_int32_t), contiguous, intent(in) :: index(:)
+    integer(c_int32_t), intent(in) :: subentry, section, line, column
+    type(x4_value) :: v
+    integer(c_int64_t) :: word, numbers(8)
+    numbers = 0
+    word = c_index_value(entry, len(entry, c_size_t), index, size(index, kind=c_size_t), subentry, section, line, &
+                         column, numbers)
+    v = value_in(word, numbers)
+  end function x4_index_ask_value
+
+  function x4_index_ask_heading(entry, index, subentry, section, column) result(p)
+    character(len=*, kind=c_char), intent(in) :: entry
+    integer(c_int32_t), contiguous, intent(in) :: index(:)
+    integer(c_int32_t), intent(in) :: subentry, section, column
+    type(x4_part) :: p
+    integer(c_int64_t) :: word, numbers(3)
+    numbers = 0
+    word = c_index_heading(entry, len(entry, c_size_t), index, size(index, kind=c_size_t), subentry, section, column, &
+                           numbers)
+    p = part_in(word, numbers)
+  end function x4_index_ask_heading
+
+  function x4_index_ask_unit(entry, index, subentry, section, column) result(p)
+    character(len=*, kind=c_char), intent(in) :: entry
+    integer(c_int32_t), contiguous, intent(in) :: index(:)
+    integer(c_int32_t), intent(in) :: subentry, section, column
+    type(x4_part) :: p
+    integer(c_int64_t) :: word, numbers(3)
+    numbers = 0
+    word = c_index_unit(entry, len(entry, c_size_t), index, size(index, kind=c_size_t), subentry, section, column, &
+                        numbers)
+    p = part_in(word, numbers)
+  end function x4_index_ask_unit
+
+  ! A keyword that is not ten characters long is never answered: 36 when all text records were read, 39 where they leave
+  ! the entry.
+  function x4_index_ask_passage(entry, index, subentry, keyword, pointer) result(p)
+    character(len=*, kind=c_char), intent(in) :: entry, keyword
+    integer(c_int32_t), contiguous, intent(in) :: index(:)
+    integer(c_int32_t), intent(in) :: subentry
+    character(kind=c_char), intent(in) :: pointer
+    type(x4_part) :: p
+    integer(c_int64_t) :: word, numbers(3)
+    numbers = 0
+    ! as a number, as in x4_ask_passage
+    word = c_index_passage(entry, len(entry, c_size_t), index, size(index, kind=c_size_t), subentry, keyword, &
+                           len(keyword, c_size_t), transfer(pointer, 0_c_int8_t), numbers)
+    p = part_in(word, numbers)
+  end function x4_index_ask_passage
 
   ! Stores the canonical copy in the front of a text that is as long as the entry or longer. Columns under FLAG and
   ! DECAY-FLAG stay as they were.

@@ -1,8 +1,9 @@
 /* The functions of the proved archives (rt staticlib) for C.
  *
- * A slice of bytes is a pointer and a length. Every call answers for every argument: nothing has to be tested before,
- * but a pointer must be that of so many bytes or numbers. The numbers are document 01's; the count of digits is that of
- * document 02, M-104, refusal 17 that of M-105, transmissions are those of M-100, and reasons those of M-108.
+ * A slice of bytes or of numbers is a pointer and a length. Every call answers for every argument: nothing has to be
+ * tested before, but a pointer must be that of so many bytes or numbers. The numbers are document 01's; the count of
+ * digits is that of document 02, M-104, refusal 17 that of M-105, transmissions are those of M-100, reasons those of
+ * M-108, and the index is that of M-102.
  *
  * A call returns a word, 0 where it is answered, and then stores what it answers in the array that is lent to it, as
  * long as its parameter says. A refused call stores nothing but the reason that it is asked for.
@@ -114,6 +115,52 @@ uint64_t x4_copy_file(const uint8_t *file, size_t length, uint8_t *out, size_t o
 uint64_t x4_explain(const uint8_t *entry, size_t length, uint64_t totals[4], uint64_t facts[3], uint8_t characters[8]);
 uint64_t x4_explain_file(const uint8_t *file, size_t length, uint64_t totals[4], uint64_t facts[3],
                          uint8_t characters[8]);
+
+/* ---- an index of subentries, kept beside the entry: questions by it judge nothing and read a few records */
+
+/* Makes the index of an entry in the front of a slice of so many numbers: five to a subentry in entry order, NOSUBENT
+ * too. They are
+ *
+ *     its number, its first record, and the records BIB, COMMON and DATA, 0 where there is none
+ *
+ * and rows[0] is how many such rows there are; numbers past them stay. Refusals: 31; 38 slice too short for the rows. An
+ * entry has 998 subentries at the most, so 4,990 numbers are always enough; totals[0] of x4_judge says how many it has.
+ * The slice does not overlap the entry. */
+uint64_t x4_index(const uint8_t *entry, size_t length, uint32_t *index, size_t numbers, uint64_t rows[1]);
+
+/* How many rows of an index stand before the first one of a subentry. Refusals: 38 numbers that are not whole rows, 32
+ * no row of it. The five numbers from index + 5 * before[0] on are by themselves an index of one row: a program that goes
+ * through a table finds the row once and asks by these five. */
+uint64_t x4_index_row(const uint32_t *index, size_t numbers, uint32_t subentry, uint64_t before[1]);
+
+/* The questions by an index. Cut it to its rows: numbers is 5 * rows[0]. For an accepted entry and the index made for it
+ * every answer is that of the full question, x4_value to x4_passage.
+ *
+ * With any other bytes and any other numbers there is an answer, too: the first row of the subentry is taken, then its
+ * first record is read, the section's record, and the field's, or BIB's text records up to the passage's end. Refusals:
+ *
+ *     38       the numbers are not whole rows of five
+ *     32       no row has the number, or the first record is NOSUBENT
+ *     33-36    as in the full question, by what the row and the section's record say
+ *     39       a record that is read lies outside the entry; or the first one is not SUBENT with this number, the
+ *              section's not BIB, COMMON or DATA with its counts in form and range, or the asked field, and beside a unit
+ *              its heading, not in form. The entry was changed, or the numbers are another's, altered, or not cut to
+ *              the rows.
+ *
+ * in the order of these reads. The entry is not judged: 31 is never given, and nothing else of it is looked at. Zeros
+ * stand beside each number. */
+uint64_t x4_index_value(const uint8_t *entry, size_t length, const uint32_t *index, size_t numbers, uint32_t subentry,
+                        uint32_t section, uint32_t line, uint32_t column, uint64_t value[8]);
+uint64_t x4_index_heading(const uint8_t *entry, size_t length, const uint32_t *index, size_t numbers,
+                          uint32_t subentry, uint32_t section, uint32_t column, uint64_t part[3]);
+uint64_t x4_index_unit(const uint8_t *entry, size_t length, const uint32_t *index, size_t numbers, uint32_t subentry,
+                       uint32_t section, uint32_t column, uint64_t part[3]);
+
+/* As the others. A keyword that is not ten bytes long is never answered: 36 when all text records were read, 39 where
+ * they leave the entry. */
+uint64_t x4_index_passage(const uint8_t *entry, size_t length, const uint32_t *index, size_t numbers,
+                          uint32_t subentry, const uint8_t *keyword, size_t keyword_length, uint8_t pointer,
+                          uint64_t part[3]);
 
 /* ---- the word that a call returns */
 

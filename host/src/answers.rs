@@ -236,7 +236,7 @@ impl Explained {
 /// Why a question, a copy, a reading or a writing has no answer.
 #[derive(Clone, Copy, Debug, PartialEq, Eq, Hash)]
 pub struct NoAnswer {
-    /// The paper's number: 31 to 37 for questions and copies; 40, 41 and 15 for number fields.
+    /// The paper's number: 31 to 39 for questions, copies and indexes; 40, 41 and 15 for number fields.
     pub number: u32,
     /// With 31, why the entry or the transmission is refused. With any other number there is none.
     pub entry: Option<Refusal>,
@@ -259,6 +259,11 @@ impl NoAnswer {
             35 => "no such column",
             36 => "no passage with that keyword place and pointer",
             37 => "the buffer is shorter than what is copied",
+            38 => "the index is no whole rows of five numbers, or the slice for it is too short",
+            39 => {
+                "the entry is not what the index says: a record that is read lies outside or is another, or a count or \
+                 the asked field is not in form or range"
+            }
             40 => "a number field is eleven bytes",
             41 => "no field reads to the value",
             _ => "the paper has no such refusal",

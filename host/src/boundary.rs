@@ -1,8 +1,8 @@
 //! Foreign functions: those of the proved archives as C sees them and with Rust's types, and two of C's library.
 //!
 //! Nothing checks these declarations against the archives but the version, so they are few and stand together. A
-//! `&[u8]` is a pointer and a length, a lent array of fixed length a pointer; the proofs cover every one that a slice or
-//! an array can have, so the wrappers test nothing. This is the only module of the package that is unsafe;
+//! `&[u8]` or `&[u32]` is a pointer and a length, a lent array of fixed length a pointer; the proofs cover every one that
+//! a slice or an array can have, so the wrappers test nothing. This is the only module of the package that is unsafe;
 //! of the tests, `stack` is too.
 
 #[cfg(proved)]
@@ -64,6 +64,50 @@ extern "C" {
         totals: *mut [u64; 4],
         facts: *mut [u64; 3],
         characters: *mut [u8; 8],
+    ) -> u64;
+    fn x4_index(entry: *const u8, length: usize, index: *mut u32, numbers: usize, rows: *mut [u64; 1]) -> u64;
+    fn x4_index_row(index: *const u32, numbers: usize, subentry: u32, before: *mut [u64; 1]) -> u64;
+    fn x4_index_value(
+        entry: *const u8,
+        length: usize,
+        index: *const u32,
+        numbers: usize,
+        subentry: u32,
+        section: u32,
+        line: u32,
+        column: u32,
+        value: *mut [u64; 8],
+    ) -> u64;
+    fn x4_index_heading(
+        entry: *const u8,
+        length: usize,
+        index: *const u32,
+        numbers: usize,
+        subentry: u32,
+        section: u32,
+        column: u32,
+        part: *mut [u64; 3],
+    ) -> u64;
+    fn x4_index_unit(
+        entry: *const u8,
+        length: usize,
+        index: *const u32,
+        numbers: usize,
+        subentry: u32,
+        section: u32,
+        column: u32,
+        part: *mut [u64; 3],
+    ) -> u64;
+    fn x4_index_passage(
+        entry: *const u8,
+        length: usize,
+        index: *const u32,
+        numbers: usize,
+        subentry: u32,
+        keyword: *const u8,
+        keyword_length: usize,
+        pointer: u8,
+        part: *mut [u64; 3],
     ) -> u64;
 }
 
@@ -186,6 +230,79 @@ pub fn explain_file(file: &[u8]) -> Explained {
     // SAFETY: the pointer and the length are those of one slice, which is only read; the arrays are this call's own.
     let word = unsafe { x4_explain_file(file.as_ptr(), file.len(), &mut totals, &mut facts, &mut characters) };
     words::explained(word, totals, facts, characters)
+}
+
+/// The index of an entry, into the front of a slice; how many rows it has.
+#[cfg(proved)]
+pub fn make_index(entry: &[u8], index: &mut [u32]) -> Result<usize, NoAnswer> {
+    let mut rows = [0];
+    let (first, numbers) = (index.as_mut_ptr(), index.len());
+    // SAFETY: the entry is only read, and nobody else has the slice while it is written; the array is this call's own.
+    let word = unsafe { x4_index(entry.as_ptr(), entry.len(), first, numbers, &mut rows) };
+    words::answered(word).map(|()| rows[0] as usize)
+}
+
+/// How many rows of an index stand before the first with a number.
+#[cfg(proved)]
+pub fn index_row(index: &[u32], subentry: u32) -> Result<usize, NoAnswer> {
+    let mut before = [0];
+    // SAFETY: the pointer and the length are those of one slice, which is only read; the array is this call's own.
+    let word = unsafe { x4_index_row(index.as_ptr(), index.len(), subentry, &mut before) };
+    words::answered(word).map(|()| before[0] as usize)
+}
+
+/// What stands in a column of a line, by an index.
+#[cfg(proved)]
+pub fn index_value(
+    entry: &[u8],
+    index: &[u32],
+    subentry: u32,
+    section: u32,
+    line: u32,
+    column: u32,
+) -> Result<FieldRead, NoAnswer> {
+    let mut value = [0; 8];
+    let (bytes, length, row, numbers) = (entry.as_ptr(), entry.len(), index.as_ptr(), index.len());
+    // SAFETY: both pointers and lengths are those of slices, which are only read; the array is this call's own.
+    let word = unsafe { x4_index_value(bytes, length, row, numbers, subentry, section, line, column, &mut value) };
+    words::answered(word).map(|()| words::value(value))
+}
+
+/// The heading of a column, by an index.
+#[cfg(proved)]
+pub fn index_heading(entry: &[u8], index: &[u32], subentry: u32, section: u32, column: u32) -> Result<Part, NoAnswer> {
+    let mut part = [0; 3];
+    let (bytes, length, row, numbers) = (entry.as_ptr(), entry.len(), index.as_ptr(), index.len());
+    // SAFETY: both pointers and lengths are those of slices, which are only read; the array is this call's own.
+    let word = unsafe { x4_index_heading(bytes, length, row, numbers, subentry, section, column, &mut part) };
+    words::answered(word).map(|()| words::part(part))
+}
+
+/// The unit of a column, by an index.
+#[cfg(proved)]
+pub fn index_unit(entry: &[u8], index: &[u32], subentry: u32, section: u32, column: u32) -> Result<Part, NoAnswer> {
+    let mut part = [0; 3];
+    let (bytes, length, row, numbers) = (entry.as_ptr(), entry.len(), index.as_ptr(), index.len());
+    // SAFETY: both pointers and lengths are those of slices, which are only read; the array is this call's own.
+    let word = unsafe { x4_index_unit(bytes, length, row, numbers, subentry, section, column, &mut part) };
+    words::answered(word).map(|()| words::part(part))
+}
+
+/// The passage under a keyword and a pointer, by an index.
+#[cfg(proved)]
+pub fn index_passage(
+    entry: &[u8],
+    index: &[u32],
+    subentry: u32,
+    keyword: &[u8],
+    pointer: u8,
+) -> Result<Part, NoAnswer> {
+    let mut part = [0; 3];
+    let (bytes, length, row, numbers) = (entry.as_ptr(), entry.len(), index.as_ptr(), index.len());
+    let (first, ten) = (keyword.as_ptr(), keyword.len());
+    // SAFETY: the three pointers and lengths are those of slices, which are only read; the array is this call's own.
+    let word = unsafe { x4_index_passage(bytes, length, row, numbers, subentry, first, ten, pointer, &mut part) };
+    words::answered(word).map(|()| words::part(part))
 }
 
 /// What C's own reader makes of a text: for comparisons of speed.
@@ -351,6 +468,91 @@ mod tests {
         // 15 has no reason, nor has an empty input
         assert_eq!(changed(22, 12, "X").map(|said| (said.2, said.3)), [([0; 3], blanks); 2]);
         assert_eq!(asked(&[], &[]), [(beside(1, 0, 0, 0), [BEFORE; 4], [0; 3], blanks); 2]);
+    }
+
+    /// The index of the sample.
+    const INDEX: [u32; 10] = [1, 2, 3, 7, 0, 2, 13, 14, 0, 19];
+
+    /// What stands in a slice of numbers before it is lent.
+    const NUMBER: u32 = 0x5a5a_5a5a;
+
+    /// The words of making an index in so many numbers, the rows, and the slice with two numbers on either side.
+    fn made(entry: &[u8], numbers: usize) -> (u64, u64, Vec<u32>) {
+        let (mut rows, mut slice) = ([BEFORE], vec![NUMBER; numbers + 4]);
+        let lent = &mut slice[2..numbers + 2];
+        // SAFETY: pointers and lengths are those of slices; the array and the slice are this function's own.
+        let word = unsafe { x4_index(entry.as_ptr(), entry.len(), lent.as_mut_ptr(), lent.len(), &mut rows) };
+        (word, rows[0], slice)
+    }
+
+    /// The rows in the front, every other number as it was; refused, all of them and the array of rows.
+    #[test]
+    fn an_index_is_stored() {
+        let sample = include_bytes!("../data/sample.x4");
+        let around = |front: &[u32], numbers: usize| {
+            let mut slice = vec![NUMBER; numbers + 4];
+            slice[2..2 + front.len()].copy_from_slice(front);
+            slice
+        };
+        for numbers in [10, 11, 15, 4990] {
+            assert_eq!(made(sample, numbers), (0, 2, around(&INDEX, numbers)));
+        }
+        for numbers in 0..10 {
+            assert_eq!(made(sample, numbers), (38, BEFORE, around(&[], numbers)));
+        }
+        // twenty records: they end before ENDENTRY
+        for numbers in [0, 9, 10, 4990] {
+            let word = 31 + (16 << 8) + (21 << 24);
+            assert_eq!(made(&sample[..20 * RECORD], numbers), (word, BEFORE, around(&[], numbers)));
+        }
+        assert_eq!(made(&[], 3), (31 + (1 << 8), BEFORE, around(&[], 3)));
+    }
+
+    /// The words of the questions by an index, and what stands in the arrays behind them: the row, value, heading, unit,
+    /// passage.
+    fn by_index(entry: &[u8], index: &[u32], place: [u32; 4], keyword: &[u8]) -> [(u64, Vec<u64>); 5] {
+        let [n, section, line, column] = place;
+        let (bytes, length, row, numbers) = (entry.as_ptr(), entry.len(), index.as_ptr(), index.len());
+        let (first, ten) = (keyword.as_ptr(), keyword.len());
+        let (mut before, mut value) = ([BEFORE], [BEFORE; 8]);
+        let [mut heading, mut unit, mut passage] = [[BEFORE; 3]; 3];
+        // SAFETY: pointers and lengths are those of slices, which are only read; the arrays are this function's own.
+        let words = unsafe {
+            [
+                x4_index_row(row, numbers, n, &mut before),
+                x4_index_value(bytes, length, row, numbers, n, section, line, column, &mut value),
+                x4_index_heading(bytes, length, row, numbers, n, section, column, &mut heading),
+                x4_index_unit(bytes, length, row, numbers, n, section, column, &mut unit),
+                x4_index_passage(bytes, length, row, numbers, n, first, ten, b' ', &mut passage),
+            ]
+        };
+        let left = [&before[..], &value, &heading, &unit, &passage];
+        std::array::from_fn(|call| (words[call], left[call].to_vec()))
+    }
+
+    /// The same words and arrays as without an index; zeros beside each number, and nothing stored behind it.
+    #[test]
+    fn questions_by_an_index_store_as_others_do() {
+        let sample = include_bytes!("../data/sample.x4");
+        let keyword = b"REACTION  ";
+        let numbers = |answers: [(u64, Vec<u64>); 5]| answers.map(|(word, left)| (word, untouched(&left)));
+        for (n, section, line, column) in [(2, 2, 1, 2), (2, 2, 1, 3), (2, 2, 3, 1), (2, 2, 1, 4), (1, 1, 1, 1)] {
+            let [row, asked @ ..] = by_index(sample, &INDEX, [n, section, line, column], keyword);
+            let [_, full @ ..] = ask(sample, n, section, line, column, keyword);
+            assert_eq!((row, asked), ((0, vec![u64::from(n) - 1]), full));
+            let alone = &INDEX[5 * (n as usize - 1)..][..5];
+            let [row, asked @ ..] = by_index(sample, alone, [n, section, line, column], keyword);
+            let [_, full @ ..] = ask(sample, n, section, line, column, keyword);
+            assert_eq!((row, asked), ((0, vec![0]), full), "by its row alone");
+        }
+        let place = [2, DATA, 1, 2];
+        assert_eq!(numbers(by_index(sample, &INDEX[..9], place, keyword)), [(38, true); 5]);
+        assert_eq!(numbers(by_index(sample, &[], place, keyword)), [(32, true); 5]);
+        assert_eq!(numbers(by_index(sample, &INDEX, [3, DATA, 1, 2], keyword)), [(32, true); 5]);
+        // no entry at all, and one that ends before ENDENTRY: nothing is judged
+        assert_eq!(numbers(by_index(&[], &INDEX, place, keyword))[1..], [(39, true); 4]);
+        let cut = by_index(&sample[..22 * RECORD], &INDEX, place, keyword);
+        assert_eq!(cut.map(|(word, _)| word), [0, 0, 0, 0, 36]);
     }
 
     /// The array behind a reading that is answered.

@@ -58,6 +58,40 @@ pub trait Implementation {
     fn explain_file(&self, file: &[u8]) -> Explained {
         Explained { verdict: self.judge_file(file), ..reference::explain_file(file) }
     }
+    /// Makes the index of an entry, and says how many rows it has.
+    fn make_index(&self, entry: &[u8], index: &mut [u32]) -> Result<usize, NoAnswer> {
+        reference::make_index(entry, index)
+    }
+    /// The rows before the first of a subentry.
+    fn index_row(&self, index: &[u32], subentry: u32) -> Result<usize, NoAnswer> {
+        reference::index_row(index, subentry)
+    }
+    /// The value in a place, by an index.
+    fn index_value(&self, entry: &[u8], index: &[u32], place: [u32; 4]) -> Result<FieldRead, NoAnswer> {
+        let [subentry, section, line, column] = place;
+        reference::index_value(entry, index, subentry, section, line, column)
+    }
+    /// The heading of a column, by an index.
+    fn index_heading(&self, entry: &[u8], index: &[u32], place: [u32; 3]) -> Result<Part, NoAnswer> {
+        let [subentry, section, column] = place;
+        reference::index_heading(entry, index, subentry, section, column)
+    }
+    /// The unit of a column, by an index.
+    fn index_unit(&self, entry: &[u8], index: &[u32], place: [u32; 3]) -> Result<Part, NoAnswer> {
+        let [subentry, section, column] = place;
+        reference::index_unit(entry, index, subentry, section, column)
+    }
+    /// The passage under a keyword and pointer, by an index.
+    fn index_passage(
+        &self,
+        entry: &[u8],
+        index: &[u32],
+        subentry: u32,
+        keyword: &[u8],
+        pointer: u8,
+    ) -> Result<Part, NoAnswer> {
+        reference::index_passage(entry, index, subentry, keyword, pointer)
+    }
     /// The reading of a field, and its count of digits.
     fn read_number(&self, field: &[u8]) -> Result<FieldRead, NoAnswer> {
         reference::read_number(field)
@@ -119,6 +153,34 @@ impl Implementation for Library {
     }
     fn explain_file(&self, file: &[u8]) -> Explained {
         library::explain_file(file)
+    }
+    fn make_index(&self, entry: &[u8], index: &mut [u32]) -> Result<usize, NoAnswer> {
+        library::make_index(entry, index)
+    }
+    fn index_row(&self, index: &[u32], subentry: u32) -> Result<usize, NoAnswer> {
+        library::index_row(index, subentry)
+    }
+    fn index_value(&self, entry: &[u8], index: &[u32], place: [u32; 4]) -> Result<FieldRead, NoAnswer> {
+        let [subentry, section, line, column] = place;
+        library::index_value(entry, index, subentry, section, line, column)
+    }
+    fn index_heading(&self, entry: &[u8], index: &[u32], place: [u32; 3]) -> Result<Part, NoAnswer> {
+        let [subentry, section, column] = place;
+        library::index_heading(entry, index, subentry, section, column)
+    }
+    fn index_unit(&self, entry: &[u8], index: &[u32], place: [u32; 3]) -> Result<Part, NoAnswer> {
+        let [subentry, section, column] = place;
+        library::index_unit(entry, index, subentry, section, column)
+    }
+    fn index_passage(
+        &self,
+        entry: &[u8],
+        index: &[u32],
+        subentry: u32,
+        keyword: &[u8],
+        pointer: u8,
+    ) -> Result<Part, NoAnswer> {
+        library::index_passage(entry, index, subentry, keyword, pointer)
     }
     fn read_number(&self, field: &[u8]) -> Result<FieldRead, NoAnswer> {
         library::read_number(field)
@@ -186,6 +248,14 @@ pub struct Counts {
     pub reasons: Tally,
     /// Answers to questions and copies.
     pub answers: Tally,
+    /// Indexes that were to be made.
+    pub made: Tally,
+    /// Rows looked for in indexes, true and altered.
+    pub rows: Tally,
+    /// Answers by the index made for an accepted entry: those of the full questions.
+    pub by_own: Tally,
+    /// Answers by any index to questions about any bytes.
+    pub by_any: Tally,
     /// Verdicts on transmissions.
     pub files: Tally,
     /// Those of them that are refused inside an entry.
@@ -211,6 +281,10 @@ impl fmt::Display for Counts {
             ("verdicts with other records below", &self.below),
             ("reasons by kind", &self.reasons),
             ("questions and copies", &self.answers),
+            ("indexes made", &self.made),
+            ("rows looked for", &self.rows),
+            ("questions by the entry's own index", &self.by_own),
+            ("questions by any index", &self.by_any),
             ("verdicts on transmissions", &self.files),
             ("those inside an entry", &self.inside),
             ("verdicts on transmissions with other records below", &self.files_below),
@@ -254,8 +328,86 @@ impl<'i> Pair<'i> {
             if let Some((input, due)) = other_below(&mut random, &sheet.bytes, explained) {
                 self.below(&input, &due).map_err(|words| Difference { seed, words, input })?;
             }
+            self.index(seed, &sheet)?;
         }
         Ok(())
+    }
+
+    /// Asks both about indexes of the same entries, and nothing else.
+    pub fn indexes(&mut self, seed: u64, count: u64) -> Result<(), Difference> {
+        (seed..seed + count).try_for_each(|seed| self.index(seed, &input(&mut Random::seeded(seed))))
+    }
+
+    /// Asks both to make an index of one input and to answer by it; then by others, and about an entry changed since.
+    fn index(&mut self, seed: u64, sheet: &Sheet) -> Result<(), Difference> {
+        let random = &mut Random::seeded(!seed);
+        let mut entry = sheet.bytes.clone();
+        let asked = self.made(random, sheet).and_then(|()| self.by_own(random, sheet));
+        asked.map_err(|words| Difference { seed, words, input: sheet.bytes.clone() })?;
+        for turn in 0..4 {
+            let mut index = generate::index_of(&sheet.bytes);
+            if turn % 2 == 0 {
+                generate::alter_index(random, &mut index);
+            }
+            if turn > 0 {
+                generate::alter_entry(random, &mut entry, &index);
+            }
+            let asked = (0..12).try_for_each(|_| self.by_any(random, sheet, &entry, &index));
+            let words = |words| format!("{words}\n  index: {index:?}");
+            asked.map_err(|said| Difference { seed, words: words(said), input: entry.clone() })?;
+        }
+        Ok(())
+    }
+
+    /// The index made in slices that fit, are too short, or are longer: the rows, and every number of the slice.
+    fn made(&mut self, random: &mut Random, sheet: &Sheet) -> Result<(), String> {
+        let fits = generate::index_of(&sheet.bytes).len();
+        for room in [fits, fits + random.below(12), random.below(fits + 1), random.below(12)] {
+            let (mut first, mut second) = (vec![7; room], vec![7; room]);
+            let one = self.one.make_index(&sheet.bytes, &mut first);
+            let other = self.other.make_index(&sheet.bytes, &mut second);
+            self.counts.made.add(&one);
+            same(&format!("make_index in {room} numbers"), &(one, first), &(other, second))?;
+        }
+        Ok(())
+    }
+
+    /// Questions by the index made for an accepted entry, cut to its rows: the full answers.
+    fn by_own(&mut self, random: &mut Random, sheet: &Sheet) -> Result<(), String> {
+        let entry = &sheet.bytes;
+        let mut index = vec![7; 5 * entry.len() / RECORD];
+        let Ok(rows) = self.one.make_index(entry, &mut index) else { return Ok(()) };
+        index.truncate(5 * rows);
+        for _ in 0..12 {
+            let asked = Question::about(random, sheet);
+            let (one, other) = (asked.by_index(self.one, entry, &index), asked.by_index(self.other, entry, &index));
+            same(&format!("by its own index: {asked:?}"), &one, &other)?;
+            same(
+                &format!("by its own index: both, and the full answer: {asked:?}"),
+                &one,
+                &asked.full(self.one, entry),
+            )?;
+            self.counts.by_own.add(&one);
+        }
+        Ok(())
+    }
+
+    /// A row looked for, and a question by an index of any numbers; by the row alone it has the same answer.
+    fn by_any(&mut self, random: &mut Random, sheet: &Sheet, entry: &[u8], index: &[u32]) -> Result<(), String> {
+        let mut asked = Question::about(random, sheet);
+        if !index.is_empty() && random.once_in(2) {
+            asked.of(index[5 * random.below(index.len().div_ceil(5))]);
+        }
+        let subentry = asked.subentry();
+        let (row, other) = (self.one.index_row(index, subentry), self.other.index_row(index, subentry));
+        same(&format!("index_row {subentry}"), &row, &other)?;
+        self.counts.rows.add(&row);
+        let (one, other) = (asked.by_index(self.one, entry, index), asked.by_index(self.other, entry, index));
+        same(&format!("by an index: {asked:?}"), &one, &other)?;
+        self.counts.by_any.add(&one);
+        let Ok(before) = row else { return Ok(()) };
+        let alone = asked.by_index(self.one, entry, &index[5 * before..5 * before + 5]);
+        same(&format!("by an index, and by its row alone: {asked:?}"), &one, &alone)
     }
 
     /// Asks both about the verdicts on the same entries and why, and nothing else.
@@ -451,34 +603,84 @@ impl<'i> Pair<'i> {
 
     /// One question, often inside the entry's shape and sometimes beside it.
     fn question(&mut self, random: &mut Random, sheet: &Sheet) -> Result<(), String> {
-        let (one, other, entry) = (self.one, self.other, &sheet.bytes);
+        let asked = Question::about(random, sheet);
+        let (one, other) = (asked.full(self.one, &sheet.bytes), asked.full(self.other, &sheet.bytes));
+        self.counts.answers.add(&one);
+        same(&format!("{asked:?}"), &one, &other)
+    }
+}
+
+/// A question, whether it is asked in full or by an index.
+#[derive(Clone, Debug)]
+enum Question {
+    Value([u32; 4]),
+    Heading([u32; 3]),
+    Unit([u32; 3]),
+    Passage { subentry: u32, keyword: Vec<u8>, pointer: u8 },
+}
+
+/// What a question is answered with.
+#[derive(Clone, Copy, Debug, PartialEq, Eq)]
+enum Answer {
+    Value(FieldRead),
+    Part(Part),
+}
+
+impl Question {
+    /// One often inside the entry's shape and sometimes beside it.
+    fn about(random: &mut Random, sheet: &Sheet) -> Question {
         let place = place(random, sheet);
         let [subentry, section, _, column] = place;
-        let short = [subentry, section, column];
         match random.below(4) {
-            0 => self.answered("value", place, one.value(entry, place), other.value(entry, place)),
-            1 => self.answered("heading", short, one.heading(entry, short), other.heading(entry, short)),
-            2 => self.answered("unit", short, one.unit(entry, short), other.unit(entry, short)),
+            0 => Question::Value(place),
+            1 => Question::Heading([subentry, section, column]),
+            2 => Question::Unit([subentry, section, column]),
             _ => {
                 let (owner, keyword, pointer) = keyword(random, sheet);
                 let subentry = if random.once_in(12) { subentry } else { owner };
-                let first = one.passage(entry, subentry, &keyword, pointer);
-                let second = other.passage(entry, subentry, &keyword, pointer);
-                self.answered("passage", (subentry, String::from_utf8_lossy(&keyword), pointer), first, second)
+                Question::Passage { subentry, keyword, pointer }
             }
         }
     }
 
-    /// Counts an answer and compares it with the other.
-    fn answered<A: fmt::Debug, T: PartialEq + fmt::Debug>(
-        &mut self,
-        question: &str,
-        asked: A,
-        one: Result<T, NoAnswer>,
-        other: Result<T, NoAnswer>,
-    ) -> Result<(), String> {
-        self.counts.answers.add(&one);
-        same(&format!("{question} {asked:?}"), &one, &other)
+    /// The subentry that it is about.
+    fn subentry(&self) -> u32 {
+        match *self {
+            Question::Value([subentry, ..]) => subentry,
+            Question::Heading([subentry, ..]) | Question::Unit([subentry, ..]) => subentry,
+            Question::Passage { subentry, .. } => subentry,
+        }
+    }
+
+    /// The same about another subentry.
+    fn of(&mut self, other: u32) {
+        match self {
+            Question::Value([subentry, ..]) => *subentry = other,
+            Question::Heading([subentry, ..]) | Question::Unit([subentry, ..]) => *subentry = other,
+            Question::Passage { subentry, .. } => *subentry = other,
+        }
+    }
+
+    fn full(&self, by: &dyn Implementation, entry: &[u8]) -> Result<Answer, NoAnswer> {
+        match self {
+            Question::Value(place) => by.value(entry, *place).map(Answer::Value),
+            Question::Heading(place) => by.heading(entry, *place).map(Answer::Part),
+            Question::Unit(place) => by.unit(entry, *place).map(Answer::Part),
+            Question::Passage { subentry, keyword, pointer } => {
+                by.passage(entry, *subentry, keyword, *pointer).map(Answer::Part)
+            }
+        }
+    }
+
+    fn by_index(&self, by: &dyn Implementation, entry: &[u8], index: &[u32]) -> Result<Answer, NoAnswer> {
+        match self {
+            Question::Value(place) => by.index_value(entry, index, *place).map(Answer::Value),
+            Question::Heading(place) => by.index_heading(entry, index, *place).map(Answer::Part),
+            Question::Unit(place) => by.index_unit(entry, index, *place).map(Answer::Part),
+            Question::Passage { subentry, keyword, pointer } => {
+                by.index_passage(entry, index, *subentry, keyword, *pointer).map(Answer::Part)
+            }
+        }
     }
 }
 

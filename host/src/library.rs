@@ -3,13 +3,14 @@
 
 #[cfg(proved)]
 use crate::boundary as archives_or_reference;
+pub use crate::index::{Index, Row};
 #[cfg(not(proved))]
 use crate::reference as archives_or_reference;
 use crate::transmission::Entries;
 use crate::{Decimal, Explained, FieldRead, NoAnswer, Part, Verdict};
 
 /// Every call, in the order of this module.
-pub const CALLS: [&str; 13] = [
+pub const CALLS: [&str; 19] = [
     "judge",
     "value",
     "heading",
@@ -23,6 +24,12 @@ pub const CALLS: [&str; 13] = [
     "copy_file",
     "explain",
     "explain_file",
+    "make_index",
+    "index_row",
+    "index_value",
+    "index_heading",
+    "index_unit",
+    "index_passage",
 ];
 
 /// The calls that the archives of proved functions answer in this build.
@@ -34,9 +41,10 @@ pub fn proved() -> &'static [&'static str] {
 }
 
 /// The paths of the archives that are linked, if they are.
-pub fn archives() -> Option<[String; 5]> {
+pub fn archives() -> Option<[String; 6]> {
     let folder = option_env!("X4_LINKED").filter(|_| cfg!(proved))?;
-    let crates = ["exports", "exports_questions", "exports_files", "exports_file_copies", "exports_reasons"];
+    let crates =
+        ["exports", "exports_questions", "exports_files", "exports_file_copies", "exports_reasons", "exports_index"];
     Some(crates.map(|name| format!("{folder}/libx4_{name}.a")))
 }
 
@@ -121,4 +129,54 @@ pub fn explain(entry: &[u8]) -> Explained {
 /// records count from TRANS.
 pub fn explain_file(file: &[u8]) -> Explained {
     archives_or_reference::explain_file(file)
+}
+
+/// Makes the index of an entry in the front of a slice (M-102), and says how many rows it has: five numbers to a
+/// subentry in entry order, NOSUBENT too, which are its number, its first record, and the records BIB, COMMON and DATA, 0
+/// where none. Numbers past the rows stay. Refused, by 31 or by 38 where the slice is too short, it stores nothing; an
+/// entry has 998 subentries at the most. [`Index::of`] does the same without a slice.
+pub fn make_index(entry: &[u8], index: &mut [u32]) -> Result<usize, NoAnswer> {
+    archives_or_reference::make_index(entry, index)
+}
+
+/// How many rows of an index stand before the first with this number. The five numbers from there on are by themselves
+/// an index of one row.
+pub fn index_row(index: &[u32], subentry: u32) -> Result<usize, NoAnswer> {
+    archives_or_reference::index_row(index, subentry)
+}
+
+/// The answer of [`value`], by an index: the same where the entry is accepted and the index is its own, cut to its rows.
+/// Nothing is judged, so with any other bytes and numbers there is an answer, too: 38 where these are no whole rows, 39
+/// where what is read is not what the index says, and never 31.
+pub fn index_value(
+    entry: &[u8],
+    index: &[u32],
+    subentry: u32,
+    section: u32,
+    line: u32,
+    column: u32,
+) -> Result<FieldRead, NoAnswer> {
+    archives_or_reference::index_value(entry, index, subentry, section, line, column)
+}
+
+/// The answer of [`heading`], by an index.
+pub fn index_heading(entry: &[u8], index: &[u32], subentry: u32, section: u32, column: u32) -> Result<Part, NoAnswer> {
+    archives_or_reference::index_heading(entry, index, subentry, section, column)
+}
+
+/// The answer of [`unit()`], by an index.
+pub fn index_unit(entry: &[u8], index: &[u32], subentry: u32, section: u32, column: u32) -> Result<Part, NoAnswer> {
+    archives_or_reference::index_unit(entry, index, subentry, section, column)
+}
+
+/// The answer of [`passage`], by an index. A keyword that is not ten bytes long is never answered: 36 when all text
+/// records were read, 39 where they leave the entry.
+pub fn index_passage(
+    entry: &[u8],
+    index: &[u32],
+    subentry: u32,
+    keyword: &[u8],
+    pointer: u8,
+) -> Result<Part, NoAnswer> {
+    archives_or_reference::index_passage(entry, index, subentry, keyword, pointer)
 }

@@ -22,7 +22,9 @@
 //! ```
 
 use crate::json::{array, object, text};
-use crate::{library, FieldRead, NoAnswer, Value, Verdict, COMMON, DATA, RECORD};
+use crate::library::Index;
+use crate::transmission::of_entries;
+use crate::{index, FieldRead, NoAnswer, Value, COMMON, DATA};
 
 /// A column of a table.
 #[derive(Clone, Debug, PartialEq, Eq)]
@@ -53,18 +55,16 @@ pub struct Table {
     pub lines: Lines,
 }
 
-/// All tables of an entry, in its order. The library is asked where each stands, and what each of its number fields
-/// says; the columns and lines follow from the table's own counts, which are true in an accepted entry.
+/// All tables of an entry, in its order. The library judges it once, for the index (M-102). Then it is asked by the row
+/// of each subentry for all headings, units and values, each of which it finds by a few reads.
 pub fn tables(entry: &[u8]) -> Result<Vec<Table>, NoAnswer> {
-    if let Verdict::Refused(refusal) = library::judge(entry) {
-        return Err(NoAnswer { number: 31, entry: Some(refusal) });
-    }
+    let index = Index::of(entry)?;
     let mut tables = Vec::new();
-    for owner in owners(entry) {
-        let number = count(&owner[5..]) as u32;
+    for row in index.rows() {
         for (section, name) in [(COMMON, "COMMON"), (DATA, "DATA")] {
-            if let Some((columns, lines)) = table(entry, number, section)? {
-                tables.push(Table { entry: 0, subentry: written(owner), section: name, columns, lines });
+            if let Some((columns, lines)) = table(entry, &row, section)? {
+                let subentry = written(row.owner(entry).unwrap_or_default());
+                tables.push(Table { entry: 0, subentry, section: name, columns, lines });
             }
         }
     }
@@ -73,53 +73,37 @@ pub fn tables(entry: &[u8]) -> Result<Vec<Table>, NoAnswer> {
 
 /// All tables of a transmission, entry by entry.
 pub fn file_tables(file: &[u8]) -> Result<Vec<Table>, NoAnswer> {
-    if let Verdict::Refused(refusal) = library::judge_file(file) {
-        return Err(NoAnswer { number: 31, entry: Some(refusal) });
-    }
-    let mut all = Vec::new();
-    for (index, (_, entry)) in library::entries(file).enumerate() {
-        all.extend(tables(entry)?.into_iter().map(|table| Table { entry: index + 1, ..table }));
-    }
-    Ok(all)
+    of_entries(file, tables, |entry, table| Table { entry, ..table })
 }
 
-/// The accession and number of each subentry: all its records have them in columns 67-74.
-fn owners(entry: &[u8]) -> Vec<&[u8]> {
-    let mut owners: Vec<&[u8]> = entry.chunks_exact(RECORD).map(|record| &record[66..74]).collect();
-    owners.dedup();
-    // ENTRY and ENDENTRY belong to none.
-    owners.retain(|owner| !owner.ends_with(b"000") && !owner.ends_with(b"999"));
-    owners
-}
-
-/// The columns and lines of a section, if there is one: refusal 32 or 33 says that there is none.
-fn table(entry: &[u8], number: u32, section: u32) -> Result<Option<(Vec<Column>, Lines)>, NoAnswer> {
-    let first = match library::heading(entry, number, section, 1) {
-        Err(NoAnswer { number: 32 | 33, .. }) => return Ok(None),
-        answer => answer?.offset,
+/// The columns and lines of a section, if there is one: refusal 32 or 33 says that there is none, 35 that no column is
+/// left, and 34 no line.
+fn table(entry: &[u8], row: &index::Row, section: u32) -> Result<Option<(Vec<Column>, Lines)>, NoAnswer> {
+    let mut columns = Vec::new();
+    let count = loop {
+        let column = columns.len() as u32 + 1;
+        match row.heading(entry, section, column) {
+            Err(NoAnswer { number: 32 | 33, .. }) => return Ok(None),
+            // Not of the first: without a column no 34 would end the lines.
+            Err(NoAnswer { number: 35, .. }) if column > 1 => break column - 1,
+            heading => {
+                let (heading, unit) = (heading?, row.unit(entry, section, column)?);
+                columns.push(Column {
+                    heading: written(heading.of(entry)),
+                    pointer: Some(char::from(heading.pointer)).filter(|&pointer| pointer != ' '),
+                    unit: written(unit.of(entry)),
+                });
+            }
+        }
     };
-    // The section's own record stands before its headings.
-    let own = &entry[first - RECORD..first];
-    let columns = count(&own[11..22]);
-    let lines = if section == DATA { count(&own[22..33]) } else { 1 };
-    // "k heading records, k unit records, then value records, k to a line"
-    let k = columns.div_ceil(6);
-    let cell = |row: usize, column: usize| {
-        let at = first + (row * k + column / 6) * RECORD + column % 6 * 11;
-        &entry[at..at + 11]
-    };
-    let headed = (0..columns).map(|column| Column {
-        heading: written(&cell(0, column)[..10]),
-        pointer: Some(char::from(cell(0, column)[10])).filter(|&pointer| pointer != ' '),
-        unit: written(&cell(1, column)[..10]),
-    });
-    let line = |line| (0..columns).map(|column| library::read_number(cell(2 + line, column))).collect();
-    Ok(Some((headed.collect(), (0..lines).map(line).collect::<Result<_, _>>()?)))
-}
-
-/// "A count is blanks, then digits up to the last column."
-fn count(field: &[u8]) -> usize {
-    field.iter().filter(|byte| byte.is_ascii_digit()).fold(0, |count, digit| 10 * count + usize::from(digit - b'0'))
+    let mut lines = Vec::new();
+    loop {
+        let line = lines.len() as u32 + 1;
+        match (1..=count).map(|column| row.value(entry, section, line, column)).collect() {
+            Err(NoAnswer { number: 34, .. }) => return Ok(Some((columns, lines))),
+            values => lines.push(values?),
+        }
+    }
 }
 
 /// A place without the blanks behind its word.

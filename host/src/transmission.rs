@@ -2,7 +2,7 @@
 
 use crate::answers::counted;
 use crate::reference::record::is_accession;
-use crate::{library, Refusal, RECORD};
+use crate::{library, NoAnswer, Refusal, Verdict, RECORD};
 
 /// Whether an input is a transmission: columns 1-11 of its first record are TRANS.
 pub fn is_transmission(input: &[u8]) -> bool {
@@ -33,6 +33,22 @@ impl<'a> Iterator for Entries<'a> {
         self.at += library::entry_length(self.file, first);
         (self.at > first).then(|| (first, &self.file[first..self.at]))
     }
+}
+
+/// What is told of each entry of a transmission, one behind the other, with its ordinal; 31 where it is refused.
+pub(crate) fn of_entries<T>(
+    file: &[u8],
+    told: fn(&[u8]) -> Result<Vec<T>, NoAnswer>,
+    put: fn(usize, T) -> T,
+) -> Result<Vec<T>, NoAnswer> {
+    if let Verdict::Refused(refusal) = library::judge_file(file) {
+        return Err(NoAnswer { number: 31, entry: Some(refusal) });
+    }
+    let mut all = Vec::new();
+    for (place, (_, entry)) in library::entries(file).enumerate() {
+        all.extend(told(entry)?.into_iter().map(|one| put(place + 1, one)));
+    }
+    Ok(all)
 }
 
 /// The accession in the ENTRY record of an entry, if it is one.

@@ -32,6 +32,14 @@ fn the_library_and_the_reference_agree() {
     for number in [0, 31, 32, 33, 34, 35, 36, 37] {
         assert!(counts.answers.of(number) >= 100, "every answer occurs:\n{counts}");
     }
+    assert!([0, 31, 38].iter().all(|&number| counts.made.of(number) >= 500), "{counts}");
+    assert!([0, 32, 38].iter().all(|&number| counts.rows.of(number) >= 500), "{counts}");
+    assert!([0, 32, 33, 34, 35, 36].iter().all(|&number| counts.by_own.of(number) >= 100), "{counts}");
+    for number in [0, 32, 33, 34, 35, 36, 38, 39] {
+        assert!(counts.by_any.of(number) >= 500, "every answer by an index occurs:\n{counts}");
+    }
+    let (own, any) = (&counts.by_own, &counts.by_any);
+    assert_eq!([own.of(31), own.of(38), own.of(39), any.of(31)], [0; 4], "{counts}");
     assert!([0, 15, 40].iter().all(|&number| counts.readings.of(number) >= 1_000), "{counts}");
     assert!([0, 40, 41].iter().all(|&number| counts.writings.of(number) >= 1_000), "{counts}");
 }
@@ -999,6 +1007,568 @@ fn a_reason_from_below_is_found() {
     assert!(words.starts_with("explain with other records below: both, and what is due\n"), "{words}");
     let words = Pair::new(&slip, &slip).files(SEED, FILES).expect_err("it goes unseen").words;
     assert!(words.starts_with("explain_file with other records below: both, and what is due\n"), "{words}");
+}
+
+/// An index that is made otherwise than it should be.
+struct MakeSlip(fn(&[u8], &mut [u32]) -> Result<usize, NoAnswer>);
+
+impl Implementation for MakeSlip {
+    fn make_index(&self, entry: &[u8], index: &mut [u32]) -> Result<usize, NoAnswer> {
+        (self.0)(entry, index)
+    }
+}
+
+/// The true index, changed before it is stored.
+fn making(entry: &[u8], index: &mut [u32], change: impl Fn(&mut Vec<u32>)) -> Result<usize, NoAnswer> {
+    let mut own = vec![7; 4990];
+    let rows = reference::make_index(entry, &mut own)?;
+    own.truncate(5 * rows);
+    change(&mut own);
+    index.get_mut(..own.len()).ok_or(none(38))?.copy_from_slice(&own);
+    Ok(own.len() / 5)
+}
+
+/// The true index with each record one lower.
+fn records_from_0(entry: &[u8], index: &mut [u32]) -> Result<usize, NoAnswer> {
+    making(entry, index, |own| {
+        let records = own.chunks_mut(5).flat_map(|row| &mut row[1..]);
+        records.for_each(|record| *record = record.saturating_sub(1));
+    })
+}
+
+fn none(number: u32) -> NoAnswer {
+    NoAnswer { number, entry: None }
+}
+
+/// Each is found by the same entries, in what is said first.
+fn indexes_found(slips: &[(&str, &dyn Implementation)], words: &str) {
+    for (name, slip) in slips {
+        let said = Pair::new(*slip, &Reference).indexes(SEED, ENTRIES).expect_err(name).words;
+        assert!(said.starts_with(words), "{name}: {said}");
+    }
+}
+
+#[test]
+fn slips_in_making_are_found() {
+    let slips: [(&str, &dyn Implementation); 9] = [
+        (
+            "what fits is stored before 38",
+            &MakeSlip(|entry, index| {
+                let answer = reference::make_index(entry, index);
+                if answer == Err(none(38)) {
+                    let mut whole = vec![0; 4990];
+                    let _ = reference::make_index(entry, &mut whole);
+                    index.copy_from_slice(&whole[..index.len()]);
+                }
+                answer
+            }),
+        ),
+        (
+            "NOSUBENT left out",
+            &MakeSlip(|entry, index| {
+                making(entry, index, |own| {
+                    let nosubent = |row: &&[u32]| entry[81 * (row[1] as usize - 1)..].starts_with(b"NOSUBENT");
+                    *own = own.chunks(5).filter(|row| !nosubent(row)).flatten().copied().collect();
+                })
+            }),
+        ),
+        ("records from 0", &MakeSlip(records_from_0)),
+        (
+            "numbers past the rows cleared",
+            &MakeSlip(|entry, index| {
+                let rows = reference::make_index(entry, index)?;
+                index[5 * rows..].fill(0);
+                Ok(rows)
+            }),
+        ),
+        (
+            "one number too many asked for",
+            &MakeSlip(|entry, index| match generate::index_of(entry).len() == index.len() {
+                true => reference::make_index(entry, &mut vec![0; 4990]).and(Err(none(38))),
+                false => reference::make_index(entry, index),
+            }),
+        ),
+        (
+            "38 before 31",
+            &MakeSlip(|entry, index| match index.len() {
+                0..5 => Err(none(38)),
+                _ => reference::make_index(entry, index),
+            }),
+        ),
+        (
+            "31 with zeros beside it",
+            &MakeSlip(|entry, index| reference::make_index(entry, index).map_err(|refused| none(refused.number))),
+        ),
+        (
+            "NOBIB for BIB",
+            &MakeSlip(|entry, index| {
+                making(entry, index, |own| {
+                    for row in own.chunks_mut(5) {
+                        if row[2] == 0 && entry[81 * row[1] as usize..].starts_with(b"NOBIB") {
+                            row[2] = row[1] + 1;
+                        }
+                    }
+                })
+            }),
+        ),
+        (
+            "DATA before COMMON",
+            &MakeSlip(|entry, index| making(entry, index, |own| own.chunks_mut(5).for_each(|row| row.swap(3, 4)))),
+        ),
+    ];
+    indexes_found(&slips, "make_index in ");
+}
+
+/// A row that is looked for otherwise.
+struct RowSlip(fn(&[u32], u32) -> Result<usize, NoAnswer>);
+
+impl Implementation for RowSlip {
+    fn index_row(&self, index: &[u32], subentry: u32) -> Result<usize, NoAnswer> {
+        (self.0)(index, subentry)
+    }
+}
+
+#[test]
+fn slips_in_rows_are_found() {
+    let slips: [(&str, &dyn Implementation); 5] = [
+        (
+            "the last row",
+            &RowSlip(|index, n| {
+                reference::index_row(index, n)?;
+                index.chunks(5).rposition(|row| row[0] == n).ok_or(none(32))
+            }),
+        ),
+        (
+            "numbers behind the rows passed over",
+            &RowSlip(|index, n| reference::index_row(&index[..index.len() / 5 * 5], n)),
+        ),
+        (
+            "any number of the row",
+            &RowSlip(|index, n| {
+                let answer = reference::index_row(index, n);
+                answer.or_else(|refused| {
+                    index.chunks(5).position(|row| refused.number == 32 && row.contains(&n)).ok_or(refused)
+                })
+            }),
+        ),
+        (
+            "by halves",
+            &RowSlip(|index, n| {
+                reference::index_row(index, n)?;
+                let rows: Vec<&[u32]> = index.chunks(5).collect();
+                rows.binary_search_by_key(&n, |row| row[0]).map_err(|_| none(32))
+            }),
+        ),
+        ("the place of its number", &RowSlip(|index, n| reference::index_row(index, n).map(|before| 5 * before))),
+    ];
+    indexes_found(&slips, "index_row ");
+}
+
+/// Questions by an index that the reference answers of other bytes or numbers: what is not looked at is made good.
+struct Unread(fn(&mut Vec<u8>, &mut Vec<u32>, Row));
+
+/// The row of a question, as far as there is one.
+type Row = [u32; 5];
+
+impl Unread {
+    fn made_good(&self, entry: &[u8], index: &[u32], subentry: u32) -> (Vec<u8>, Vec<u32>) {
+        let (mut entry, mut index) = (entry.to_vec(), index.to_vec());
+        let before = reference::index_row(&index, subentry);
+        let row = before.map_or([0; 5], |before| std::array::from_fn(|place| index[5 * before + place]));
+        (self.0)(&mut entry, &mut index, row);
+        (entry, index)
+    }
+}
+
+impl Implementation for Unread {
+    fn index_value(
+        &self,
+        entry: &[u8],
+        index: &[u32],
+        [n, section, line, column]: [u32; 4],
+    ) -> Result<FieldRead, NoAnswer> {
+        let (entry, index) = self.made_good(entry, index, n);
+        reference::index_value(&entry, &index, n, section, line, column)
+    }
+    fn index_heading(&self, entry: &[u8], index: &[u32], [n, section, column]: [u32; 3]) -> Result<Part, NoAnswer> {
+        let (entry, index) = self.made_good(entry, index, n);
+        reference::index_heading(&entry, &index, n, section, column)
+    }
+    fn index_unit(&self, entry: &[u8], index: &[u32], [n, section, column]: [u32; 3]) -> Result<Part, NoAnswer> {
+        let (entry, index) = self.made_good(entry, index, n);
+        reference::index_unit(&entry, &index, n, section, column)
+    }
+    fn index_passage(
+        &self,
+        entry: &[u8],
+        index: &[u32],
+        n: u32,
+        keyword: &[u8],
+        pointer: u8,
+    ) -> Result<Part, NoAnswer> {
+        let (entry, index) = self.made_good(entry, index, n);
+        reference::index_passage(&entry, &index, n, keyword, pointer)
+    }
+}
+
+/// Columns of a record, if there is such a record; both count from 1.
+fn columns(entry: &mut [u8], record: u32, first: usize, last: usize) -> Option<&mut [u8]> {
+    let from = 81 * (record as usize).checked_sub(1)?;
+    entry.get_mut(from..from + 81).map(|record| &mut record[first - 1..last])
+}
+
+/// Puts a text where another stands, if it does.
+fn swap(entry: &mut [u8], record: u32, first: usize, from: &str, to: &str) {
+    if let Some(place) = columns(entry, record, first, first + from.len() - 1).filter(|place| *place == from.as_bytes())
+    {
+        place.copy_from_slice(to.as_bytes());
+    }
+}
+
+/// The count in eleven columns of a record.
+fn counted(entry: &mut [u8], record: u32, first: usize) -> u64 {
+    let place = columns(entry, record, first, first + 10).map(|place| String::from_utf8_lossy(place).trim().parse());
+    place.and_then(Result::ok).unwrap_or(0)
+}
+
+fn put_count(entry: &mut [u8], record: u32, first: usize, count: u64) {
+    if let Some(place) = columns(entry, record, first, first + 10) {
+        place.copy_from_slice(format!("{count:>11}").as_bytes());
+    }
+}
+
+/// What is read and not looked at, by the readings of M-102.
+#[test]
+fn what_is_not_looked_at_is_found() {
+    let slips: [(&str, &dyn Implementation); 11] = [
+        ("38 is not given", &Unread(|_, index, _| index.truncate(index.len() / 5 * 5))),
+        (
+            "the number of SUBENT",
+            &Unread(|entry, _, row| {
+                if let Some(number) =
+                    columns(entry, row[1], 20, 22).filter(|number| number.iter().all(u8::is_ascii_digit))
+                {
+                    number.copy_from_slice(format!("{:03}", row[0] % 1000).as_bytes());
+                }
+            }),
+        ),
+        (
+            "the accession of SUBENT",
+            &Unread(|entry, _, row| {
+                if let Some(place) = columns(entry, row[1], 12, 19) {
+                    place.copy_from_slice(b"   90001");
+                }
+            }),
+        ),
+        ("NOSUBENT", &Unread(|entry, _, row| swap(entry, row[1], 1, "NOSUBENT", "SUBENT  "))),
+        (
+            "the identifier SUBENT",
+            &Unread(|entry, _, row| {
+                if let Some(place) = columns(entry, row[1], 1, 11).filter(|place| !place.starts_with(b"NOSUBENT")) {
+                    place.copy_from_slice(b"SUBENT     ");
+                }
+            }),
+        ),
+        (
+            "the identifier of the section",
+            &Unread(|entry, _, row| {
+                for (record, name) in row[2..].iter().zip(["BIB", "COMMON", "DATA"]) {
+                    if let Some(place) = columns(entry, *record, 1, 11) {
+                        place.copy_from_slice(format!("{name:11}").as_bytes());
+                    }
+                }
+            }),
+        ),
+        ("eighteen columns", &Unread(|entry, _, row| swap(entry, row[4], 12, "         19", "         18"))),
+        (
+            "the records of COMMON",
+            &Unread(|entry, _, row| {
+                let columns = counted(entry, row[3], 12);
+                put_count(entry, row[3], 23, 3 * columns.div_ceil(6));
+            }),
+        ),
+        ("the keywords of BIB", &Unread(|entry, _, row| put_count(entry, row[2], 12, 1))),
+        (
+            "the records of BIB beside its keywords",
+            &Unread(|entry, _, row| {
+                let texts = counted(entry, row[2], 23);
+                if texts < counted(entry, row[2], 12) {
+                    put_count(entry, row[2], 12, texts);
+                }
+            }),
+        ),
+        (
+            "whether the last record is whole",
+            &Unread(|entry, _, _| entry.resize(entry.len().next_multiple_of(81), b' ')),
+        ),
+    ];
+    indexes_found(&slips, "by an index: ");
+}
+
+/// The first byte of the field that is asked for, in a row of its table (0 headings, 1 units, 1 + n line n), by the counts
+/// that stand there.
+fn field_at(entry: &[u8], index: &[u32], [n, section, row, column]: [u32; 4]) -> Option<usize> {
+    let before = reference::index_row(index, n).ok()?;
+    let record = index[5 * before + 2 + section.clamp(1, 2) as usize];
+    let k = counted(&mut entry.to_vec(), record, 12).div_ceil(6) as usize;
+    let column = (column as usize).checked_sub(1)?;
+    let at = (record as usize + row as usize * k + column / 6) * 81 + 11 * (column % 6);
+    (at + 81 <= entry.len()).then_some(at)
+}
+
+/// A value, and a part, or why there is none.
+type Asked = Result<FieldRead, NoAnswer>;
+type Found = Result<Part, NoAnswer>;
+
+/// Answers by an index that are changed, by what was asked and by the true answer.
+struct ValueSlip(fn(&[u8], &[u32], [u32; 4], Asked) -> Asked);
+
+impl Implementation for ValueSlip {
+    fn index_value(&self, entry: &[u8], index: &[u32], place: [u32; 4]) -> Result<FieldRead, NoAnswer> {
+        let [n, section, line, column] = place;
+        (self.0)(entry, index, place, reference::index_value(entry, index, n, section, line, column))
+    }
+}
+
+/// Another number where one is given, by the true one.
+fn renumbered(answer: Result<FieldRead, NoAnswer>, from: u32, to: u32) -> Result<FieldRead, NoAnswer> {
+    answer.map_err(|refused| if refused.number == from { none(to) } else { refused })
+}
+
+#[test]
+fn slips_in_values_by_an_index_are_found() {
+    let slips: [(&str, &dyn Implementation); 10] = [
+        (
+            "the entry is judged",
+            &ValueSlip(|entry, _, _, answer| match reference::judge(entry) {
+                Verdict::Accepted(_) => answer,
+                Verdict::Refused(refusal) => Err(NoAnswer { number: 31, entry: Some(refusal) }),
+            }),
+        ),
+        ("39 always", &ValueSlip(|_, _, _, answer| answer.map_err(|_| none(39)))),
+        (
+            "malformed is blank",
+            &ValueSlip(|_, _, _, answer| {
+                answer.or_else(|refused| match refused.number {
+                    39 => Ok(FieldRead::BLANK),
+                    _ => Err(refused),
+                })
+            }),
+        ),
+        (
+            "a blank in COMMON",
+            &ValueSlip(|entry, index, [n, section, line, column], answer| {
+                let field = field_at(entry, index, [n, section, 2, column]).map(|at| &entry[at..at + 11]);
+                let blank = section == 1 && line == 1 && field == Some(&[b' '; 11]);
+                // Where the heading can be read, the subentry's record and the section's can.
+                let read = blank && reference::index_heading(entry, index, n, section, column).is_ok();
+                if read {
+                    Ok(FieldRead::BLANK)
+                } else {
+                    answer
+                }
+            }),
+        ),
+        ("15 for 39", &ValueSlip(|_, _, _, answer| renumbered(answer, 39, 15))),
+        ("no digits", &ValueSlip(|_, _, _, answer| answer.map(|read| FieldRead { digits: 0, ..read }))),
+        (
+            "33 before the first record",
+            &ValueSlip(|_, index, [n, section, ..], answer| match reference::index_row(index, n) {
+                Ok(_) if !(1..=2).contains(&section) => Err(none(33)),
+                _ => answer,
+            }),
+        ),
+        (
+            "35 before 34",
+            &ValueSlip(|entry, index, [n, section, _, column], answer| {
+                let first = reference::index_value(entry, index, n, section, 1, column);
+                if first == Err(none(35)) {
+                    first
+                } else {
+                    answer
+                }
+            }),
+        ),
+        (
+            "the heading is read, too",
+            &ValueSlip(|entry, index, [n, section, _, column], answer| {
+                let heading = reference::index_heading(entry, index, n, section, column);
+                answer.and_then(|read| heading.map(|_| read))
+            }),
+        ),
+        (
+            "all columns of the line are read",
+            &ValueSlip(|entry, index, [n, section, line, _], answer| {
+                let others = (1..=18).map(|column| reference::index_value(entry, index, n, section, line, column));
+                let wrong = others.into_iter().any(|other| other == Err(none(39)));
+                answer.and_then(|read| if wrong { Err(none(39)) } else { Ok(read) })
+            }),
+        ),
+    ];
+    indexes_found(&slips, "by ");
+}
+
+/// Headings and units, and passages, that are changed likewise.
+struct WordSlip(fn(&[u8], &[u32], [u32; 3], Words) -> Words);
+
+/// A heading and its unit.
+type Words = [Found; 2];
+
+impl WordSlip {
+    fn both(&self, entry: &[u8], index: &[u32], place: [u32; 3]) -> Words {
+        let [n, section, column] = place;
+        let heading = reference::index_heading(entry, index, n, section, column);
+        (self.0)(entry, index, place, [heading, reference::index_unit(entry, index, n, section, column)])
+    }
+}
+
+impl Implementation for WordSlip {
+    fn index_heading(&self, entry: &[u8], index: &[u32], place: [u32; 3]) -> Result<Part, NoAnswer> {
+        self.both(entry, index, place)[0]
+    }
+    fn index_unit(&self, entry: &[u8], index: &[u32], place: [u32; 3]) -> Result<Part, NoAnswer> {
+        self.both(entry, index, place)[1]
+    }
+}
+
+struct PassageSlip(fn(&[u8], &[u32], u32, Key, Found) -> Found);
+
+/// A keyword and a pointer.
+type Key<'k> = (&'k [u8], u8);
+
+impl Implementation for PassageSlip {
+    fn index_passage(
+        &self,
+        entry: &[u8],
+        index: &[u32],
+        n: u32,
+        keyword: &[u8],
+        pointer: u8,
+    ) -> Result<Part, NoAnswer> {
+        let answer = reference::index_passage(entry, index, n, keyword, pointer);
+        (self.0)(entry, index, n, (keyword, pointer), answer)
+    }
+}
+
+/// BIB's record and the count of its text in the row of a subentry.
+fn bib_of(entry: &[u8], index: &[u32], n: u32) -> (usize, usize) {
+    let before = reference::index_row(index, n).unwrap_or(0);
+    let record = index[5 * before + 2];
+    (record as usize, counted(&mut entry.to_vec(), record, 23) as usize)
+}
+
+#[test]
+fn slips_in_parts_by_an_index_are_found() {
+    let slips: [(&str, &dyn Implementation); 9] = [
+        (
+            "a unit without its heading",
+            &WordSlip(|entry, index, [n, section, column], [heading, unit]| {
+                // With a good heading in its place the unit is answered.
+                let mut good = entry.to_vec();
+                if let Some(at) = field_at(entry, index, [n, section, 0, column]) {
+                    good[at..at + 11].copy_from_slice(b"HEADING    ");
+                }
+                let other = reference::index_unit(&good, index, n, section, column);
+                [heading, if heading == Err(none(39)) { other } else { unit }]
+            }),
+        ),
+        (
+            "the unit's own pointer",
+            &WordSlip(|_, _, _, [heading, unit]| [heading, unit.map(|part| Part { pointer: b' ', ..part })]),
+        ),
+        (
+            "a heading of eleven columns",
+            &WordSlip(|_, _, _, [heading, unit]| [heading.map(|part| Part { length: 11, ..part }), unit]),
+        ),
+        ("the unit for its heading", &WordSlip(|_, _, _, [heading, unit]| [heading.and(unit), unit])),
+        (
+            "34 for a heading",
+            &WordSlip(|_, _, _, both| {
+                both.map(|part| {
+                    part.map_err(|refused| match refused.number {
+                        35 => none(34),
+                        _ => refused,
+                    })
+                })
+            }),
+        ),
+        (
+            "up to the end of BIB",
+            &PassageSlip(|entry, index, n, _, answer| {
+                answer.map(|part| {
+                    let (bib, texts) = bib_of(entry, index, n);
+                    Part { length: ((bib + texts) * 81).saturating_sub(part.offset).max(81), ..part }
+                })
+            }),
+        ),
+        (
+            "all of BIB's records are inside",
+            &PassageSlip(|entry, index, n, _, answer| {
+                answer.and_then(|part| {
+                    let (bib, texts) = bib_of(entry, index, n);
+                    if (bib + texts) * 81 > entry.len() {
+                        Err(none(39))
+                    } else {
+                        Ok(part)
+                    }
+                })
+            }),
+        ),
+        (
+            "36 where the records end",
+            &PassageSlip(|entry, index, n, _, answer| {
+                if answer != Err(none(39)) {
+                    return answer;
+                }
+                let (bib, texts) = bib_of(entry, index, n);
+                let record = bib.checked_sub(1).and_then(|before| entry.get(81 * before..));
+                match record.is_some_and(|record| record.starts_with(b"BIB        "))
+                    && (bib + texts) * 81 > entry.len()
+                {
+                    true => Err(none(36)),
+                    false => answer,
+                }
+            }),
+        ),
+        (
+            "keywords by their words",
+            &PassageSlip(|entry, index, n, (keyword, pointer), answer| match keyword.len() {
+                10 => answer,
+                _ => {
+                    let whole = format!("{:10}", String::from_utf8_lossy(keyword).trim_end());
+                    reference::index_passage(entry, index, n, whole.as_bytes(), pointer)
+                }
+            }),
+        ),
+    ];
+    indexes_found(&slips, "by ");
+}
+
+/// Both slip alike: then the full answer is due, and the row alone says another.
+#[test]
+fn slips_of_two_are_found_by_the_full_answer() {
+    let slips: [(&str, &dyn Implementation, &str); 3] = [
+        (
+            "39 by its own index",
+            &ValueSlip(|_, _, _, answer| answer.and(Err(none(39)))),
+            "by its own index: both, and the full answer: ",
+        ),
+        ("records from 0", &MakeSlip(records_from_0), "by its own index: both, and the full answer: "),
+        (
+            "the second row of two",
+            &ValueSlip(|entry, index, [n, section, line, column], answer| match index.get(5..) {
+                Some(rest) if reference::index_row(rest, n).is_ok() => {
+                    reference::index_value(entry, rest, n, section, line, column)
+                }
+                _ => answer,
+            }),
+            "by an index, and by its row alone: ",
+        ),
+    ];
+    for (name, slip, words) in slips {
+        let said = Pair::new(slip, slip).indexes(SEED, ENTRIES).expect_err(name).words;
+        assert!(said.starts_with(words), "{name}: {said}");
+    }
 }
 
 /// A verdict that judging and explaining do not share.

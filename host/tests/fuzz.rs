@@ -34,6 +34,11 @@ fn mutated_entries_are_answered() {
     for refusal in [" 0:", " 31:", " 32:", " 33:", " 34:", " 35:", " 36:", " 37:"] {
         assert!(words.contains(refusal), "every answer occurs: {words}");
     }
+    let indexes =
+        words.split("by an index, by refusal").nth(1).and_then(|rest| rest.split(',').next()).unwrap_or_default();
+    for refusal in [" 0:", " 32:", " 33:", " 34:", " 35:", " 36:", " 38:", " 39:"] {
+        assert!(indexes.contains(refusal), "every answer by an index occurs: {words}");
+    }
     let reasons = words.split("reasons by kind").nth(1).unwrap_or_default();
     assert!(reasons.contains(" 6:") && !reasons.contains(":0"), "reasons of every kind occur: {words}");
     let files = words.split("transmissions by refusal").nth(1).unwrap_or_default();

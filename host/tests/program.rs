@@ -604,6 +604,55 @@ fn tables_are_exact() {
     assert!(complained(&output).starts_with("x4: standard input: refusal 6, record 4, column 75: "));
 }
 
+/// M-102: where each subentry and its sections begin, of an entry and of a transmission.
+#[test]
+fn indexes_are_listed() {
+    let csv = "subentry,first,BIB,COMMON,DATA\n90001001,2,3,7,0\n90001002,13,14,0,19\n";
+    let output = run(&["index"], &sample());
+    assert_eq!((printed(&output).as_str(), output.status.code()), (csv, Some(0)));
+    assert_eq!(printed(&run(&["index", "-"], &sample())), csv);
+    let json = "[{\"subentry\":\"90001001\",\"first\":2,\"bib\":3,\"common\":7,\"data\":null},\
+                {\"subentry\":\"90001002\",\"first\":13,\"bib\":14,\"common\":null,\"data\":19}]\n";
+    assert_eq!(printed(&run(&["index", "--json"], &sample())), json);
+    // NOSUBENT is a row, too.
+    let with_none = replaced("ENDENTRY             2\n", "NOSUBENT      90001007   20240105\nENDENTRY             3\n");
+    assert_eq!(printed(&run(&["index"], &with_none)), format!("{csv}90001007,26,0,0,0\n"));
+    // Of a transmission each line begins with the ordinal, and records count from ENTRY.
+    let both = run(&["index"], &transmission(&[&sample(), &with_none]));
+    let csv = "entry,subentry,first,BIB,COMMON,DATA\n1,90001001,2,3,7,0\n1,90001002,13,14,0,19\n\
+               2,90001001,2,3,7,0\n2,90001002,13,14,0,19\n2,90001007,26,0,0,0\n";
+    assert_eq!((printed(&both).as_str(), both.status.code()), (csv, Some(0)));
+    let json = printed(&run(&["index", "--json"], &transmission(&[&sample()])));
+    assert!(json.starts_with("[{\"entry\":1,\"subentry\":\"90001001\",\"first\":2,"), "{json}");
+    let refused = run(&["index"], &twice(49, 12, "       1.5E"));
+    assert_eq!((printed(&refused).as_str(), refused.status.code()), ("", Some(1)));
+    assert!(complained(&refused).starts_with("x4: standard input: refusal 15, entry 2, record 49, column 12: "));
+    let refused = run(&["index"], &changed(4, 79, "4"));
+    assert!(complained(&refused).starts_with("x4: standard input: refusal 6, record 4, column 75: "));
+    assert_eq!((printed(&refused).as_str(), refused.status.code()), ("", Some(1)));
+    assert_eq!(run(&["index", "a", "b"], b"").status.code(), Some(2));
+    assert_eq!(run(&["index", "--digits"], &sample()).status.code(), Some(2));
+    assert!(printed(&run(&["help"], b"")).contains("\n  x4 index [--json] [FILE]         where each subentry"));
+    let help = printed(&run(&["help", "index"], b""));
+    assert!(
+        help.starts_with("x4 index [--json] [FILE]\n") && help.contains("without judging the entry again"),
+        "{help}"
+    );
+    assert_eq!(printed(&run(&["index", "--help"], b"")), help);
+}
+
+/// 998 subentries: every table, and a row for each.
+#[test]
+fn as_many_subentries_as_there_may_be() {
+    let entry = large(&mut Random::seeded(1), Shape::Subentries, 20_000);
+    let lines = |command: &str| printed(&run(&[command], &entry)).lines().map(str::to_string).collect::<Vec<_>>();
+    let index = lines("index");
+    assert_eq!((index.len(), index[1].as_str(), index[998].starts_with("90001998,")), (999, "90001001,2,0,0,0", true));
+    let tables = lines("tables");
+    let last = tables.iter().filter(|line| line.starts_with("90001998,DATA,")).count();
+    assert!(last > 3 && tables.len() == 997 * last, "{} lines, {last} of the last", tables.len());
+}
+
 /// With --digits a count stands beside each value; without it nothing is added.
 #[test]
 fn tables_with_digits() {

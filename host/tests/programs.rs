@@ -74,17 +74,18 @@ fn asked(line: &[u8], at: usize) -> u32 {
     String::from_utf8_lossy(&line[at..at + 10]).trim().parse().expect("a number of ten columns")
 }
 
+fn say_value(said: &mut Vec<u8>, answer: Result<FieldRead, NoAnswer>) {
+    let value = match answer.map(|read| read.value) {
+        Ok(Value::Number(value)) => format!("number {}", decimal(value, " ")),
+        _ => "blank".to_string(),
+    };
+    said.extend(format!("{} {value} {}\n", numbers(answer.as_ref().err()), digits(answer)).bytes());
+}
+
 fn ask(said: &mut Vec<u8>, entry: &[u8], line: &[u8]) {
     let n = asked(line, 1);
     match line[0] {
-        b'v' => {
-            let answer = reference::value(entry, n, asked(line, 11), asked(line, 21), asked(line, 31));
-            let value = match answer.map(|read| read.value) {
-                Ok(Value::Number(value)) => format!("number {}", decimal(value, " ")),
-                _ => "blank".to_string(),
-            };
-            said.extend(format!("{} {value} {}\n", numbers(answer.as_ref().err()), digits(answer)).bytes());
-        }
+        b'v' => say_value(said, reference::value(entry, n, asked(line, 11), asked(line, 21), asked(line, 31))),
         b'h' => say_part(said, entry, reference::heading(entry, n, asked(line, 11), asked(line, 21))),
         b'u' => say_part(said, entry, reference::unit(entry, n, asked(line, 11), asked(line, 21))),
         b'p' => say_part(said, entry, reference::passage(entry, n, &line[11..21], line[21])),
@@ -104,6 +105,74 @@ fn questions_are_answered_as_stored() {
         }
     }
     same_lines("answers", &said);
+}
+
+/// Makes an index in so many numbers, and hands back its rows, none where it is refused.
+fn make(said: &mut Vec<u8>, entry: &[u8], length: usize) -> Vec<u32> {
+    let mut index = vec![7; length];
+    let made = reference::make_index(entry, &mut index);
+    let subentries = reference::judge(entry).numbers()[3];
+    said.extend(format!("{} {subentries}", numbers(made.as_ref().err())).bytes());
+    index.iter().for_each(|number| said.extend(format!(" {number}").bytes()));
+    said.push(b'\n');
+    index.truncate(made.map_or(0, |rows| 5 * rows));
+    index
+}
+
+fn ask_by_index(said: &mut Vec<u8>, entry: &[u8], index: &[u32], line: &[u8]) {
+    let n = asked(line, 1);
+    let table = || (asked(line, 11), asked(line, 21));
+    match line[0] {
+        b'r' => {
+            let found = reference::index_row(index, n);
+            let number = found.as_ref().err().map_or(0, |refused| refused.number);
+            let records = found.as_ref().map_or(&[0; 4][..], |before| &index[5 * before + 1..5 * before + 5]);
+            said.extend(format!("{number} {}", found.as_ref().unwrap_or(&0)).bytes());
+            records.iter().for_each(|record| said.extend(format!(" {record}").bytes()));
+            said.push(b'\n');
+        }
+        b'v' => {
+            let (section, row) = table();
+            say_value(said, reference::index_value(entry, index, n, section, row, asked(line, 31)));
+        }
+        b'h' => {
+            let (section, column) = table();
+            say_part(said, entry, reference::index_heading(entry, index, n, section, column));
+        }
+        b'u' => {
+            let (section, column) = table();
+            say_part(said, entry, reference::index_unit(entry, index, n, section, column));
+        }
+        b'p' => say_part(said, entry, reference::index_passage(entry, index, n, &line[11..21], line[21])),
+        other => panic!("a line that begins with {:?}", char::from(other)),
+    }
+}
+
+/// The bytes behind the entry stay, so that a longer one has them again.
+#[test]
+fn questions_by_an_index_are_answered_as_stored() {
+    let (mut bytes, mut used, mut index, mut said) = (Vec::new(), 0, Vec::new(), Vec::new());
+    for line in stored("index_cases", "stdin").split(|&byte| byte == b'\n') {
+        let number = |at: usize| asked(line, at) as usize;
+        match line.first() {
+            None | Some(b'#') => {}
+            Some(b'!') => used = 0,
+            Some(b'*') => {
+                let past = bytes.len().min(used + RECORD);
+                bytes.splice(used..past, [&line[1..], b"\n"].concat());
+                used += RECORD;
+            }
+            Some(b'=') => {
+                let at = number(1) * RECORD + number(11) - RECORD - 1;
+                bytes[at..at + line.len() - 21].copy_from_slice(&line[21..]);
+            }
+            Some(b'<') => used = number(1),
+            Some(b'm') => index = make(&mut said, &bytes[..used], number(1)),
+            Some(b'i') => index = (1..line.len()).step_by(10).map(|at| asked(line, at)).collect(),
+            Some(_) => ask_by_index(&mut said, &bytes[..used], &index, line),
+        }
+    }
+    same_lines("index_cases", &said);
 }
 
 /// A copy into a buffer of stars: the answer, the buffer, and how many stars it still has.

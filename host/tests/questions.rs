@@ -2,9 +2,9 @@
 
 mod common;
 
-use common::{compiled, say, C};
+use common::{compiled, part_said, refused_said, say, value_said, C};
 use glockenbeacon::generate::{self, Random};
-use glockenbeacon::{library, reference, FieldRead, NoAnswer, Part, Value, RECORD};
+use glockenbeacon::{library, reference, RECORD};
 use std::path::Path;
 use std::process::Command;
 
@@ -31,36 +31,22 @@ impl Question {
     /// What the programs are to print: the reference's answer.
     fn answer(&self, entry: &[u8]) -> String {
         match self {
-            &Question::Value([n, section, line, column]) => value(reference::value(entry, n, section, line, column)),
-            &Question::Heading([n, section, column]) => part(reference::heading(entry, n, section, column)),
-            &Question::Unit([n, section, column]) => part(reference::unit(entry, n, section, column)),
-            Question::Passage(n, pointer, keyword) => part(reference::passage(entry, *n, keyword.as_bytes(), *pointer)),
+            &Question::Value([n, section, line, column]) => {
+                value_said(reference::value(entry, n, section, line, column))
+            }
+            &Question::Heading([n, section, column]) => part_said(reference::heading(entry, n, section, column)),
+            &Question::Unit([n, section, column]) => part_said(reference::unit(entry, n, section, column)),
+            Question::Passage(n, pointer, keyword) => {
+                part_said(reference::passage(entry, *n, keyword.as_bytes(), *pointer))
+            }
             &Question::Copy(room) => {
                 let mut buffer = vec![b'#'; room];
                 let answer = reference::canonical_copy(entry, &mut buffer);
                 let sum = buffer.iter().fold(0, |sum: u32, &byte| sum.wrapping_mul(65599).wrapping_add(byte.into()));
-                format!("{sum} {}", answer.map_or_else(refused, |()| "copied".into()))
+                format!("{sum} {}", answer.map_or_else(refused_said, |()| "copied".into()))
             }
         }
     }
-}
-
-fn refused(answer: NoAnswer) -> String {
-    let [refusal, record, column] = answer.entry.map_or([0; 3], |entry| [entry.number, entry.record, entry.column]);
-    format!("refused {} {refusal} {record} {column}", answer.number)
-}
-
-fn value(answer: Result<FieldRead, NoAnswer>) -> String {
-    answer.map_or_else(refused, |FieldRead { value, digits }| match value {
-        Value::Blank => format!("blank digits {digits}"),
-        Value::Number(d) => {
-            format!("{}{}E{} digits {digits}", if d.negative { "-" } else { "" }, d.coefficient, d.power)
-        }
-    })
-}
-
-fn part(answer: Result<Part, NoAnswer>) -> String {
-    answer.map_or_else(refused, |part| format!("{} {} {}", part.offset, part.length, part.pointer))
 }
 
 /// Questions about an entry, most of them about subentries and keywords that it has.
@@ -138,7 +124,7 @@ fn fortran_programs_get_the_same_answers() {
     let modules = concat!(env!("CARGO_TARGET_TMPDIR"), "/questions");
     std::fs::create_dir_all(modules).unwrap();
     let arguments = ["-std=f2008", "-O2", "-Wall", "-Werror", "-J", modules];
-    let sources = ["fortran/x4.f90", "fortran/questions.f90"];
+    let sources = ["fortran/x4.f90", "fortran/in_words.f90", "fortran/questions.f90"];
     if let Some(program) = compiled("gfortran", "questions-f", &arguments, &sources) {
         agree(&program, "questions-f");
     }

@@ -36,16 +36,26 @@ mod measured {
         fn x4_copy_file();
         fn x4_explain();
         fn x4_explain_file();
+        fn x4_index();
+        fn x4_index_row();
+        fn x4_index_value();
+        fn x4_index_heading();
+        fn x4_index_unit();
+        fn x4_index_passage();
     }
 
     type Function = unsafe extern "C" fn();
 
-    /// Calls a C function with up to eight words on another stack, which ends 16 bytes above `top`.
+    /// The most words that a call takes.
+    type Words = [u64; 9];
+
+    /// Calls a C function with up to nine words on another stack, which ends 32 bytes above `top`.
     #[cfg(target_arch = "x86_64")]
-    unsafe fn call_on(top: *mut u128, function: Function, words: [u64; 8]) -> u64 {
+    unsafe fn call_on(top: *mut u128, function: Function, words: Words) -> u64 {
         let answer;
-        // the seventh word and the eighth stand on the stack, above the return address
+        // the seventh word, the eighth and the ninth stand on the stack, above the return address
         *top = u128::from(words[6]) | u128::from(words[7]) << 64;
+        *top.add(1) = u128::from(words[8]);
         asm!(
             "mov r12, rsp",
             "mov rsp, {top}",
@@ -66,10 +76,11 @@ mod measured {
         answer
     }
 
-    /// The same on Arm, where eight words go in registers.
+    /// The same on Arm, where eight words go in registers and the ninth stands on the stack.
     #[cfg(target_arch = "aarch64")]
-    unsafe fn call_on(top: *mut u128, function: Function, words: [u64; 8]) -> u64 {
+    unsafe fn call_on(top: *mut u128, function: Function, words: Words) -> u64 {
         let answer;
+        *top = u128::from(words[8]);
         asm!(
             "mov x20, sp",
             "mov sp, {top}",
@@ -106,10 +117,10 @@ mod measured {
 
         /// Makes the call on a stack painted with a byte: its answer, and the bytes from the caller down to the lowest
         /// that was touched. The return address is among them where the processor keeps it on the stack.
-        fn painted(&mut self, paint: u8, words: [u64; 8]) -> (u64, usize) {
+        fn painted(&mut self, paint: u8, words: Words) -> (u64, usize) {
             let plain = u128::from_ne_bytes([paint; 16]);
             self.stack.fill(plain);
-            let top = self.stack.len() - 1;
+            let top = self.stack.len() - 2;
             // SAFETY: the words are what the function takes, and 64 kB are more than it needs by far.
             let answer = unsafe { call_on(self.stack.as_mut_ptr().add(top), self.function, words) };
             let low = self.stack[..top].iter().position(|&word| word != plain).unwrap_or(top);
@@ -118,13 +129,14 @@ mod measured {
         }
 
         /// By two paints, since a byte that is stored can be the paint itself.
-        fn taken(&mut self, words: [u64; 8]) -> (u64, usize) {
+        fn taken(&mut self, words: Words) -> (u64, usize) {
             let (answer, one) = self.painted(0xa5, words);
             (answer, one.max(self.painted(0x5a, words).1))
         }
 
-        /// The answer of a call. A figure above the others counts if it comes again: a signal in between can only add.
-        fn call(&mut self, words: [u64; 8]) -> u64 {
+        /// The answer of a call with its words. A figure above the others counts if it comes again: a signal in between can only add.
+        fn call<const N: usize>(&mut self, words: [u64; N]) -> u64 {
+            let words = std::array::from_fn(|place| words.get(place).copied().unwrap_or(0));
             let (answer, taken) = self.taken(words);
             if taken > self.most {
                 let again = (0..5).map(|_| self.taken(words).1).min().unwrap_or(taken);
@@ -192,7 +204,7 @@ mod measured {
         for (decimal, branch) in decimals() {
             let (mut field, mut expected) = (*b"###########", *b"###########");
             let Decimal { negative, coefficient, power } = decimal;
-            let answer = write.call([negative.into(), coefficient, power as u32 as u64, lent(&mut field), 11, 0, 0, 0]);
+            let answer = write.call([negative.into(), coefficient, power as u32 as u64, lent(&mut field), 11]);
             let number = reference::write_number(decimal, &mut expected).map_or_else(|refused| refused.number, |()| 0);
             assert!(answer as u32 == number && field == expected, "{decimal}");
             seen.insert((branch, number));
@@ -201,7 +213,7 @@ mod measured {
         assert_eq!(seen.len(), 18, "{seen:?}");
         for length in [0, 1, 10, 12] {
             let mut field = [b'#'; 12];
-            let answer = write.call([0, 145, -3i32 as u32 as u64, lent(&mut field), length, 0, 0, 0]);
+            let answer = write.call([0, 145, -3i32 as u32 as u64, lent(&mut field), length]);
             assert!(answer as u32 == 40 && field == [b'#'; 12]);
         }
         write.say();
@@ -218,7 +230,7 @@ mod measured {
             let field = generate::number_field(&mut random);
             let length = if random.once_in(20) { random.below(11) } else { 11 };
             let [first, length] = bytes(&field[..length]);
-            seen.insert(read.call([first, length, lent(&mut value), 0, 0, 0, 0, 0]));
+            seen.insert(read.call([first, length, lent(&mut value)]));
         }
         assert_eq!(seen, BTreeSet::from([0, 15, 40]));
         read.say();
@@ -252,13 +264,13 @@ mod measured {
         files.extend((0..100).map(|seed| generate::file_input(&mut Random::seeded(seed))));
         for file in files {
             let [first, length] = bytes(&file);
-            note(0, judge.call([first, length, lent(&mut totals), 0, 0, 0, 0, 0]) != 0);
+            note(0, judge.call([first, length, lent(&mut totals)]) != 0);
             for at in [0, 81, 82, length, u64::MAX] {
-                note(1, begins.call([first, length, at, 0, 0, 0, 0, 0]) == 0);
+                note(1, begins.call([first, length, at]) == 0);
             }
             for room in [file.len(), 80] {
                 let mut buffer = vec![b'#'; room];
-                note(2, copy.call([first, length, lent(&mut buffer), room as u64, 0, 0, 0, 0]) != 0);
+                note(2, copy.call([first, length, lent(&mut buffer), room as u64]) != 0);
             }
         }
         assert!(said.iter().flatten().all(|&times| times > 0), "{said:?}");
@@ -277,12 +289,66 @@ mod measured {
             for (call, input) in [(&mut entry, &input), (&mut file, &whole)] {
                 let [first, length] = bytes(input);
                 let arrays = [lent(&mut totals), lent(&mut facts), lent(&mut characters)];
-                call.call([first, length, arrays[0], arrays[1], arrays[2], 0, 0, 0]);
+                call.call([first, length, arrays[0], arrays[1], arrays[2]]);
                 seen.insert((call.name, facts[0]));
             }
         }
         assert_eq!(seen.len(), 2 * 7, "{seen:?}");
         [entry, file].iter().for_each(Measured::say);
+    }
+
+    /// An index made of these entries, one by the identifiers in their records where they are refused, and questions by it:
+    /// also by numbers that are altered, cut or none.
+    #[test]
+    fn indexes_are_measured() {
+        let mut make = Measured::new("x4_index", x4_index);
+        let mut row = Measured::new("x4_index_row", x4_index_row);
+        let mut value = Measured::new("x4_index_value", x4_index_value);
+        let mut heading = Measured::new("x4_index_heading", x4_index_heading);
+        let mut unit = Measured::new("x4_index_unit", x4_index_unit);
+        let mut passage = Measured::new("x4_index_passage", x4_index_passage);
+        let (mut rows, mut number, mut part) = ([0u64; 1], [0u64; 8], [0u64; 3]);
+        let mut said = vec![BTreeSet::new(); 6];
+        for (turn, entry) in entries().iter().enumerate() {
+            let [first, length] = bytes(entry);
+            for room in [4990, 3] {
+                let mut index = vec![7u32; room];
+                said[0].insert(make.call([first, length, lent(&mut index), room as u64, lent(&mut rows)]) & 0xff);
+            }
+            let mut index = generate::index_of(entry);
+            match turn % 4 {
+                0 | 1 => {}
+                2 => generate::alter_index(&mut Random::seeded(turn as u64), &mut index),
+                _ => drop(index.pop()),
+            }
+            let [numbers, count] = [index.as_ptr() as u64, index.len() as u64];
+            for (n, section) in [(1, 1), (2, 1), (2, 2), (3, 2), (2, 3), (999, 1)] {
+                said[1].insert(row.call([numbers, count, n, lent(&mut rows)]));
+                for (line, column) in [(1, 1), (1, 2), (1, 18), (9, 1)] {
+                    let [e, l, i, c] = [first, length, numbers, count];
+                    said[2].insert(value.call([e, l, i, c, n, section, line, column, lent(&mut number)]));
+                    said[3].insert(heading.call([e, l, i, c, n, section, column, lent(&mut part)]));
+                    said[4].insert(unit.call([e, l, i, c, n, section, column, lent(&mut part)]));
+                }
+            }
+            for (n, keyword, pointer) in [(1, "TITLE     ", b' '), (2, "REACTION  ", b'1'), (2, "REACTION  ", b' ')] {
+                let [place, ten] = bytes(keyword.as_bytes());
+                let words = [first, length, numbers, count, n, place, ten, pointer.into(), lent(&mut part)];
+                said[5].insert(passage.call(words));
+            }
+        }
+        let due = [
+            &[0, 31, 38][..],
+            &[0, 32, 38],
+            &[0, 32, 33, 34, 35, 38, 39],
+            &[0, 32, 33, 35, 38, 39],
+            &[0, 32, 33, 35, 38, 39],
+            &[0, 32, 33, 36, 38],
+        ];
+        for (said, due) in said.iter().zip(due) {
+            assert!(due.iter().all(|number| said.contains(number)), "{said:?}, and {due:?} are due");
+        }
+        [make, row, value, heading, unit, passage].iter().for_each(Measured::say);
     }
 
     #[test]
@@ -299,22 +365,22 @@ mod measured {
         let mut note = |call: usize, answer: u64| said[call][usize::from(answer != 0)] += 1;
         for entry in entries() {
             let [first, length] = bytes(&entry);
-            note(0, judge.call([first, length, lent(&mut totals), 0, 0, 0, 0, 0]));
+            note(0, judge.call([first, length, lent(&mut totals)]));
             for (n, section) in [(1, 1), (2, 1), (2, 2), (3, 2), (2, 3)] {
                 for column in [1, 2, 18] {
-                    let answer = value.call([first, length, n, section, 1, column, lent(&mut number), 0]);
+                    let answer = value.call([first, length, n, section, 1, column, lent(&mut number)]);
                     note(1, answer);
-                    note(2, heading.call([first, length, n, section, column, lent(&mut part), 0, 0]));
-                    note(3, unit.call([first, length, n, section, column, lent(&mut part), 0, 0]));
+                    note(2, heading.call([first, length, n, section, column, lent(&mut part)]));
+                    note(3, unit.call([first, length, n, section, column, lent(&mut part)]));
                 }
             }
             for (n, keyword, pointer) in [(1, "TITLE     ", b' '), (2, "REACTION  ", b'1'), (2, "REACTION  ", b' ')] {
                 let [place, ten] = bytes(keyword.as_bytes());
-                note(4, passage.call([first, length, n, place, ten, pointer.into(), lent(&mut part), 0]));
+                note(4, passage.call([first, length, n, place, ten, pointer.into(), lent(&mut part)]));
             }
             for room in [entry.len(), 80] {
                 let mut buffer = vec![b'#'; room];
-                note(5, copy.call([first, length, lent(&mut buffer), room as u64, 0, 0, 0, 0]));
+                note(5, copy.call([first, length, lent(&mut buffer), room as u64]));
             }
         }
         assert!(said.iter().flatten().all(|&times| times > 0), "{said:?}");

@@ -1,6 +1,6 @@
-//! Verdicts, reasons, answers, copies, entries of transmissions and counts of digits that others worked out from the
-//! papers, where their tables are beside the project: in `../shared/vectors/02`. The library and the reference are held
-//! against them.
+//! Verdicts, reasons, answers, indexes, copies, entries of transmissions and counts of digits that others worked out from
+//! the papers, where their tables are beside the project: in `../shared/vectors/02`. The library and the reference are
+//! held against them.
 
 mod common;
 
@@ -123,19 +123,25 @@ fn copies_written_by_hand() {
     say(&format!("hand/copies.tsv: {} records", rows.len()));
 }
 
-/// Whether M-105 has anything to say of an entry: FLAG or DECAY-FLAG is a heading of one of its tables, with any
-/// pointer or none. The entries of `r101` are judged without that request.
-fn flagged(of: &str, file: &str) -> bool {
-    let bytes = entry(of, file);
+/// The first bytes of the headings FLAG and DECAY-FLAG, with any pointer or none, in the tables of an entry.
+fn flag_headings(bytes: &[u8]) -> Vec<usize> {
     let records: Vec<&[u8]> = bytes.chunks_exact(RECORD).collect();
     let opens = |record: &[u8]| record.starts_with(b"COMMON     ") || record.starts_with(b"DATA       ");
-    (0..records.len()).filter(|&at| opens(records[at])).any(|at| {
+    let mut places = Vec::new();
+    for at in (0..records.len()).filter(|&at| opens(records[at])) {
         // As many records of headings as the count of columns asks for.
         let columns = String::from_utf8_lossy(&records[at][11..22]).trim().parse::<usize>().unwrap_or(0);
-        let headings = records[at + 1..].iter().take(columns.div_ceil(6));
-        let mut fields = headings.flat_map(|record| record.chunks_exact(11).take(6));
-        fields.any(|field| matches!(&field[..10], b"FLAG      " | b"DECAY-FLAG"))
-    })
+        let headings = (at + 1..records.len()).take(columns.div_ceil(6));
+        let fields = headings.flat_map(|record| (0..6).map(move |field| RECORD * record + 11 * field));
+        places.extend(fields.filter(|&first| matches!(&bytes[first..first + 10], b"FLAG      " | b"DECAY-FLAG")));
+    }
+    places
+}
+
+/// Whether M-105 has anything to say of an entry: FLAG or DECAY-FLAG is a heading of one of its tables. The entries of
+/// `r101` are judged without that request.
+fn flagged(of: &str, file: &str) -> bool {
+    !flag_headings(&entry(of, file)).is_empty()
 }
 
 /// Whether M-100 refuses an entry of a folder that is judged without it: by 4, at a record that is TRANS or ENDTRANS,
@@ -347,6 +353,100 @@ fn same_answers(of: &str, known: impl Fn(&str) -> bool) {
     }
     let given = rows.iter().filter(|row| row[3].starts_with("0 ")).count();
     say(&format!("{of}/questions.tsv: {} questions, {given} of them with an answer", rows.len()));
+}
+
+/// The answer to a question by an index, as a table has it: a value without its count of digits.
+fn answered_by(by: &dyn Implementation, entry: &[u8], index: &[u32], question: &str, asked: &[&str]) -> String {
+    let number = |place: usize| asked[place].parse().expect("a number");
+    match question {
+        "value" => {
+            let answer = by.index_value(entry, index, [number(0), number(1), number(2), number(3)]);
+            format!("{} {}", refused(answer.as_ref().err()), told(answer.or(Ok(FieldRead::BLANK)))[..4].join(" "))
+        }
+        "heading" => part(by.index_heading(entry, index, [number(0), number(1), number(2)]), true),
+        "unit" => part(by.index_unit(entry, index, [number(0), number(1), number(2)]), true),
+        "passage" => part(by.index_passage(entry, index, number(0), &bytes(asked[1]), number(2) as u8), false),
+        other => panic!("no question {other}"),
+    }
+}
+
+/// How many rows have each number in a column, in words; each of these numbers is among them.
+fn by_number(rows: &[Vec<String>], column: usize, due: &[&str]) -> String {
+    let mut counts: BTreeMap<&str, usize> = BTreeMap::new();
+    rows.iter().for_each(|row| *counts.entry(row[column].split(' ').next().unwrap_or_default()).or_default() += 1);
+    assert!(due.iter().all(|number| counts.contains_key(number)), "{counts:?}");
+    counts.iter().map(|(number, count)| format!(" {number}:{count}")).collect()
+}
+
+/// Questions by indexes, honest and altered, to entries, whole and altered (M-102). Nothing is judged, so M-101, M-105 and
+/// M-100 change none.
+#[test]
+fn questions_by_indexes_that_others_answered() {
+    let Some(rows) = table("lookup/ask.tsv") else { return };
+    for row in &rows {
+        let [file, numbers, question, asked, due, ..] = &row[..] else { panic!("{row:?}") };
+        let text = String::from_utf8(entry("lookup", numbers)).expect("numbers, one to a line");
+        let index: Vec<u32> = text.lines().map(|line| line.parse().expect("a number")).collect();
+        let asked: Vec<&str> = asked.split(' ').collect();
+        for by in BOTH {
+            assert_eq!(&answered_by(by, &entry("lookup", file), &index, question, &asked), due, "{row:?}");
+        }
+    }
+    let counts = by_number(&rows, 4, &["0", "32", "33", "34", "35", "36", "38", "39"]);
+    say(&format!("lookup/ask.tsv: {} questions, by number{counts}", rows.len()));
+}
+
+/// Each number of the sample's index replaced in turn, every question asked.
+#[test]
+fn the_index_of_the_sample_swept_by_others() {
+    let Some(rows) = table("lookup/sample_sweep.tsv") else { return };
+    let sample = entry("lookup", "sample.x4");
+    assert_eq!(sample, common::sample());
+    for row in &rows {
+        let [numbers, question, asked, due, ..] = &row[..] else { panic!("{row:?}") };
+        let index: Vec<u32> = numbers.split(',').map(|number| number.parse().expect("a number")).collect();
+        let asked: Vec<&str> = asked.split(' ').collect();
+        for by in BOTH {
+            assert_eq!(&answered_by(by, &sample, &index, question, &asked), due, "{row:?}");
+        }
+    }
+    let counts = by_number(&rows, 3, &["0", "32", "33", "34", "35", "36", "39"]);
+    say(&format!("lookup/sample_sweep.tsv: {} questions, by number{counts}", rows.len()));
+}
+
+/// Indexes made in slices of some lengths, every number 7 before: the verdict beside 31, the rows that the entry has, and
+/// the slice afterwards. The table judges by document 01 alone, so that where 17 refuses an entry since M-105, its headings
+/// FLAG and DECAY-FLAG get another letter first.
+#[test]
+fn indexes_that_others_made() {
+    let Some(mut rows) = table("lookup/make.tsv") else { return };
+    without_transmissions("lookup", &mut rows, |row| row[3..6].to_vec());
+    let mut renamed = 0;
+    for row in &rows {
+        let room: usize = row[1].parse().expect("a length");
+        let mut entry = entry("lookup", &row[0]);
+        if reference::judge(&entry).numbers()[0] == 17 {
+            let mut given = vec![9; room];
+            assert_eq!(library::make_index(&entry, &mut given), reference::make_index(&entry, &mut given));
+            flag_headings(&entry).into_iter().for_each(|first| entry[first + 1] = b'Q');
+            renamed += 1;
+        }
+        for by in BOTH {
+            let mut slice = vec![7; room];
+            let made = by.make_index(&entry, &mut slice);
+            assert_eq!(refused(made.as_ref().err()), row[2..6].join(" "), "{row:?}");
+            // A refused call does not say how many rows there are; judging does.
+            let subentries = by.judge(&entry).numbers()[3] as usize;
+            assert_eq!(
+                (made.unwrap_or(subentries).to_string(), subentries.to_string()),
+                (row[6].clone(), row[6].clone())
+            );
+            let numbers = slice.iter().map(|number| number.to_string()).collect::<Vec<_>>().join(" ");
+            assert_eq!(numbers, row[7], "{row:?}");
+        }
+    }
+    let counts = by_number(&rows, 2, &["0", "31", "38"]);
+    say(&format!("lookup/make.tsv: {} indexes, {renamed} without flags, by number{counts}", rows.len()));
 }
 
 #[test]

@@ -4,15 +4,10 @@
 // ten, the pointer in one. Of each question it writes the number, what stands beside it, and the answer: the value and the
 // count of its digits, or the first byte, the length, the pointer and the part.
 use bytes::scan::find;
-use paper_entry::types::Answer;
-use paper_number::types::Decimal;
-use paper_number::types::Reading;
-use paper_questions::types::PartAnswer;
 use paper_record::types::LineNo;
+use program_answer::say_part;
+use program_answer::say_value;
 use program_text::number_in;
-use program_text::say;
-use program_text::say_numbers;
-use program_text::say_power;
 use questions::ask::heading;
 use questions::ask::heading_part;
 use questions::ask::passage;
@@ -21,65 +16,13 @@ use questions::ask::unit;
 use questions::ask::unit_part;
 use questions::ask::value;
 
-fn say_answer(a: Answer) {
-    let record = a.record;
-    let all = [
-        a.number as u64,
-        a.refusal as u64,
-        record.0 as u64,
-        a.column as u64,
-    ];
-    say_numbers(b"", &all);
-}
-
-fn say_decimal(d: Decimal) {
-    if d.negative {
-        say(b" number -", d.coefficient);
-    } else {
-        say(b" number ", d.coefficient);
-    }
-    io::write_all(1, b" ");
-    let power = d.power;
-    say_power(power);
-}
-
-fn say_reading(r: Reading) {
-    match r {
-        Reading::Blank => {
-            io::write_all(1, b" blank");
-        }
-        Reading::Number(d) => {
-            say_decimal(d);
-        }
-        Reading::Refused(n) => {
-            say(b" refused ", n as u64);
-        }
-    }
-}
-
-fn say_part(p: PartAnswer, part: &[u8]) {
-    let a = p.answer;
-    say_answer(a);
-    let all = [p.first as u64, p.length as u64, p.pointer as u64];
-    say_numbers(b" ", &all);
-    io::write_all(1, b" [");
-    io::write_all(1, part);
-    io::write_all(1, b"]\n");
-}
-
 fn ask_value(entry: &[u8], line: &[u8]) {
     let n = number_in(line, 1, 11);
     let section = number_in(line, 11, 21);
     let row = LineNo(number_in(line, 21, 31));
     let column = number_in(line, 31, 41);
     let v = value(entry, n, section, row, column);
-    let a = v.answer;
-    let r = v.value;
-    let digits = v.digits;
-    say_answer(a);
-    say_reading(r);
-    say(b" ", digits as u64);
-    io::write_all(1, b"\n");
+    say_value(v);
 }
 
 fn ask_heading(entry: &[u8], line: &[u8]) {

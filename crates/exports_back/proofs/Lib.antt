@@ -5,3 +5,4 @@ pub mod Refusals
 pub mod PartsBack
 pub mod NoPlace
 pub mod ValuesBack
+pub mod IndexBack

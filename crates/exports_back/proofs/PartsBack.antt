@@ -29,7 +29,7 @@ use Rattle.exports_back.proofs.Refusals.{Numbered, one, section-numbere
 -- ---- parts
 
 -- a part comes back, whatever stood in the array before
-abbrev Back : List ℕ → PartAnswer → Type 0
+abbrev pub Back : List ℕ → PartAnswer → Type 0
 Back before p = partIn (answerWord (p .answer)) (partStored before p) ≡ p
 
 place-back : (before : List ℕ) (first long pointer : ℕ)
@@ -37,13 +37,14 @@ place-back : (before : List ℕ) (first long pointer : ℕ)
 unfolding partIn partStored lentAfter answerIn answerWord
 place-back before first long pointer = refl
 
-none-back : (before : List ℕ) (a : Answer) → Fits a → eqb (a .number) 0 ≡ false → Back before (noPart a)
+pub none-back : (before : List ℕ) (a : Answer) → Fits a → eqb (a .number) 0 ≡ false → Back before (noPart a)
 unfolding partIn
 none-back before a h e = rw (word-back a h, e) refl
 
-part-back : (s before : List ℕ) (number from bytes pointer : ℕ) → Numbered number
-    → Back before (partWith s (judgeOf s) number from bytes pointer)
-part-back s before number from bytes pointer few = by-number (eqb number 0) refl
+-- beside another number than 0 the part is empty, whatever stands beside that
+pub part-of : (s before : List ℕ) (a : Answer) (number from bytes pointer : ℕ) → a .number ≡ number → Fits a
+    → Back before (cond (eqb number 0) (partFrom s (answerOf 0) from bytes pointer) (noPart a))
+part-of s before a number from bytes pointer same fits = by-number (eqb number 0) refl
   where
     by-room : (b : Bool)
         → Back before
@@ -52,11 +53,15 @@ part-back s before number from bytes pointer few = by-number (eqb number 0) refl
     by-room false = place-back before 0 0 32
 
     by-number : (b : Bool) → eqb number 0 ≡ b
-        → Back before (cond b (partFrom s (answerOf 0) from bytes pointer) (noPart (answerFor (judgeOf s) number)))
+        → Back before (cond b (partFrom s (answerOf 0) from bytes pointer) (noPart a))
     by-number true e = by-room (leb (from + bytes) (length s))
-    by-number false e =
-        none-back before (answerFor (judgeOf s) number) (answer-fits s number (few .few))
-        (rw (answer-number (judgeOf s) number) e)
+    by-number false e = none-back before a fits (rw same e)
+
+part-back : (s before : List ℕ) (number from bytes pointer : ℕ) → Numbered number
+    → Back before (partWith s (judgeOf s) number from bytes pointer)
+part-back s before number from bytes pointer few =
+    part-of s before (answerFor (judgeOf s) number) number from bytes pointer (answer-number (judgeOf s) number)
+    (answer-fits s number (few .few))
 
 -- ---- the parts of an entry
 

@@ -1,7 +1,7 @@
 -- No value is lost, and no answer to a copy: they come back from the word and the lent array.
 -- Assumes nothing.
 use Prim.Native.Nat.{ℕ, _-_, _*_, _≤_}
-use mathlib.Core.Path.{_≡_, refl}
+use mathlib.Core.Path.{_≡_, refl, _∙_, ap}
 use mathlib.Core.Bool.{Bool, true, false, cond}
 use mathlib.Core.List.{List, [], _∷_, _++_}
 use native.Mathlib.Omega.{arith}
@@ -16,6 +16,7 @@ use Rattle.paper_number.specs.Value.{Says, malformed}
 use Rattle.paper_number.specs.Reading.{readField}
 use Rattle.paper_number.proofs.Laws.{says-exactly}
 use Rattle.paper_number.specs.Digits.{digitCount, fieldRead}
+use Rattle.paper_number.specs.declared.types.FieldRead.{FieldRead}
 use Rattle.paper_record.specs.declared.types.Place.{Place}
 use Rattle.paper_record.specs.Places.{placeOf}
 use Rattle.paper_record.specs.Fields.{fieldAt, fieldsOf}
@@ -53,7 +54,7 @@ field-cases P s p f there blank = by-record (hasRecord s (p .at)) refl
     by-record false e = rw (getD-replicate 6 (p .field) (replicate {A = ℕ} 11 32) [] (omega arith)) blank
 
 -- a field of an entry is eleven columns
-field-wide : (s : List ℕ) (p : Place) → p .field ≤ 5 → length (fieldOf s p) ≡ 11
+pub field-wide : (s : List ℕ) (p : Place) → p .field ≤ 5 → length (fieldOf s p) ≡ 11
 field-wide s p f =
     let r = blockAt 81 s (p .at .0 - 1) in
     field-cases (λ l. length l ≡ 11) s p f
@@ -81,27 +82,44 @@ said-back before l w =
       held-back before (digitCount l) (readField l) (held l w (readField l) refl h),
     ) refl
 
-refused-value : (xs : List ℕ) (a : Answer) → Fits a → 31 ≤ a .number
+pub refused-value : (xs : List ℕ) (a : Answer) → Fits a → 31 ≤ a .number
     → valueAnswerIn (answerWord a) xs ≡ record { answer = a; value = Blank; digits = 0 }
 unfolding valueAnswerIn
 refused-value xs a h far = rw (word-back a h, le-leb 31 (a .number) far) refl
 
 -- a value comes back, whatever stood in the array before
-abbrev Back : List ℕ → ValueAnswer → Type 0
+abbrev pub Back : List ℕ → ValueAnswer → Type 0
 Back before v = valueAnswerIn (answerWord (valueAnswer v)) (valueStored before v) ≡ v
+
+-- a value beside a number: what the field says where it is 0, else blank
+abbrev answeredBy : Answer → ℕ → FieldRead → ValueAnswer
+answeredBy a number field =
+    record {
+      answer = a;
+      value = cond (eqb number 0) (field .reading) Blank;
+      digits = cond (eqb number 0) (field .digits) 0;
+    }
+
+pub value-of : (before : List ℕ) (a : Answer) (number : ℕ) (l : List ℕ) → a .number ≡ number
+    → (number ≡ 0 → a ≡ answerOf 0) → Fits a → Numbered number → length l ≡ 11
+    → Back before (answeredBy a number (fieldRead l))
+unfolding valueAnswer valueStored lentAfter
+value-of before a number l same zeros fits h w = by-number (eqb number 0) refl
+  where
+    by-number : (b : Bool) → eqb number 0 ≡ b → Back before (answeredBy a number (fieldRead l))
+    by-number true e =
+        let n = eqb-true number 0 e in
+        rw (zeros n, n) (said-back before l w)
+    by-number false e =
+        let far : 31 ≤ number = h .far (eqb-false number 0 e) in
+        let f : eqb (a .number) 0 ≡ false = ap (λ (m : ℕ). eqb m 0) same ∙ e in
+        rw (f, e) (refused-value before a fits (rw same far))
 
 value-with : (s before : List ℕ) (number : ℕ) (l : List ℕ) → Numbered number → length l ≡ 11
     → Back before (valueWith (judgeOf s) number (fieldRead l))
-unfolding valueAnswer valueStored lentAfter
-value-with s before number l h w = by-number (eqb number 0) refl
-  where
-    by-number : (b : Bool) → eqb number 0 ≡ b → Back before (valueWith (judgeOf s) number (fieldRead l))
-    by-number true e = rw (eqb-true number 0 e) (said-back before l w)
-    by-number false e =
-        let same = answer-number (judgeOf s) number in
-        let far : 31 ≤ number = h .far (eqb-false number 0 e) in
-        rw (same, e)
-        (refused-value before (answerFor (judgeOf s) number) (answer-fits s number (h .few)) (rw same far))
+value-with s before number l h w =
+    value-of before (answerFor (judgeOf s) number) number l (answer-number (judgeOf s) number) (λ z. rw z refl)
+    (answer-fits s number (h .few)) h w
 
 pub value-back : ValueBack
 unfolding valueAsked valueBy valueRefusal

@@ -1,3 +1,4 @@
 pub mod Claims
 pub mod QuestionClaims
+pub mod IndexClaims
 pub mod NoPlace

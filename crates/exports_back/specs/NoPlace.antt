@@ -11,6 +11,7 @@ use Rattle.paper_entry.specs.Answer.{refusal, firstOf}
 use Rattle.paper_questions.specs.Located.{rowOf}
 use Rattle.paper_questions.specs.Ask.{passageAsked}
 use Rattle.paper_questions.specs.Refused.{sectionRefusals}
+use Rattle.paper_index.specs.ByIndex.{passageByIndex}
 use Rattle.exports_parts.specs.Questions.{keywordPlace}
 
 -- it is no place, so no passage stands there: 36 where neither 31 nor 32 nor 33 is given, and no other number
@@ -19,3 +20,10 @@ NoPlace =
     (s : List ℕ) (n : ℕ) (keyword : List ℕ) (pointer : ℕ) → (length keyword ≡ 10 → ⊥)
     → passageAsked s n (keywordPlace keyword) pointer .answer .number
     ≡ firstOf (sectionRefusals s (judgeOf s) (rowOf s n) (rowOf s n .bib) ++ (refusal 36 true ∷ []))
+
+-- by an index of any numbers it is never answered; which refusal it is goes by what is read (36, or 39 where the text
+-- records leave the entry, or one before these)
+abbrev pub NoPlaceByIndex : Type 0
+NoPlaceByIndex =
+    (s t : List ℕ) (n : ℕ) (keyword : List ℕ) (pointer : ℕ) → (length keyword ≡ 10 → ⊥)
+    → passageByIndex s t n (keywordPlace keyword) pointer .answer .number ≡ 0 → ⊥

@@ -36,8 +36,13 @@ valueStored before v =
 unfoldable pub partStored : List ℕ → PartAnswer → List ℕ
 partStored before p = lentAfter (p .answer .number) before (p .first ∷ p .length ∷ p .pointer ∷ [])
 
+-- ---- one number
+
+unfoldable pub numberStored : List ℕ → Answer → ℕ → List ℕ
+numberStored before a n = lentAfter (a .number) before (n ∷ [])
+
 -- "keyword place (ten bytes)": bytes that are not ten are none; they are asked for as the blank place, under which no
--- passage stands (the law `no-place`)
+-- passage stands (the laws `no-place`, `no-place-by-index`)
 unfoldable pub keywordPlace : List ℕ → List ℕ
 keywordPlace k = cond (eqb (length k) 10) k (blanks 10)
 
@@ -48,6 +53,9 @@ unfoldable pub valueAnswerIn : ℕ → List ℕ → ValueAnswer
 valueAnswerIn w xs =
     cond (leb 31 (answerIn w .number)) (record { answer = answerIn w; value = Blank; digits = 0 })
     (record { answer = answerOf 0; value = readingIn w xs .reading; digits = readingIn w xs .digits })
+
+abbrev pub storedNumber : List ℕ → ℕ
+storedNumber xs = getD xs 0 0
 
 unfoldable pub partIn : ℕ → List ℕ → PartAnswer
 partIn w xs =

@@ -1,9 +1,11 @@
 // What the answer to a question stores in the numbers that the caller lends, and the place of a keyword.
 ghost use mathlib.Core.Path.{_≡_};
 ghost use Rattle.exports_words.specs.Words.{answerWord};
-ghost use Rattle.exports_parts.specs.Questions.{partStored, valueAnswer, valueStored, keywordPlace};
+ghost use Rattle.exports_parts.specs.Questions.{numberStored, partStored, valueAnswer, valueStored};
+ghost use Rattle.exports_parts.specs.Questions.{keywordPlace};
 use exports_words::values::put_reading;
 use exports_words::words::answer_word;
+use paper_entry::types::Answer;
 use paper_number::types::FieldRead;
 use paper_questions::types::PartAnswer;
 use paper_questions::types::ValueAnswer;
@@ -21,6 +23,19 @@ pub fn put_part(p: PartAnswer, out: &mut [u64; 3]) -> u64
     let length = p.length;
     let pointer = p.pointer;
     *out = [first as u64, length as u64, pointer as u64];
+    answer_word(answer)
+}
+
+// Stores one number that is answered, and returns the word.
+pub fn put_number(answer: Answer, number: u64, out: &mut [u64; 1]) -> u64
+    ensures { λ r. ⌜ r ≡ answerWord answer ⌝ }
+    ensures { λ r. ⌜ now (out .exit) ≡ numberStored (now (out .entry)) answer number ⌝ }
+{
+    let refusal = answer.number;
+    if refusal != 0 {
+        return answer_word(answer);
+    }
+    *out = [number];
     answer_word(answer)
 }
 

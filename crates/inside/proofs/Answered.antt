@@ -195,7 +195,7 @@ module _ (s : List ℕ) (accepted : Accepted s) (n : ℕ) (b : Bool) (a : ℕ) (
     abbrev above : ℕ
     above = line .0 - 1
 
-    place-record : placeOf at (countN1 fs) line column .at .0 ≡ suc (index (suc (suc above)) ((column - 1) / 6))
+    pub place-record : placeOf at (countN1 fs) line column .at .0 ≡ suc (index (suc (suc above)) ((column - 1) / 6))
     place-record =
         let e = place-at at (countN1 fs) line column in
         let p = suc-mul (suc above) k in

@@ -155,14 +155,14 @@ module _ (s : List ℕ) (accepted : Accepted s) (n : ℕ) (b : Bool) (a : ℕ) (
 
     -- ---- headings and units
 
-    heading-record : headingPlace at column .at .0 ≡ suc (inRow 0)
+    pub heading-record : headingPlace at column .at .0 ≡ suc (inRow 0)
     unfolding headingPlace
     heading-record =
         let r = at-record s accepted n b a o in
         let z = zero-mul k in
         omega arith
 
-    unit-record : unitPlace at (countN1 fs) column .at .0 ≡ suc (inRow 1)
+    pub unit-record : unitPlace at (countN1 fs) column .at .0 ≡ suc (inRow 1)
     unfolding unitPlace
     unit-record =
         let r = at-record s accepted n b a o in

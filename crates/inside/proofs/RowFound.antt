@@ -133,7 +133,7 @@ module _ (s : List ℕ) (n : ℕ) (w : Walked s n) (fits : n * 81 ≤ length s) 
       unnumbered-turn (contextAt s i) i (blockAt 81 s i) (contextAt s (suc i)) (w .turns i (omega arith))
       (unnumbered-at i (omega arith))
 
-  nested-at : (i : ℕ) → i < n
+  pub nested-at : (i : ℕ) → i < n
       → Nested (contextAt s i) (roleAt s i) (subentryOf (n1 (fieldsOf (blockAt 81 s i)))) (contextAt s (suc i))
   nested-at i h =
       nested-turn (contextAt s i) i (blockAt 81 s i) (contextAt s (suc i)) (w .turns i h)
@@ -239,7 +239,7 @@ module _ (s : List ℕ) (n : ℕ) (w : Walked s n) (fits : n * 81 ≤ length s) 
         by-role i h false o before = first-kept i h o before
 
     -- and stays so
-    first-stands : (a : ℕ) → number * 10 < key (contextAt s a) → (j : ℕ) → a + j ≤ n
+    pub first-stands : (a : ℕ) → number * 10 < key (contextAt s a) → (j : ℕ) → a + j ≤ n
         → rowAt s number (a + j) .first ≡ rowAt s number a .first
     first-stands a p zero l = let z : a + 0 ≡ a = omega arith in rw z
     first-stands a p (suc j) l =

@@ -41,6 +41,25 @@ use Rattle.reasons.proofs.explain.explain.Reads as explain
 use Rattle.files_reasons.proofs.explain_file.explain_file.Reads as explain-file
 use Rattle.exports_reasons.proofs.explaining.x4_explain.Reads as explained
 use Rattle.exports_reasons.proofs.explaining.x4_explain_file.Reads as explained-file
+use Rattle.questions_values.proofs.answers.value_from_row.Reads as value-from-row
+use Rattle.questions_parts.proofs.answers.heading_from_row.Reads as heading-from-row
+use Rattle.questions_parts.proofs.answers.unit_from_row.Reads as unit-from-row
+use Rattle.questions_parts.proofs.answers.passage_from_row.Reads as passage-from-row
+use Rattle.index_making.proofs.making.make_index.Reads as make-index
+use Rattle.index_finding.proofs.finding.find_row.Reads as find-row
+use Rattle.index_asking.proofs.asking.value_by_index.Reads as value-by-index
+use Rattle.index_asking.proofs.asking.heading_by_index.Reads as heading-by-index
+use Rattle.index_asking.proofs.asking.unit_by_index.Reads as unit-by-index
+use Rattle.index_asking.proofs.asking.passage_by_index.Reads as passage-by-index
+use Rattle.index_asking.proofs.handing.heading_part_by_index.Reads as heading-part-by-index
+use Rattle.index_asking.proofs.handing.unit_part_by_index.Reads as unit-part-by-index
+use Rattle.index_asking.proofs.handing.passage_part_by_index.Reads as passage-part-by-index
+use Rattle.exports_index.proofs.making.x4_index.Reads as x4-made
+use Rattle.exports_index.proofs.making.x4_index_row.Reads as x4-index-row
+use Rattle.exports_index.proofs.asking.x4_index_value.Reads as x4-index-value
+use Rattle.exports_index.proofs.asking.x4_index_heading.Reads as x4-index-heading
+use Rattle.exports_index.proofs.asking.x4_index_unit.Reads as x4-index-unit
+use Rattle.exports_index.proofs.asking.x4_index_passage.Reads as x4-index-passage
 use Rattle.one_answer.specs.Determined.{Determined, DeterminedWith, DeterminedPart}
 
 pub record OneAnswer : Type 0 where
@@ -65,6 +84,19 @@ pub record OneAnswer : Type 0 where
   pub copy-file : DeterminedWith copy-file.Post (λ κs s. now (s .1 .0))
   pub explain : Determined explain.Post
   pub explain-file : Determined explain-file.Post
+  pub value-from-row : Determined value-from-row.Post
+  pub heading-from-row : Determined heading-from-row.Post
+  pub unit-from-row : Determined unit-from-row.Post
+  pub passage-from-row : Determined passage-from-row.Post
+  pub make-index : DeterminedWith make-index.Post (λ κs s. now (s .1 .0))
+  pub find-row : Determined find-row.Post
+  pub value-by-index : Determined value-by-index.Post
+  pub heading-by-index : Determined heading-by-index.Post
+  pub unit-by-index : Determined unit-by-index.Post
+  pub passage-by-index : Determined passage-by-index.Post
+  pub heading-part-by-index : DeterminedPart heading-part-by-index.Post
+  pub unit-part-by-index : DeterminedPart unit-part-by-index.Post
+  pub passage-part-by-index : DeterminedPart passage-part-by-index.Post
   -- for host programs
   pub x4-version : Determined x4-version.Post
   pub x4-judge : DeterminedWith x4-judge.Post (λ κs s. now (s .1 .0))
@@ -85,3 +117,11 @@ pub record OneAnswer : Type 0 where
   pub x4-explain-file : DeterminedWith explained-file.Post (λ κs s. now (s .1 .0))
   pub x4-explain-file-facts : DeterminedWith explained-file.Post (λ κs s. now (s .1 .1 .0))
   pub x4-explain-file-characters : DeterminedWith explained-file.Post (λ κs s. now (s .1 .1 .1 .0))
+  -- two are lent: the index and how many rows it has
+  pub x4-index : DeterminedWith x4-made.Post (λ κs s. now (s .1 .0))
+  pub x4-index-rows : DeterminedWith x4-made.Post (λ κs s. now (s .1 .1 .0))
+  pub x4-index-row : DeterminedWith x4-index-row.Post (λ κs s. now (s .1 .1 .0))
+  pub x4-index-value : DeterminedWith x4-index-value.Post (λ κs s. now (s .1 .1 .1 .1 .1 .1 .0))
+  pub x4-index-heading : DeterminedWith x4-index-heading.Post (λ κs s. now (s .1 .1 .1 .1 .1 .0))
+  pub x4-index-unit : DeterminedWith x4-index-unit.Post (λ κs s. now (s .1 .1 .1 .1 .1 .0))
+  pub x4-index-passage : DeterminedWith x4-index-passage.Post (λ κs s. now (s .1 .1 .1 .1 .1 .0))

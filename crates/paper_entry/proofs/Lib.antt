@@ -3,3 +3,4 @@ pub mod Lengths
 pub mod Leads
 pub mod PartPlace
 pub mod Answers
+pub mod Firsts

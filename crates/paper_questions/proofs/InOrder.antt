@@ -11,6 +11,7 @@ use Rattle.paper_record.specs.declared.types.LineNo.{LineNo}
 use Rattle.paper_record.proofs.Within.{within-bounds}
 use Rattle.paper_entry.specs.declared.types.Verdict.{Verdict}
 use Rattle.paper_entry.specs.Answer.{Refusal, refusal, firstOf, isRefused}
+use Rattle.paper_entry.proofs.Firsts.{none-given}
 use Rattle.paper_questions.specs.declared.types.Row.{Row}
 use Rattle.paper_questions.specs.declared.types.Shape.{Shape}
 use Rattle.paper_questions.specs.Refused.{isSubent, noSection, sectionRefusals, InShape, valueRefusal}
@@ -19,27 +20,9 @@ use Rattle.paper_questions.specs.Refused.{columnRefusal}
 abbrev three : Bool → Bool → Bool → List Refusal → List Refusal
 three a b c ys = refusal 31 a ∷ refusal 32 b ∷ refusal 33 c ∷ ys
 
-then-three : (a b c : Bool) (ys : List Refusal) → firstOf (three a b c []) ≡ 0
-    → firstOf (three a b c ys) ≡ firstOf ys
-then-three true b c ys e = absurd (omega arith)
-then-three false true c ys e = absurd (omega arith)
-then-three false false true ys e = absurd (omega arith)
-then-three false false false ys e = refl
-
-first-three : (a b c : Bool) (ys : List Refusal) → (firstOf (three a b c []) ≡ 0 → ⊥)
-    → firstOf (three a b c ys) ≡ firstOf (three a b c [])
-first-three true b c ys h = refl
-first-three false true c ys h = refl
-first-three false false true ys h = refl
-first-three false false false ys h = absurd (h refl)
-
-module _ (s : List ℕ) (v : Verdict) (x : Row) (at : RecordNo) (ys : List Refusal) where
-  pub section-none : firstOf (sectionRefusals s v x at) ≡ 0 → firstOf (sectionRefusals s v x at ++ ys) ≡ firstOf ys
-  section-none e = then-three (isRefused v) (not (isSubent s x)) (noSection at) ys e
-
-  pub section-first : (firstOf (sectionRefusals s v x at) ≡ 0 → ⊥)
-      → firstOf (sectionRefusals s v x at ++ ys) ≡ firstOf (sectionRefusals s v x at)
-  section-first h = first-three (isRefused v) (not (isSubent s x)) (noSection at) ys h
+pub section-none : (s : List ℕ) (v : Verdict) (x : Row) (at : RecordNo) (ys : List Refusal)
+    → firstOf (sectionRefusals s v x at) ≡ 0 → firstOf (sectionRefusals s v x at ++ ys) ≡ firstOf ys
+section-none s v x at ys e = none-given (sectionRefusals s v x at) ys refl e
 
 last-one : (a b c e : Bool) → firstOf (three a b c (refusal 35 (not e) ∷ [])) ≡ 0 → e ≡ true
 last-one true b c e h = absurd (omega arith)

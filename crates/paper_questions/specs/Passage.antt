@@ -50,13 +50,6 @@ beginsWith pointer f = begins f && eqb (pointerOf f) pointer
 abbrev pub firstText : List ℕ → RecordNo → (List ℕ → Bool) → ℕ → ℕ → ℕ
 firstText s bib test i e = first (λ m. test (textAt s bib m)) i (e - i)
 
--- what is looked for, by number: this keyword, any keyword, a passage with this pointer, any passage
-abbrev pub sought : ℕ → List ℕ → ℕ → List ℕ → Bool
-sought what keyword pointer f =
-    cond (eqb what 0) (isKeyword keyword f)
-    (cond (eqb what 1) (hasKeyword f)
-    (cond (eqb what 2) (beginsWith pointer f) (begins f)))
-
 -- text records of a BIB section that a row of an entry names
 pub record Span (bib : RecordNo) (i e : ℕ) : Type 0 where
   pub below : bib .0 ≤ MOST-RECORDS

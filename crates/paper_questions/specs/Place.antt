@@ -41,13 +41,16 @@ DATA-SECTION = 2
 
 -- "COMMON: columns, 1-18"; "DATA: columns, 1-18; lines, 1-20,000"; "COMMON has line 1 only". A count that is not in
 -- its range counts as 0.
-unfoldable pub shapeOf : List ℕ → ℕ → RecordNo → Shape
-shapeOf s section at =
-    let fs = fieldsAt s at in
+abbrev pub shapeFrom : ℕ → ℕ → ℕ → Shape
+shapeFrom section a b =
     record {
-      columns = upTo MOST-COLUMNS (countN1 fs);
-      lines = cond (eqb section COMMON-SECTION) 1 (upTo MOST-LINES (countN2 fs));
+      columns = upTo MOST-COLUMNS a;
+      lines = cond (eqb section COMMON-SECTION) 1 (upTo MOST-LINES b);
     }
+
+-- by N1 and N2 of the section's own record
+unfoldable pub shapeOf : List ℕ → ℕ → RecordNo → Shape
+shapeOf s section at = let fs = fieldsAt s at in shapeFrom section (countN1 fs) (countN2 fs)
 
 -- ---- a column's heading and unit; of its values `placeOf` of the record layer
 

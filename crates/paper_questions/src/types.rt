@@ -30,15 +30,16 @@ pub struct Located {
     pub row: Row,
 }
 
-// The number of each answer is 0 or 31 to 36. Beside a value stands how many digits were written in its field: 0 beside a
-// blank and beside a refusal.
+// The number of each answer is 0 or 31 to 36, by an index also 38 or 39. Beside a value stands how many digits were written in its
+// field: 0 beside a blank and beside a refusal.
 pub struct ValueAnswer {
     pub answer: Answer,
     pub value: Reading,
     pub digits: u8,
 }
 
-// A part of the entry by its first byte and its length, and a pointer. The number of each answer is 0 or 31 to 36.
+// A part of the entry by its first byte and its length, and a pointer. The number of each answer is 0 or 31 to 36, by an index also
+// 38 or 39.
 pub struct PartAnswer {
     pub answer: Answer,
     pub first: usize,

@@ -32,12 +32,3 @@ equal-both w a b c p q = at-equal w a b (λ i h. equal-at w a c p i h ∙ sym (e
 
 pub equal-taken : (w : ℕ) (a : List ℕ) → equalTo w a (take w a) ≡ true
 equal-taken w a = at-equal w a (take w a) (λ i h. sym (getD-take w a i 0 h))
-
--- ten columns with an eleventh behind them compare as they do without it
-pub equal-ten : (f k : List ℕ) (b : ℕ)
-    → equalTo 10 f
-    (getD k 0 0 ∷ getD k 1 0 ∷ getD k 2 0 ∷ getD k 3 0 ∷ getD k 4 0 ∷ getD k 5 0 ∷ getD k 6 0 ∷ getD k 7 0 ∷ getD k 8 0
-    ∷ getD k 9 0 ∷ b ∷ [])
-    ≡ equalTo 10 f k
-unfolding equalTo first
-equal-ten f k b = refl

@@ -1,29 +1,38 @@
-// The questions: value, heading, unit, passage. Each answer says its number; of a part it says the place, and a second
-// call hands the part itself out of the caller's entry.
+// The questions: value, heading, unit, passage. Each judges the entry, finds the subentry's row and answers from it. An
+// answer says its number; of a part it says the place, and a second call hands the part itself out of the caller's entry.
 ghost use mathlib.Core.Path.{_≡_};
-ghost use Prim.Native.Nat.{_+_};
 ghost use Rattle.paper_entry.specs.Part.{Behind};
 ghost use Rattle.paper_questions.specs.ValueAnswers.{valueSaid};
-ghost use Rattle.paper_questions.specs.PartAnswers.{Lies, bytesIn};
+ghost use Rattle.paper_questions.specs.PartAnswers.{bytesIn};
 ghost use Rattle.paper_questions.specs.Ask.{valueAsked, headingAsked, unitAsked, passageAsked};
+ghost use Rattle.paper_index.specs.Asked.{noRow};
+use entry_verdict::answer::answer_for;
+use paper_entry::types::Verdict;
+use paper_number::types::Reading;
 use paper_questions::types::PartAnswer;
+use paper_questions::types::Row;
 use paper_questions::types::ValueAnswer;
 use paper_record::types::LineNo;
-use questions_parts::answers::heading_by;
-use questions_parts::answers::passage_by;
-use questions_parts::answers::unit_by;
+use questions_parts::answers::heading_from_row;
+use questions_parts::answers::no_part;
+use questions_parts::answers::passage_from_row;
+use questions_parts::answers::unit_from_row;
+use questions_parts::handing::part_of;
 use questions_rows::row::locate;
-use questions_values::answers::value_by;
+use questions_values::answers::value_from_row;
 
-// The part itself.
-fn part_of<'a>(entry: &'a [u8], part: PartAnswer) -> &'a [u8]
-    requires { ⌜ Lies (now entry) part ⌝ }
-    ensures { λ r. ⌜ Behind (entry .entry .ptr) (r .ptr) (part .first) ⌝ }
-    ensures { λ r. ⌜ now r ≡ bytesIn (now (entry .entry)) part ⌝ }
+// 31, or 32 where the row has no first record; else 0.
+fn no_row(v: Verdict, row: Row) -> u8
+    ensures { λ r. ⌜ r ≡ noRow v row ⌝ }
 {
-    let first = part.first;
-    let past = first + part.length;
-    &entry[first..past]
+    if v.refusal != 0 {
+        return 31;
+    }
+    let first = row.first;
+    if first.0 == 0 {
+        return 32;
+    }
+    0
 }
 
 // The value in a line and a column of COMMON (section 1) or DATA (section 2) of a subentry.
@@ -34,7 +43,16 @@ pub fn value(entry: &[u8], number: u32, section: u32, line: LineNo, column: u32)
     let found = locate(entry, number);
     let v = found.verdict;
     let row = found.row;
-    value_by(entry, v, row, section, line, column)
+    let refusal = no_row(v, row);
+    if refusal != 0 {
+        let refused = answer_for(v, refusal);
+        return ValueAnswer {
+            answer: refused,
+            value: Reading::Blank,
+            digits: 0,
+        };
+    }
+    value_from_row(entry, row, section, line, column)
 }
 
 // The heading of a column, ten columns, and its pointer.
@@ -44,7 +62,12 @@ pub fn heading(entry: &[u8], number: u32, section: u32, column: u32) -> PartAnsw
     let found = locate(entry, number);
     let v = found.verdict;
     let row = found.row;
-    heading_by(entry, v, row, section, column)
+    let refusal = no_row(v, row);
+    if refusal != 0 {
+        let refused = answer_for(v, refusal);
+        return no_part(refused);
+    }
+    heading_from_row(entry, row, section, column)
 }
 
 // The unit of a column, ten columns, and the heading's pointer.
@@ -54,7 +77,12 @@ pub fn unit(entry: &[u8], number: u32, section: u32, column: u32) -> PartAnswer
     let found = locate(entry, number);
     let v = found.verdict;
     let row = found.row;
-    unit_by(entry, v, row, section, column)
+    let refusal = no_row(v, row);
+    if refusal != 0 {
+        let refused = answer_for(v, refusal);
+        return no_part(refused);
+    }
+    unit_from_row(entry, row, section, column)
 }
 
 // The passage of a subentry with a keyword and a pointer, whole records.
@@ -64,7 +92,12 @@ pub fn passage(entry: &[u8], number: u32, keyword: [u8; 10], pointer: u8) -> Par
     let found = locate(entry, number);
     let v = found.verdict;
     let row = found.row;
-    passage_by(entry, v, row, keyword, pointer)
+    let refusal = no_row(v, row);
+    if refusal != 0 {
+        let refused = answer_for(v, refusal);
+        return no_part(refused);
+    }
+    passage_from_row(entry, row, keyword, pointer)
 }
 
 // The parts themselves, each in its place in the caller's entry; a refused one is empty.

@@ -1,2 +1,3 @@
-// The answers to questions for a heading, a unit or a passage, by the verdict on the entry and the row of the subentry.
+// The answers to questions for a heading, a unit or a passage, from a row: of any numbers, to any bytes.
 pub mod answers;
+pub mod handing;

@@ -1,2 +1,2 @@
-// The passages of a BIB section: the records of one by its keyword and its pointer.
+// The passages of a BIB section: where one begins, and where it ends, among the first so many of its text records.
 pub mod passage;

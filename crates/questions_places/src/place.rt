@@ -4,14 +4,14 @@ ghost use Prim.Native.Nat.{ℕ, _≤_};
 ghost use lib.ListN.{getD};
 ghost use mathlib.Core.List.{[]};
 ghost use Rattle.paper_rules.specs.Limits.{MOST-COLUMNS, MOST-LINES};
-ghost use Rattle.paper_questions.specs.Place.{hasRecord, fieldsAt, shapeOf, headingPlace, unitPlace, fieldOf};
+ghost use Rattle.paper_questions.specs.Place.{hasRecord, fieldsAt, shapeFrom, headingPlace, unitPlace, fieldOf};
 ghost use Rattle.paper_questions.specs.Place.{firstByte, byteOf, InSection};
-use columns::fields::fields;
+use columns::fields::field;
 use columns_places::places::records_for;
 use paper_questions::types::Shape;
 use paper_record::types::Place;
 use paper_record::types::RecordNo;
-use record::system::count_to;
+use record::system::up_to;
 use rules_limits::limits::MOST_COLUMNS;
 use rules_limits::limits::MOST_LINES;
 
@@ -21,7 +21,7 @@ pub const COMMON_SECTION: u32 = 1;
 pub const DATA_SECTION: u32 = 2;
 
 // Whether an entry has a record with this number.
-fn has_record(entry: &[u8], at: RecordNo) -> bool
+pub fn has_record(entry: &[u8], at: RecordNo) -> bool
     ensures { λ r. ⌜ r ≡ hasRecord (now (entry .entry)) at ⌝ }
 {
     if at.0 == 0 {
@@ -31,34 +31,33 @@ fn has_record(entry: &[u8], at: RecordNo) -> bool
     number * 81 <= entry.len()
 }
 
-// The six fields of the record with this number, blank where there is none.
-pub fn fields_at(entry: &[u8], at: RecordNo) -> [[u8; 11]; 6]
-    ensures { λ r. ⌜ r ≡ fieldsAt (now (entry .entry)) at ⌝ }
+// A field, counted from 0, of the record with this number, blank where there is none.
+pub fn field_at(entry: &[u8], at: RecordNo, k: u32) -> [u8; 11]
+    requires { ⌜ k ≤ 5 ⌝ }
+    ensures { λ r. ⌜ r ≡ getD (fieldsAt (now (entry .entry)) at) k [] ⌝ }
 {
     if !has_record(entry, at) {
         let blank = [b' '; 11];
-        return [blank, blank, blank, blank, blank, blank];
+        return blank;
     }
     let before = at.0 as usize - 1;
     let from = before * 81;
     let past = from + 81;
-    fields(&entry[from..past])
+    let column = k as usize * 11;
+    field(&entry[from..past], column)
 }
 
-// The shape that the record of a section announces.
-pub fn shape_of(entry: &[u8], section: u32, at: RecordNo) -> Shape
-    ensures { λ r. ⌜ r ≡ shapeOf (now (entry .entry)) section at ⌝ }
+// The shape that the two counts of a section's record announce.
+pub fn shape_from(section: u32, n1: u64, n2: u64) -> Shape
+    ensures { λ r. ⌜ r ≡ shapeFrom section n1 n2 ⌝ }
     ensures { λ r. ⌜ r .columns ≤ MOST-COLUMNS ⌝ }
     ensures { λ r. ⌜ r .lines ≤ MOST-LINES ⌝ }
 {
-    let fs = fields_at(entry, at);
-    let n1 = fs[1];
-    let columns = count_to(MOST_COLUMNS as u32, n1);
+    let columns = up_to(MOST_COLUMNS as u32, n1);
     if section == COMMON_SECTION {
         return Shape { columns, lines: 1 };
     }
-    let n2 = fs[2];
-    let lines = count_to(MOST_LINES as u32, n2);
+    let lines = up_to(MOST_LINES as u32, n2);
     Shape { columns, lines }
 }
 
@@ -96,9 +95,8 @@ pub fn field_of(entry: &[u8], place: Place) -> [u8; 11]
     ensures { λ r. ⌜ r ≡ fieldOf (now (entry .entry)) place ⌝ }
 {
     let at = place.at;
-    let fs = fields_at(entry, at);
-    let k = place.field as usize;
-    fs[k]
+    let k = place.field;
+    field_at(entry, at, k)
 }
 
 // The first byte of a record.

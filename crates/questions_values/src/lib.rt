@@ -1,2 +1,2 @@
-// The answer to a question for a value, by the verdict on the entry and the row of the subentry.
+// The answer to a question for a value, from the row of the subentry.
 pub mod answers;

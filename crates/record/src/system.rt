@@ -92,17 +92,25 @@ pub fn count_of(f: [u8; 11]) -> Count
     Count::Number(number)
 }
 
+// A number, 0 where it is more than `most`.
+pub fn up_to(most: u32, n: u64) -> u32
+    ensures { λ r. ⌜ r ≡ upTo most n ⌝ }
+    ensures { λ r. ⌜ r ≤ most ⌝ }
+{
+    let wide = most as u64;
+    if n <= wide {
+        return n as u32;
+    }
+    0
+}
+
 // A count, 0 where it is more than `most`.
 pub fn count_to(most: u32, f: [u8; 11]) -> u32
     ensures { λ r. ⌜ r ≡ upTo most (numberOf (countOf f)) ⌝ }
     ensures { λ r. ⌜ r ≤ most ⌝ }
 {
     let n = number_of(count_of(f));
-    let wide = most as u64;
-    if n <= wide {
-        return n as u32;
-    }
-    0
+    up_to(most, n)
 }
 
 // Whether a field is a date: three blanks and YYYYMMDD.

@@ -45,7 +45,7 @@ pub fn bad_pointer(f: [u8; 11]) -> bool
 }
 
 // Whether a field is a unit: a word, its eleventh column blank.
-fn is_unit(f: [u8; 11]) -> bool
+pub fn is_unit(f: [u8; 11]) -> bool
     ensures { λ r. ⌜ r ≡ isUnitWord f ⌝ }
 {
     if !is_word(f) {

@@ -1,4 +1,5 @@
-//! x4: judges EXFOR entries and transmissions, prints and compares their tables, and copies them canonically.
+//! x4: judges EXFOR entries and transmissions, prints and compares their tables, lists their subentries, and copies them
+//! canonically.
 
 #![forbid(unsafe_code)]
 
@@ -6,7 +7,7 @@ use glockenbeacon::explain::Explanation;
 use glockenbeacon::json::{object, text};
 use glockenbeacon::tables::{file_tables, from_csv, tables, to_csv, to_json, Row, Table};
 use glockenbeacon::transmission::{accession, entries_in_words, is_transmission, Place};
-use glockenbeacon::{compare, explain, library, NoAnswer, Reason, Refusal, Verdict};
+use glockenbeacon::{compare, explain, index, library, NoAnswer, Reason, Refusal, Verdict};
 use std::ffi::{OsStr, OsString};
 use std::io::{self, IsTerminal, Read, Write};
 use std::process::ExitCode;
@@ -18,6 +19,7 @@ TRANS, one transmission: TRANS, one or more entries, ENDTRANS.
   x4 judge [--json] [FILE..]       is it good, and if not, where is its first fault, and why
   x4 tables [--json] [--digits] [FILE]
                                    every COMMON and DATA table, as comma-separated values
+  x4 index [--json] [FILE]         where each subentry and its sections begin
   x4 canon [FILE]                  the canonical copy: every number but flags in its shortest spelling
   x4 compare [--exact] [--digits] A B
                                    the first difference between the tables of two
@@ -73,6 +75,18 @@ last, before and behind the point. 0.140 has 3, 0.14 has 2, 100. has 3, zero and
 values the counts are a column behind each column, with the heading 'digits'; with --json a value is an object of both.
 ";
 
+const HELP_INDEX: &str = "\
+x4 index [--json] [FILE]
+
+Lists the subentries of a good entry, or of all entries of a good transmission, NOSUBENT too, in their order: accession
+and number, the first record, and the records BIB, COMMON and DATA, 0 where there is none. The first line has the names
+of these columns. Records count from ENTRY, in a transmission too; there each line begins with the ordinal of its entry.
+With --json each is an object, and a record that is not there is null.
+
+These are the numbers of the index that the library makes (library::Index, x4_index): a program that keeps them beside
+the entry asks about values, headings, units and passages without judging the entry again. x4 tables does so.
+";
+
 const HELP_CANON: &str = "\
 x4 canon [FILE]
 
@@ -126,6 +140,7 @@ fn run(arguments: &[OsString]) -> Done {
     match command.to_str() {
         Some("judge") => judge(rest),
         Some("tables") => print_tables(rest),
+        Some("index") => print_index(rest),
         Some("canon") => canon(rest),
         Some("compare") => compare_two(rest),
         Some("help" | "--help" | "-h") => help(rest.first()),
@@ -146,6 +161,7 @@ fn help(command: Option<&OsString>) -> Done {
         None => HELP,
         Some((_, Some("judge"))) => HELP_JUDGE,
         Some((_, Some("tables"))) => HELP_TABLES,
+        Some((_, Some("index"))) => HELP_INDEX,
         Some((_, Some("canon"))) => HELP_CANON,
         Some((_, Some("compare"))) => HELP_COMPARE,
         Some((other, _)) => return Err(no_command(other)),
@@ -373,6 +389,17 @@ fn print_tables(arguments: &[OsString]) -> Done {
     let file = only(files)?;
     let tables = tables_of(&file, &read(&file)?)?;
     let written = if json { to_json(&tables, digits) + "\n" } else { to_csv(&tables, digits) };
+    say(written.as_bytes())?;
+    Ok(ExitCode::SUCCESS)
+}
+
+fn print_index(arguments: &[OsString]) -> Done {
+    let ([json], files) = options(arguments, ["--json"])?;
+    let file = only(files)?;
+    let input = read(&file)?;
+    let rows = if is_transmission(&input) { index::file_listed(&input) } else { index::listed(&input) };
+    let rows = rows.map_err(|answer| refused(&file, &input, &answer))?;
+    let written = if json { index::to_json(&rows) + "\n" } else { index::to_csv(&rows) };
     say(written.as_bytes())?;
     Ok(ExitCode::SUCCESS)
 }

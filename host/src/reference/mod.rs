@@ -7,10 +7,12 @@
 //! apart as text, its digits are counted by its characters, a flag is its code (M-105) by its digits, and the canonical
 //! field is found by trying the shapes of fields in the paper's order of preference. A transmission (M-100) is cut
 //! behind each ENDENTRY, and every piece is judged as an entry of its own. Why it is refused (M-108) is read off the tree
-//! of the records up to the refused one.
+//! of the records up to the refused one. An index (M-102) is made from the tree, and asked without it, by reads that refuse
+//! one after another.
 
 mod files;
 pub mod flags;
+mod index;
 pub mod number;
 pub mod questions;
 mod reasons;
@@ -20,6 +22,7 @@ pub mod tree;
 
 use crate::{Refusal, Verdict};
 pub use files::{copy_file, entry_length, judge_file};
+pub use index::{index_heading, index_passage, index_row, index_unit, index_value, make_index};
 pub use number::{read_number, write_number};
 pub use questions::{canonical_copy, heading, passage, unit, value};
 pub use reasons::{explain, explain_file};

@@ -9,7 +9,7 @@ use crate::{FieldRead, NoAnswer, Part, Value, Verdict, COMMON, DATA, RECORD};
 use std::collections::BTreeMap;
 
 /// "31 entry refused (its refusal, record and column beside it)": the tree of an accepted entry.
-fn accepted(entry: &[u8]) -> Result<Tree<'_>, NoAnswer> {
+pub(super) fn accepted(entry: &[u8]) -> Result<Tree<'_>, NoAnswer> {
     match judge(entry) {
         Verdict::Accepted(_) => Ok(Tree::of(entry)),
         Verdict::Refused(refusal) => Err(NoAnswer { number: 31, entry: Some(refusal) }),
@@ -34,7 +34,7 @@ fn table(subentry: &Subentry, section: u32) -> Result<&Table, NoAnswer> {
 }
 
 /// A number counted from 1, if it is at most `most`.
-fn within(number: u32, most: usize, refusal: u32) -> Result<usize, NoAnswer> {
+pub(super) fn within(number: u32, most: usize, refusal: u32) -> Result<usize, NoAnswer> {
     let number = number as usize;
     if (1..=most).contains(&number) {
         Ok(number)

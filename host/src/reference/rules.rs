@@ -135,7 +135,7 @@ fn identification(tree: &Tree, notes: &mut Notes) {
 }
 
 /// The form of N1 on a system record, where it has one.
-fn n1_good(name: Name, n1: &[u8]) -> bool {
+pub(super) fn n1_good(name: Name, n1: &[u8]) -> bool {
     match name {
         Name::Entry => blank(&n1[..6]) && is_accession(&n1[6..]),
         Name::Subent | Name::NoSubent => blank(&n1[..3]) && is_accession(&n1[3..8]) && digits(&n1[8..]),

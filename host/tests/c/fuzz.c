@@ -267,6 +267,245 @@ static void questions(const Buffer *entry, Buffer *keyword, uint64_t verdict) {
     check(word || p[2] == pointer, "the pointer asked for");
 }
 
+/* ---- the index */
+
+enum { MOST_NUMBERS = 4990 };
+
+/* the identifiers of the sections, in the order of a row */
+static const char *const sections[] = {"BIB        ", "COMMON     ", "DATA       "};
+
+static uint64_t by_index[64], own_answers, rows_found;
+
+/* a slice of so many numbers, against a page */
+static uint32_t *lay_numbers(Buffer *b, size_t numbers) {
+    lay(b, 4 * numbers);
+    return (uint32_t *)(void *)b->bytes;
+}
+
+/* whether columns 1-11 of a record, counted from 1, are an identifier */
+static int has_identifier(const Buffer *entry, uint64_t record, const char *identifier) {
+    return record > 0 && record * RECORD <= entry->length &&
+           !memcmp(entry->bytes + (record - 1) * RECORD, identifier, 11);
+}
+
+/* a row of an index that was made: its number rises and stands in its first record, and each section has its identifier */
+static void row_made(const Buffer *entry, const uint32_t *row, uint32_t before) {
+    char digits[32];
+    check(row[0] > before && row[0] <= 998, "numbers rise up to 998");
+    check(has_identifier(entry, row[1], "SUBENT     ") || has_identifier(entry, row[1], "NOSUBENT   "), "a subentry");
+    snprintf(digits, sizeof digits, "%03" PRIu32, row[0]);
+    check(!memcmp(entry->bytes + (row[1] - 1) * (size_t)RECORD + 19, digits, 3), "the number of its first record");
+    for (int i = 0; i < 3; i++) {
+        uint32_t record = row[2 + i];
+        check(!record || (record > row[1] && has_identifier(entry, record, sections[i])), "a section's record");
+    }
+}
+
+/* makes an index in a slice of any length: refused, or in its front; past the rows every number stays */
+static size_t index_made(const Buffer *entry, Buffer *index, uint64_t verdict, const uint64_t totals[4]) {
+    size_t due = verdict ? 0 : 5 * (size_t)totals[0];
+    size_t room = below(3) ? due + below(12) : below(2) ? below(due + 12) : (size_t)MOST_NUMBERS;
+    uint32_t *t = lay_numbers(index, room);
+    memset(index->bytes, 0x5a, index->length);
+    uint64_t *rows = lend(1), word = x4_index(entry->bytes, entry->length, t, room, rows);
+    told(word, verdict, "\x1f\x26");
+    untouched(word);
+    check(verdict || (word == 0) == (room >= due), "38 where the slice is too short");
+    check(word || rows[0] == totals[0], "a row for each subentry");
+    for (size_t i = word ? 0 : due; i < room; i++) {
+        check(t[i] == 0x5a5a5a5a, "numbers past the rows stay, and all of a refused call's");
+    }
+    for (size_t i = 0; i < due && !word; i += 5) {
+        row_made(entry, t + i, i ? t[i - 5] : 0);
+    }
+    return word ? 0 : due;
+}
+
+/* changes an index of n numbers in a slice with room for more, up to three times; how many it has then */
+static size_t mutate_index(uint32_t *t, size_t n, size_t room) {
+    for (size_t times = below(4); times > 0; times--) {
+        size_t rows = n / 5, a = rows ? 5 * below(rows) : 0, b = rows ? 5 * below(rows) : 0;
+        switch (below(8)) {
+        case 0: n = below(n + 1); break;
+        case 1:
+            if (n + 5 <= room) {
+                size_t more = 1 + below(5);
+                memset(t + n, 0, 4 * more);
+                n += more;
+            }
+            break;
+        case 2:
+            if (rows) memmove(t + a, t + b, 20);
+            break;
+        case 3:
+            if (n) t[below(n)] = (uint32_t)bits();
+            break;
+        case 4:
+            if (n) t[below(n)] = (uint32_t) "\x00\x01\x02\x03\x1b\x1c"[below(6)];
+            break;
+        default:
+            if (n) t[below(n)] += (uint32_t)(below(2) ? 1 : -1);
+            break;
+        }
+    }
+    return n;
+}
+
+/* an answer by an index: a number that it has, zeros beside it, and nothing stored where it is refused */
+static void told_by_index(uint64_t word, const char *numbers) {
+    by_index[x4_refusal(word)]++;
+    check(word < 64 && (word == 0 || strchr(numbers, (int)word)), "a refusal that a question by an index does not have");
+    untouched(word);
+}
+
+typedef struct {
+    uint32_t subentry, section, line, column;
+    const Buffer *keyword;
+    uint8_t pointer;
+} Question;
+
+/* the four questions by so many numbers: their words, and what they store one behind the other */
+static void ask_by(const Buffer *entry, const uint32_t *t, size_t n, const Question *q, uint64_t words[4],
+                   uint64_t stored[17]) {
+    static const char *numbers[] = {"\x20\x21\x22\x23\x26\x27", "\x20\x21\x23\x26\x27", "\x20\x21\x23\x26\x27",
+                                    "\x20\x21\x24\x26\x27"};
+    static const size_t lengths[] = {8, 3, 3, 3};
+    const uint8_t *e = entry->bytes;
+    size_t l = entry->length, at = 0;
+    for (int i = 0; i < 4; at += lengths[i], i++) {
+        uint64_t *a = lend(lengths[i]);
+        switch (i) {
+        case 0: words[i] = x4_index_value(e, l, t, n, q->subentry, q->section, q->line, q->column, a); break;
+        case 1: words[i] = x4_index_heading(e, l, t, n, q->subentry, q->section, q->column, a); break;
+        case 2: words[i] = x4_index_unit(e, l, t, n, q->subentry, q->section, q->column, a); break;
+        default:
+            words[i] = x4_index_passage(e, l, t, n, q->subentry, q->keyword->bytes, q->keyword->length, q->pointer, a);
+            break;
+        }
+        told_by_index(words[i], numbers[i]);
+        memcpy(stored + at, a, 8 * lengths[i]);
+        if (i && !words[i]) {
+            check(a[0] + a[1] <= l && a[1] > 0 && a[1] % (i < 3 ? 10 : RECORD) == 0, "a part lies in the entry");
+            check(i < 3 || a[2] == q->pointer, "the pointer asked for");
+        }
+    }
+    if (!words[0]) {
+        check(q->section != 1 || stored[0] == 1, "no value of COMMON is blank");
+        value(stored);
+    }
+}
+
+/* by the entry's own index the answers are the full ones */
+static void full_answers(const Buffer *entry, const Question *q, const uint64_t words[4], const uint64_t stored[17]) {
+    const uint8_t *e = entry->bytes;
+    size_t l = entry->length;
+    uint64_t word = x4_value(e, l, q->subentry, q->section, q->line, q->column, lend(8));
+    check(word == words[0] && !memcmp(lent.bytes, stored, 64), "the value of the full question");
+    word = x4_heading(e, l, q->subentry, q->section, q->column, lend(3));
+    check(word == words[1] && !memcmp(lent.bytes, stored + 8, 24), "the heading of the full question");
+    word = x4_unit(e, l, q->subentry, q->section, q->column, lend(3));
+    check(word == words[2] && !memcmp(lent.bytes, stored + 11, 24), "the unit of the full question");
+    word = x4_passage(e, l, q->subentry, q->keyword->bytes, q->keyword->length, q->pointer, lend(3));
+    check(word == words[3] && !memcmp(lent.bytes, stored + 14, 24), "the passage of the full question");
+    own_answers += 4;
+}
+
+/* a question about something that may be there: the number of a row, and columns 1-11 of some record */
+static Question question(const Buffer *entry, Buffer *keyword, const uint32_t *t, size_t n) {
+    size_t records = entry->length / RECORD;
+    const uint8_t *record = entry->bytes + (records ? below(records) * RECORD : 0);
+    Question q = {n && below(8) ? t[5 * below((n + 4) / 5)] : (uint32_t)below(4),
+                  below(8) ? 1 + (uint32_t)below(2) : (uint32_t)bits(),
+                  below(4) ? 1 + (uint32_t)below(3) : (uint32_t)bits(),
+                  (uint32_t)(below(3) ? 1 + below(3) : below(20)),
+                  keyword,
+                  ' '};
+    lay(keyword, below(6) ? 10 : below(12));
+    memset(keyword->bytes, ' ', keyword->length);
+    if (records) {
+        memcpy(keyword->bytes, record, keyword->length);
+        q.pointer = below(3) ? record[10] : ' ';
+    }
+    return q;
+}
+
+/* the first row with a number, and none where there is none; by that row alone the answers are the same */
+static void row_alone(const Buffer *entry, const uint32_t *t, size_t n, const Question *q, const uint64_t words[4],
+                      const uint64_t stored[17]) {
+    static Buffer one;
+    if (!one.pages) {
+        one = fenced();
+    }
+    uint64_t *before = lend(1), word = x4_index_row(t, n, q->subentry, before), again[4], same[17];
+    size_t row = word ? 0 : (size_t)before[0];
+    told_by_index(word, "\x20\x26");
+    check((word == 38) == (n % 5 != 0), "38 where the numbers are not whole rows");
+    check(word || row < n / 5, "a row of the index");
+    for (size_t i = 0; i < (word ? n / 5 : row) && word != 38; i++) {
+        check(t[5 * i] != q->subentry, "no row before it has the number");
+    }
+    if (!word) {
+        check(t[5 * row] == q->subentry, "the row has the number");
+        uint32_t *alone = lay_numbers(&one, 5);
+        memcpy(alone, t + 5 * row, 20);
+        ask_by(entry, alone, 5, q, again, same);
+        check(!memcmp(again, words, sizeof again) && !memcmp(same, stored, sizeof same), "by its row alone the same");
+        rows_found++;
+    }
+}
+
+/* an index by the identifiers in the records of an entry, which may be refused; how many numbers it has */
+static size_t likely_index(const Buffer *entry, uint32_t *t) {
+    size_t n = 0;
+    for (uint32_t record = 1; record <= entry->length / RECORD && n + 5 <= MOST_NUMBERS; record++) {
+        const uint8_t *r = entry->bytes + (record - 1) * (size_t)RECORD;
+        if (has_identifier(entry, record, "SUBENT     ") || has_identifier(entry, record, "NOSUBENT   ")) {
+            uint32_t own = (uint32_t)((r[19] - '0') * 100 + (r[20] - '0') * 10 + r[21] - '0');
+            memcpy(t + n, (uint32_t[5]){own, record, 0, 0, 0}, 20);
+            n += 5;
+        }
+        for (size_t i = 0; i < 3 && n; i++) {
+            if (has_identifier(entry, record, sections[i])) t[n - 3 + i] = record;
+        }
+    }
+    return n;
+}
+
+/* an index of an entry, its own or by the identifiers in its records, then changed; the entry is changed, too */
+static void indexes(const Buffer *entry, Buffer *index, Buffer *changed, Buffer *keyword, uint64_t verdict,
+                    const uint64_t totals[4]) {
+    static uint32_t kept[MOST_NUMBERS + 64], last[MOST_NUMBERS + 64];
+    static uint8_t before[ROOM];
+    uint64_t words[4], stored[17];
+    memcpy(before, entry->bytes, entry->length);
+    size_t n = index_made(entry, index, verdict, totals);
+    memcpy(kept, index->bytes, 4 * n);
+    for (int i = 0; i < 4 && n; i++) {
+        const uint32_t *t = lay_numbers(index, n);
+        memcpy(index->bytes, kept, 4 * n);
+        Question q = question(entry, keyword, t, n);
+        ask_by(entry, t, n, &q, words, stored);
+        full_answers(entry, &q, words, stored);
+        row_alone(entry, t, n, &q, words, stored);
+    }
+    if (!n) {
+        n = likely_index(entry, kept);
+    }
+    for (int i = 0; i < 6; i++) {
+        memcpy(last, kept, sizeof kept);
+        size_t of = mutate_index(last, n, MOST_NUMBERS), length = entry->length;
+        const uint32_t *t = lay_numbers(index, of);
+        memcpy(index->bytes, last, 4 * of);
+        memcpy(work, entry->bytes, length);
+        fill(changed, work, below(2) ? mutate(length) : length);
+        Question q = question(changed, keyword, t, of);
+        ask_by(changed, t, of, &q, words, stored);
+        row_alone(changed, t, of, &q, words, stored);
+        check(!memcmp(index->bytes, last, 4 * of), "the index is only read");
+    }
+    check(!memcmp(entry->bytes, before, entry->length), "the entry is only read");
+}
+
 /* the verdict on an entry; its totals are no more than its records allow */
 static uint64_t judged(const uint8_t *entry, size_t n, uint64_t totals[4]) {
     uint64_t word = x4_judge(entry, n, lend(4)), records = n / RECORD;
@@ -524,7 +763,7 @@ int main(int count, char **words) {
     }
     uint64_t first = strtoull(words[1], NULL, 10), rounds = strtoull(words[2], NULL, 10), accepted = 0;
     check(x4_version() == X4_VERSION, "another version");
-    Buffer entry = fenced(), copy = fenced(), again = fenced(), keyword = fenced(), field = fenced();
+    Buffer entry = fenced(), copy = fenced(), again = fenced(), keyword = fenced(), field = fenced(), index = fenced();
     for (seed = first; seed < first + rounds; seed++) {
         state = seed;
         size_t n = mutate(add_file(0, MOST, (size_t)count - 3, words + 3));
@@ -540,6 +779,7 @@ int main(int count, char **words) {
             fields(&field);
         }
         check(!memcmp(entry.bytes, work, n), "the entry is only read");
+        indexes(&entry, &index, &copy, &keyword, verdict, totals);
         transmissions(&entry, &copy, &again, (size_t)count - 3, words + 3);
     }
     printf("seeds %" PRIu64 " to %" PRIu64 ": %" PRIu64 " entries accepted, ", first, first + rounds - 1, accepted);
@@ -549,6 +789,13 @@ int main(int count, char **words) {
             printf(" %d:%" PRIu64, i, refusals[i]);
         }
     }
+    printf("; by an index, by refusal");
+    for (int i = 0; i < 64; i++) {
+        if (by_index[i]) {
+            printf(" %d:%" PRIu64, i, by_index[i]);
+        }
+    }
+    printf(", %" PRIu64 " of them the full answers, %" PRIu64 " rows found", own_answers, rows_found);
     printf("; transmissions by refusal");
     for (int i = 0; i < 64; i++) {
         if (file_refusals[i]) {

@@ -3,7 +3,7 @@
 #![allow(dead_code)]
 
 use glockenbeacon::differ::{Implementation, Library, Reference};
-use glockenbeacon::library;
+use glockenbeacon::{library, FieldRead, NoAnswer, Part, Value};
 use std::ffi::OsString;
 use std::io::Write;
 use std::path::{Path, PathBuf};
@@ -227,6 +227,27 @@ pub const C: [&str; 7] = ["-std=c11", "-O2", "-Wall", "-Wextra", "-Werror", "-pe
 /// Said past the test's own output, which nobody sees when a test passes.
 pub fn say(words: &str) {
     std::io::stderr().write_all(format!("{words}\n").as_bytes()).unwrap();
+}
+
+/// What programs of other languages print of a refused question or copy.
+pub fn refused_said(answer: NoAnswer) -> String {
+    let [refusal, record, column] = answer.entry.map_or([0; 3], |entry| [entry.number, entry.record, entry.column]);
+    format!("refused {} {refusal} {record} {column}", answer.number)
+}
+
+/// What they print of a value.
+pub fn value_said(answer: Result<FieldRead, NoAnswer>) -> String {
+    answer.map_or_else(refused_said, |FieldRead { value, digits }| match value {
+        Value::Blank => format!("blank digits {digits}"),
+        Value::Number(d) => {
+            format!("{}{}E{} digits {digits}", if d.negative { "-" } else { "" }, d.coefficient, d.power)
+        }
+    })
+}
+
+/// What they print of a heading, a unit or a passage.
+pub fn part_said(answer: Result<Part, NoAnswer>) -> String {
+    answer.map_or_else(refused_said, |part| format!("{} {} {}", part.offset, part.length, part.pointer))
 }
 
 /// Compiles a program with the archives; none if there are no archives or no compiler, which is said.

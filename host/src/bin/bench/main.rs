@@ -1,9 +1,10 @@
 //! Times the library beside the reference and beside other readers of numbers: same process, same input, medians.
 //!
-//!     cargo run --release --bin bench [-- --plot FILE | --peer FILE [--samples N] | --help]
+//!     cargo run --release --bin bench [-- --plot FILE | --index | --peer FILE [--samples N] | --help]
 //!
 //! Each line has the time of one field, value or record: the median, its ratio to the library's, and the least, which
 //! says more where the machine had other work. `--plot` draws the times of judging, by the number of records, as SVG.
+//! `--index` times the index and the questions by it alone.
 //! `--peer` times the library beside a reader written by hand instead: see `beside.rs`.
 
 #![forbid(unsafe_code)]
@@ -16,7 +17,8 @@ mod ratios;
 
 use glockenbeacon::generate::{self, Random, Shape, SHAPES};
 use glockenbeacon::plot::{Line, Plot};
-use glockenbeacon::{boundary, library, reference, Decimal, FieldRead, Value, DATA, RECORD};
+use glockenbeacon::tables::{tables, to_csv};
+use glockenbeacon::{boundary, library, reference, Decimal, FieldRead, Index, Value, DATA, RECORD};
 use std::ffi::CString;
 use std::hint::black_box;
 use std::io::Write;
@@ -310,9 +312,76 @@ fn asking() {
     }
 }
 
+/// How many times the same thing, so that a call is timed with others around it.
+const AGAIN: [(); GROUP] = [(); GROUP];
+
+/// Times values by an index (M-102): in tables of some sizes, and in the last of as many subentries as there may be, where
+/// the search for the row shows. The full question judges the entry.
+fn by_index() {
+    for records in SIZES {
+        let entry = generate::large(&mut Random::seeded(1), Shape::Table, records);
+        let (n, index) = (entry.len() / RECORD, Index::of(&entry).expect("it is accepted"));
+        let row = index.row(2).expect("a table has a subentry");
+        let last = (1..=n as u32 / 3).rev().find(|&line| row.value(&entry, DATA, line, 18).is_ok());
+        let last = last.expect("a table has a line");
+        let full = library::value(&entry, 2, DATA, last, 18);
+        assert_eq!((index.value(&entry, 2, DATA, last, 18), row.value(&entry, DATA, last, 18)), (full, full));
+        let numbers = row.numbers();
+        let rows = [
+            ("library::index_value", timed(&AGAIN, |()| index.value(black_box(&entry), 2, DATA, last, 18))),
+            ("the same by its row alone", timed(&AGAIN, |()| row.value(black_box(&entry), DATA, last, 18))),
+            ("library::index_heading", timed(&AGAIN, |()| index.heading(black_box(&entry), 2, DATA, 18))),
+            ("library::index_unit", timed(&AGAIN, |()| index.unit(black_box(&entry), 2, DATA, 18))),
+            (
+                "reference::index_value",
+                timed(&AGAIN, |()| reference::index_value(black_box(&entry), &numbers, 2, DATA, last, 18)),
+            ),
+            ("library::value, which judges", timed(&[&entry], |entry| library::value(entry, 2, DATA, last, 18))),
+        ];
+        table(&format!("A value by its index, in the last of {last} lines, {n} records: time of a value"), &rows);
+        making(&entry);
+    }
+    let entry = generate::large(&mut Random::seeded(1), Shape::Subentries, 20_000);
+    let index = Index::of(&entry).expect("it is accepted");
+    let rows = index.rows().len();
+    let (first, last) = (2, rows as u32);
+    let row = index.row(last).expect("the last subentry");
+    let times = [
+        ("in the second subentry", timed(&AGAIN, |()| index.value(black_box(&entry), first, DATA, 1, 3))),
+        ("in the last subentry", timed(&AGAIN, |()| index.value(black_box(&entry), last, DATA, 1, 3))),
+        ("the same by its row alone", timed(&AGAIN, |()| row.value(black_box(&entry), DATA, 1, 3))),
+        ("library::index_row of the last", timed(&AGAIN, |()| index.row(black_box(last)))),
+    ];
+    table(&format!("A value by its index, {rows} subentries: time of a value"), &times);
+    let searched = |place: &dyn Fn(&Time) -> f64| (place(&times[1].1) - place(&times[0].1)) / (rows - 2) as f64;
+    let (median, least) = (searched(&|time| time.median), searched(&|time| time.least));
+    println!("  a row searched: {median:.2} ns, by the least times {least:.2} ns");
+    making(&entry);
+    let n = entry.len() / RECORD;
+    let written = |entry: &&Vec<u8>| tables(entry).map(|tables| to_csv(&tables, false));
+    assert_eq!(written(&&entry).map(|text| text.lines().count() > rows), Ok(true));
+    let times = [
+        ("library::judge", timed(&[&entry], |entry| library::judge(entry)).part(n)),
+        ("tables::tables", timed(&[&entry], |entry| tables(entry)).part(n)),
+        ("tables::tables, and as text", timed(&[&entry], written).part(n)),
+    ];
+    table(&format!("The tables of {rows} subentries, {n} records: time of a record"), &times);
+}
+
+/// Times making an index beside judging the entry.
+fn making(entry: &Vec<u8>) {
+    let (n, mut numbers) = (entry.len() / RECORD, vec![0; 4990]);
+    let rows = [
+        ("library::judge", timed(&[entry], |entry| library::judge(entry)).part(n)),
+        ("library::make_index", timed(&[entry], |entry| library::make_index(entry, black_box(&mut numbers))).part(n)),
+    ];
+    table(&format!("Making an index beside judging, {n} records: time of a record"), &rows);
+}
+
 const HELP: &str = "\
 bench                              times the library beside the reference and other readers of numbers
 bench --plot FILE                  the same, and draws the times of judging as SVG
+bench --index                      times the index, the questions by it and the tables alone
 bench --peer FILE [--samples N]    times the library beside the reader in FILE, and prints ratios
 
 FILE is a module in Rust without dependencies. It is compiled with this program's sources, in target/peer, and has to
@@ -340,14 +409,32 @@ fn help() -> std::io::Result<()> {
 fn times(plot_file: Option<&str>) -> std::io::Result<()> {
     println!("answered {}", library::who_answers());
     numbers();
-    if !library::proved().contains(&"judge") {
-        println!("\njudging is not timed: no proved judge is linked");
+    if !is_proved() {
         return Ok(());
     }
     let plot = judging();
     asking();
+    by_index();
     transmissions();
     plot_file.map_or(Ok(()), |file| std::fs::write(file, plot.svg()))
+}
+
+/// Whether there is a proved judge; if not, says so.
+fn is_proved() -> bool {
+    let proved = library::proved().contains(&"judge");
+    if !proved {
+        println!("\njudging is not timed: no proved judge is linked");
+    }
+    proved
+}
+
+/// The tables of times by an index alone.
+fn index_times() -> std::io::Result<()> {
+    println!("answered {}", library::who_answers());
+    if is_proved() {
+        by_index();
+    }
+    Ok(())
 }
 
 fn main() -> std::io::Result<()> {
@@ -356,6 +443,7 @@ fn main() -> std::io::Result<()> {
     match words[..] {
         [] => times(None),
         ["--plot", file] => times(Some(file)),
+        ["--index"] => index_times(),
         ["--peer", file] => beside::run(file, RUNS),
         ["--peer", file, "--samples", samples] => match samples.parse() {
             Ok(0) | Err(_) => help(),

@@ -8,7 +8,7 @@ use Rattle.questions.proofs.ask.heading_part.Tie as tie
 use Rattle.questions.proofs.ask.heading_part.Reads as reads
 use Rattle.questions.proofs.ask.heading_part.Lts as lts
 use Rattle.questions.proofs.ask.heading.Reads as heading-reads
-use Rattle.questions.proofs.ask.part_of.Reads as part-of-reads
+use Rattle.questions_parts.proofs.handing.part_of.Reads as part-of-reads
 
 heading-requires : tie.Need-heading-requires
 heading-requires c κs = search needs

@@ -1,22 +1,59 @@
-use mathlib.Core.Path.{_∙_}
+use mathlib.Core.Path.{_≡_, _∙_}
 use Rattle.paper_questions.specs.Ask.{passageAsked}
+use Rattle.paper_index.specs.Asked.{partFound}
+use Rattle.paper_index.specs.PassageAnswers.{passageFromRow}
+use Rattle.row_passages.proofs.PassageByRow.{passage-by-row}
+use Rattle.questions.proofs.ByRow.{part-refused, part-answered}
 use borrow.Author.Needs.{needs}
 use Rattle.questions.proofs.ask.passage.Statement.{statement}
 use Rattle.questions.proofs.ask.passage.Tie as tie
-use Rattle.questions.proofs.ask.passage.Reads as reads
-use Rattle.questions.proofs.ask.passage.Lts as lts
-use Rattle.questions_parts.proofs.answers.passage_by.Reads as passage-by-reads
-use Rattle.questions_rows.proofs.row.locate.Reads as locate-reads
 
 locate-requires : tie.Need-locate-requires
 locate-requires c κs = search needs
 
-passage-by-requires : tie.Need-passage-by-requires
-passage-by-requires c κs = search needs
+no-row-requires : tie.Need-no-row-requires
+no-row-requires c κs = search needs
+
+answer-for-requires : tie.Need-answer-for-requires
+answer-for-requires c κs = search needs
+
+no-part-requires : tie.Need-no-part-requires
+no-part-requires c κs = search needs
 
 returns : tie.Need-returns
-unfolding passageAsked
-returns c = c .passage-by .ensures ∙ rw (c .before .before .before .locate .ensures .0)
+returns c =
+    let d = c .before .before .before .before .before .before in
+    let a = d .before .before .args in
+    let l = d .locate .result in
+    let from = passageFromRow (a .entry .now) (l .row) (a .keyword) (a .pointer) in
+    let by : passageAsked (a .entry .now) (a .number) (a .keyword) (a .pointer) ≡ partFound (l .verdict) (l .row) from =
+    rw (d .locate .ensures .0) (passage-by-row (a .entry .now) (a .number) (a .keyword) (a .pointer)) in
+    let r = c .before .before .before .no-row in
+    let e = part-refused l (r .result) (r .ensures) from by (c .before .before .if1 .taken) in
+    c .no-part .ensures ∙ rw (c .before .answer-for .ensures) e
+
+passage-from-row-requires : tie.Need-passage-from-row-requires
+passage-from-row-requires c κs = search needs
+
+returns-2 : tie.Need-returns-2
+returns-2 c =
+    let d = c .before .before .before .before .before in
+    let a = d .before .before .args in
+    let l = d .locate .result in
+    let from = passageFromRow (a .entry .now) (l .row) (a .keyword) (a .pointer) in
+    let by : passageAsked (a .entry .now) (a .number) (a .keyword) (a .pointer) ≡ partFound (l .verdict) (l .row) from =
+    rw (d .locate .ensures .0) (passage-by-row (a .entry .now) (a .number) (a .keyword) (a .pointer)) in
+    let r = c .before .before .no-row in
+    c .passage-from-row .ensures ∙ part-answered l (r .result) (r .ensures) from by (c .before .if1 .left)
 
 pub passage-spec : {M : Type 1} → statement M
-passage-spec = tie.close (tie.spec locate-requires passage-by-requires returns)
+passage-spec =
+    tie.close
+    (tie.spec
+    locate-requires
+    no-row-requires
+    answer-for-requires
+    no-part-requires
+    returns
+    passage-from-row-requires
+    returns-2)

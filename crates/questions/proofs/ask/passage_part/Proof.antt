@@ -7,7 +7,7 @@ use Rattle.questions.proofs.ask.passage_part.Statement.{statement}
 use Rattle.questions.proofs.ask.passage_part.Tie as tie
 use Rattle.questions.proofs.ask.passage_part.Reads as reads
 use Rattle.questions.proofs.ask.passage_part.Lts as lts
-use Rattle.questions.proofs.ask.part_of.Reads as part-of-reads
+use Rattle.questions_parts.proofs.handing.part_of.Reads as part-of-reads
 use Rattle.questions.proofs.ask.passage.Reads as passage-reads
 
 passage-requires : tie.Need-passage-requires

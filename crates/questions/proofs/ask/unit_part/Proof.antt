@@ -7,7 +7,7 @@ use Rattle.questions.proofs.ask.unit_part.Statement.{statement}
 use Rattle.questions.proofs.ask.unit_part.Tie as tie
 use Rattle.questions.proofs.ask.unit_part.Reads as reads
 use Rattle.questions.proofs.ask.unit_part.Lts as lts
-use Rattle.questions.proofs.ask.part_of.Reads as part-of-reads
+use Rattle.questions_parts.proofs.handing.part_of.Reads as part-of-reads
 use Rattle.questions.proofs.ask.unit.Reads as unit-reads
 
 unit-requires : tie.Need-unit-requires

@@ -1,4 +1,4 @@
-use borrow.Author.Tests.{not-false, not-true}
+use mathlib.Core.Path.{refl}
 use borrow.Author.Needs.{needs}
 use Rattle.questions_passages.proofs.passage.begins.Statement.{statement}
 use Rattle.questions_passages.proofs.passage.begins.Tie as tie
@@ -9,14 +9,14 @@ use Rattle.record_words.proofs.word.is_keyword_blank.Reads as is-keyword-blank-
 is-keyword-blank-requires : tie.Need-is-keyword-blank-requires
 is-keyword-blank-requires c κs = search needs
 
-returns : tie.Need-returns
-returns c = rw (← c .before .is-keyword-blank .ensures, not-true (c .before .is-keyword-blank .result) (c .if1 .taken))
-
 array-read-result : tie.Need-array-read-result
 array-read-result c = search needs
 
+returns : tie.Need-returns
+returns c = rw (← c .before .is-keyword-blank .ensures, c .if1 .taken)
+
 returns-2 : tie.Need-returns-2
-returns-2 c = rw (← c .before .is-keyword-blank .ensures, not-false (c .before .is-keyword-blank .result) (c .if1 .left))
+returns-2 c = rw (← c .before .is-keyword-blank .ensures, c .if1 .left) refl
 
 pub begins-spec : {M : Type 1} → statement M
-begins-spec = tie.close (tie.spec is-keyword-blank-requires returns array-read-result returns-2)
+begins-spec = tie.close (tie.spec is-keyword-blank-requires array-read-result returns returns-2)

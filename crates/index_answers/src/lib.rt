@@ -1,0 +1,1 @@
+// What is proved of questions by an index: theorems, and no code.

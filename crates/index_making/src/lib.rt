@@ -1,0 +1,2 @@
+// Making the index of an entry.
+pub mod making;

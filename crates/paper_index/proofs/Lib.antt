@@ -1,0 +1,12 @@
+pub mod RowLists
+pub mod Stored
+pub mod Made
+pub mod CountsMet
+pub mod ReadsInOrder
+pub mod SectionsRead
+pub mod ValuesRead
+pub mod PartsRead
+pub mod Lies
+pub mod RowsFound
+pub mod RowExact
+pub mod MadeExact

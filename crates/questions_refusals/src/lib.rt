@@ -1,2 +1,0 @@
-// The refusals of a question.
-pub mod refusals;

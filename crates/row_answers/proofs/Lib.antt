@@ -1,0 +1,10 @@
+pub mod Roles
+pub mod ReadRecords
+pub mod FirstRecord
+pub mod RowReads
+pub mod ReadFields
+pub mod RowAnswers
+pub mod PlainReads
+pub mod PlainAnswers
+pub mod RefusedReads
+pub mod PlainRefusals

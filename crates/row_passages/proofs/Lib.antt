@@ -1,0 +1,9 @@
+pub mod UnderKeyword
+pub mod Searched
+pub mod PassageEnds
+pub mod TextsHeld
+pub mod SamePart
+pub mod PassageByRow
+pub mod TextsInside
+pub mod PlainRun
+pub mod PlainAnswers
