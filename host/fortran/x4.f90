@@ -1,14 +1,16 @@
 ! The functions of the proved archives (rt staticlib) for Fortran. The numbers are document 01's; the count of digits is
 ! that of document 02, M-104, refusal 17, a flag with an exponent or one that equals no code, that of M-105,
-! transmissions are those of M-100, reasons those of M-108, and the index of subentries is that of M-102.
+! transmissions are those of M-100, reasons those of M-108, the index of subentries is that of M-102, and walks are
+! those of M-112.
 !
 ! A call returns a word, 0 where it is answered, and then stores what it answers in an array that is lent to it:
 ! totals(4) are subentries, keywords, DATA lines, numbers; value(8) are kind (0 blank, 1 number), 1 if below zero,
 ! coefficient, power of ten, count of digits, three zeros; part(3) are the first byte counted from 0, the length, the
-! pointer. A refused call stores nothing but the reason that it is asked for: facts(3) are its kind and two numbers, and
-! beside them stand eight characters. The word has the number of the refusal in bits 0-7, the refusal of the entry
-! or transmission in 8-15, its column in 16-23, its record in 24-47, the ordinal of the entry in a transmission in
-! 48-63.
+! pointer. A refused call stores nothing, with these exceptions: x4_explain and x4_explain_file store the reason that
+! they are asked for, of which facts(3) are the kind and two numbers, and beside them stand eight characters;
+! x4_walk_next with 15, the refusal of the value alone, stores the value's place and the walk. The word has the number of
+! the refusal in bits 0-7, the refusal of the entry or transmission in 8-15, its column in 16-23, its record in 24-47,
+! the ordinal of the entry in a transmission in 48-63.
 module x4
   use, intrinsic :: iso_c_binding, only: c_char, c_int8_t, c_int32_t, c_int64_t, c_size_t
   implicit none
@@ -19,6 +21,7 @@ module x4
   public :: x4_reason, x4_explained, x4_explained_file
   public :: x4_most_numbers, x4_made_index, x4_find_row
   public :: x4_index_ask_value, x4_index_ask_heading, x4_index_ask_unit, x4_index_ask_passage
+  public :: x4_walk_place, x4_begun, x4_next
 
   ! The interface that this module describes; x4_version() is the same of the archives.
   integer(c_int32_t), parameter :: x4_interface = 4
@@ -43,6 +46,12 @@ module x4
     integer(c_int32_t) :: power = 0
     integer(c_int32_t) :: digits = 0
   end type x4_value
+
+  ! Where a walk over a table stands: the section's record, its columns and lines, and line and column of the next value.
+  ! One that was not begun, or was refused, is done.
+  type, bind(c) :: x4_walk_place
+    integer(c_int32_t) :: section = 0, columns = 0, lines = 0, line = 0, column = 0
+  end type x4_walk_place
 
   ! A part of an entry, entry(first:last), and the pointer beside it; a refused one is empty.
   type :: x4_part
@@ -254,6 +263,24 @@ module x4
       integer(c_int64_t), intent(inout) :: part(3)
       integer(c_int64_t) :: word
     end function c_index_passage
+
+    function c_walk(entry, length, subentry, section, walk) bind(c, name='x4_walk') result(word)
+      import :: c_char, c_int32_t, c_int64_t, c_size_t, x4_walk_place
+      character(kind=c_char), intent(in) :: entry(*)
+      integer(c_size_t), value :: length
+      integer(c_int32_t), value :: subentry, section
+      type(x4_walk_place), intent(inout) :: walk
+      integer(c_int64_t) :: word
+    end function c_walk
+
+    function c_walk_next(entry, length, walk, place, value) bind(c, name='x4_walk_next') result(word)
+      import :: c_char, c_int64_t, c_size_t, x4_walk_place
+      character(kind=c_char), intent(in) :: entry(*)
+      integer(c_size_t), value :: length
+      type(x4_walk_place), intent(inout) :: walk
+      integer(c_int64_t), intent(inout) :: place(3), value(8)
+      integer(c_int64_t) :: word
+    end function c_walk_next
   end interface
 
 contains
@@ -446,6 +473,35 @@ contains
                            len(keyword, c_size_t), transfer(pointer, 0_c_int8_t), numbers)
     p = part_in(word, numbers)
   end function x4_index_ask_passage
+
+  ! Begins a walk over the values of section 1 (COMMON) or 2 (DATA) of a subentry. Refused by 31, 32 or 33 it is done,
+  ! whatever it was before.
+  function x4_begun(entry, subentry, section, walk) result(r)
+    character(len=*, kind=c_char), intent(in) :: entry
+    integer(c_int32_t), intent(in) :: subentry, section
+    type(x4_walk_place), intent(out) :: walk
+    type(x4_refused) :: r
+    r = refused_in(c_walk(entry, len(entry, c_size_t), subentry, section, walk))
+  end function x4_begun
+
+  ! Whether a value is left: then it is v, in this line and column, and the walk stands behind it. The values come left to
+  ! right and line by line. Of an accepted entry each is that of x4_ask_value; over other bytes it may be refused by 15,
+  ! and the walk goes on behind it.
+  function x4_next(entry, walk, line, column, v) result(left)
+    character(len=*, kind=c_char), intent(in) :: entry
+    type(x4_walk_place), intent(inout) :: walk
+    integer(c_int32_t), intent(out) :: line, column
+    type(x4_value), intent(out) :: v
+    logical :: left
+    integer(c_int64_t) :: word, place(3), numbers(8)
+    place = 0
+    numbers = 0
+    word = c_walk_next(entry, len(entry, c_size_t), walk, place, numbers)
+    left = place(1) == 1
+    line = int(place(2), c_int32_t)
+    column = int(place(3), c_int32_t)
+    v = value_in(word, numbers)
+  end function x4_next
 
   ! Stores the canonical copy in the front of a text that is as long as the entry or longer. Columns under FLAG and
   ! DECAY-FLAG stay as they were.

@@ -3,10 +3,11 @@
  * A slice of bytes or of numbers is a pointer and a length. Every call answers for every argument: nothing has to be
  * tested before, but a pointer must be that of so many bytes or numbers. The numbers are document 01's; the count of
  * digits is that of document 02, M-104, refusal 17 that of M-105, transmissions are those of M-100, reasons those of
- * M-108, and the index is that of M-102.
+ * M-108, the index is that of M-102, and walks are those of M-112.
  *
  * A call returns a word, 0 where it is answered, and then stores what it answers in the array that is lent to it, as
- * long as its parameter says. A refused call stores nothing but the reason that it is asked for.
+ * long as its parameter says. A refused call stores nothing, with these exceptions: x4_explain and x4_explain_file store
+ * the reason that they are asked for; x4_walk_next with 15, the refusal of the value alone, the value's place and the walk.
  *
  *     bits    the word that a call returns
  *     0-7     the number of its refusal; 0 answered
@@ -161,6 +162,32 @@ uint64_t x4_index_unit(const uint8_t *entry, size_t length, const uint32_t *inde
 uint64_t x4_index_passage(const uint8_t *entry, size_t length, const uint32_t *index, size_t numbers,
                           uint32_t subentry, const uint8_t *keyword, size_t keyword_length, uint8_t pointer,
                           uint64_t part[3]);
+
+/* ---- values in order: one judging, and then a table is gone through, left to right and line by line */
+
+/* Begins a walk over the values of section 1 (COMMON) or 2 (DATA) of a subentry. The walk is where it stands, as numbers:
+ *
+ *     the section's record, its columns and its lines, and the line and the column of the next value
+ *
+ * Refusals: 31, 32, 33; nothing is stored, so the walk is what it was before. Five zeros are a walk that is done: set
+ * them first, and a refused walk is done at once, whether the word is looked at or not. */
+uint64_t x4_walk(const uint8_t *entry, size_t length, uint32_t subentry, uint32_t section, uint32_t walk[5]);
+
+/* The next value: place[0] is 1, place[1] and place[2] are its line and column, value is as of x4_value, and the walk
+ * then stands behind it. Where no value is left, place is 0 0 0, and walk and value stay as they are; so in every further
+ * call. Over an accepted entry each place of the table is given once, with the value and the count of digits of x4_value:
+ *
+ *     uint64_t place[3], value[8];
+ *     uint32_t walk[5] = {0};
+ *     if (x4_walk(entry, length, 2, 2, walk) == 0)
+ *         while (x4_walk_next(entry, length, walk, place, value), place[0]) .. place[1], place[2], value ..
+ *
+ * Returns 0; or 15 where the field is malformed, which no accepted entry has: place and walk are stored, and value stays.
+ * So the walk goes on behind such a field; one that stayed there would never be done. With any five numbers and any bytes
+ * there is an answer, and nothing is judged. A walk that stands at no place of a table as large as a table can be, its
+ * record at most 20,000, 18 columns and 20,000 lines, is done; so every walk ends. A field of no whole record of the entry
+ * is given as a blank. None of the arrays overlaps another or the entry. */
+uint64_t x4_walk_next(const uint8_t *entry, size_t length, uint32_t walk[5], uint64_t place[3], uint64_t value[8]);
 
 /* ---- the word that a call returns */
 

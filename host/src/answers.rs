@@ -236,7 +236,7 @@ impl Explained {
 /// Why a question, a copy, a reading or a writing has no answer.
 #[derive(Clone, Copy, Debug, PartialEq, Eq, Hash)]
 pub struct NoAnswer {
-    /// The paper's number: 31 to 39 for questions, copies and indexes; 40, 41 and 15 for number fields.
+    /// The paper's number: 31 to 39 for questions, copies, indexes and walks; 40, 41 and 15 for number fields.
     pub number: u32,
     /// With 31, why the entry or the transmission is refused. With any other number there is none.
     pub entry: Option<Refusal>,

@@ -6,6 +6,8 @@
 //! of the tests, `stack` is too.
 
 #[cfg(proved)]
+use crate::walk::{Given, Walk};
+#[cfg(proved)]
 use crate::{words, Decimal, Explained, FieldRead, NoAnswer, Part, Verdict};
 use std::ffi::{c_char, c_double, CStr};
 
@@ -108,6 +110,14 @@ extern "C" {
         keyword_length: usize,
         pointer: u8,
         part: *mut [u64; 3],
+    ) -> u64;
+    fn x4_walk(entry: *const u8, length: usize, subentry: u32, section: u32, walk: *mut Walk) -> u64;
+    fn x4_walk_next(
+        entry: *const u8,
+        length: usize,
+        walk: *mut Walk,
+        place: *mut [u64; 3],
+        value: *mut [u64; 8],
     ) -> u64;
 }
 
@@ -303,6 +313,26 @@ pub fn index_passage(
     // SAFETY: the three pointers and lengths are those of slices, which are only read; the array is this call's own.
     let word = unsafe { x4_index_passage(bytes, length, row, numbers, subentry, first, ten, pointer, &mut part) };
     words::answered(word).map(|()| words::part(part))
+}
+
+/// Begins a walk over the values of a section.
+#[cfg(proved)]
+pub fn walk(entry: &[u8], subentry: u32, section: u32) -> Result<Walk, NoAnswer> {
+    let mut walk = [0; 5];
+    // SAFETY: the pointer and the length are those of one slice, which is only read; the array is this call's own.
+    let word = unsafe { x4_walk(entry.as_ptr(), entry.len(), subentry, section, &mut walk) };
+    words::answered(word).map(|()| walk)
+}
+
+/// The next value of a walk.
+#[cfg(proved)]
+#[inline]
+pub fn walk_next(entry: &[u8], walk: &mut Walk) -> Option<Given> {
+    let (mut place, mut value) = ([0; 3], [0; 8]);
+    // SAFETY: the pointer and the length are those of one slice, which is only read; the caller lends the walk, and the
+    // other arrays are this call's own.
+    let word = unsafe { x4_walk_next(entry.as_ptr(), entry.len(), walk, &mut place, &mut value) };
+    words::given(word, place, value)
 }
 
 /// What C's own reader makes of a text: for comparisons of speed.
@@ -553,6 +583,89 @@ mod tests {
         assert_eq!(numbers(by_index(&[], &INDEX, place, keyword))[1..], [(39, true); 4]);
         let cut = by_index(&sample[..22 * RECORD], &INDEX, place, keyword);
         assert_eq!(cut.map(|(word, _)| word), [0, 0, 0, 0, 36]);
+    }
+
+    /// Five numbers with one on either side that stays, so that a walk is lent from between them.
+    struct Fenced([u32; 7]);
+
+    impl Fenced {
+        fn of(walk: Walk) -> Fenced {
+            let mut numbers = [NUMBER; 7];
+            numbers[1..6].copy_from_slice(&walk);
+            Fenced(numbers)
+        }
+
+        /// The word of beginning a walk, and the five numbers then.
+        fn begin(&mut self, entry: &[u8], subentry: u32, section: u32) -> (u64, Walk) {
+            let walk = self.0[1..6].as_mut_ptr().cast();
+            // SAFETY: the pointer and the length are those of one slice, which is only read; the walk is five numbers.
+            let word = unsafe { x4_walk(entry.as_ptr(), entry.len(), subentry, section, walk) };
+            (word, self.walk())
+        }
+
+        /// The word of going on, the arrays behind it, and the five numbers then.
+        fn go_on(&mut self, entry: &[u8]) -> (u64, [u64; 3], [u64; 8], Walk) {
+            let (mut place, mut value) = ([BEFORE; 3], [BEFORE; 8]);
+            let walk = self.0[1..6].as_mut_ptr().cast();
+            // SAFETY: the same; the arrays are this function's own.
+            let word = unsafe { x4_walk_next(entry.as_ptr(), entry.len(), walk, &mut place, &mut value) };
+            (word, place, value, self.walk())
+        }
+
+        fn walk(&self) -> Walk {
+            assert_eq!([self.0[0], self.0[6]], [NUMBER; 2], "the numbers beside the walk stay");
+            self.0[1..6].try_into().expect("five numbers")
+        }
+    }
+
+    /// A walk is stored where it is begun, and moves with each value; done, only three zeros are stored.
+    #[test]
+    fn walks_are_stored() {
+        let sample = include_bytes!("../data/sample.x4");
+        let mut walk = Fenced::of([NUMBER; 5]);
+        for (subentry, section, word) in [(2, 1, 33), (2, 3, 33), (3, 2, 32), (999, 9, 32)] {
+            assert_eq!(walk.begin(sample, subentry, section), (word, [NUMBER; 5]));
+        }
+        // twenty records: they end before ENDENTRY
+        let cut = 31 + (16 << 8) + (21 << 24);
+        assert_eq!(walk.begin(&sample[..20 * RECORD], 2, DATA), (cut, [NUMBER; 5]));
+        assert_eq!(walk.begin(&[], 2, DATA), (31 + (1 << 8), [NUMBER; 5]));
+        assert_eq!(walk.begin(sample, 2, DATA), (0, [19, 3, 2, 1, 1]));
+        for (line, column, value) in [
+            (1, 1, [1, 0, 1, 1, 2, 0, 0, 0]),
+            (1, 2, [1, 0, 145, u64::MAX - 2, 3, 0, 0, 0]),
+            (1, 3, [0; 8]),
+            (2, 1, [1, 0, 2, 1, 2, 0, 0, 0]),
+            (2, 2, [1, 0, 14, u64::MAX - 1, 2, 0, 0, 0]),
+            (2, 3, [1, 0, 25, 0, 2, 0, 0, 0]),
+        ] {
+            let next = if column < 3 { [line, column + 1] } else { [line + 1, 1] };
+            let place = [1, u64::from(line), u64::from(column)];
+            assert_eq!(walk.go_on(sample), (0, place, value, [19, 3, 2, next[0], next[1]]));
+        }
+        for _ in 0..100 {
+            assert_eq!(walk.go_on(sample), (0, [0; 3], [BEFORE; 8], [19, 3, 2, 3, 1]));
+        }
+        // a walk that was refused has five numbers of the program's own
+        for none in [[0; 5], [u32::MAX; 5], [NUMBER; 5]] {
+            assert_eq!(Fenced::of(none).go_on(sample), (0, [0; 3], [BEFORE; 8], none));
+        }
+    }
+
+    /// Over other bytes: a malformed field has its place and no value, and what lies outside is blank.
+    #[test]
+    fn walks_over_other_bytes_are_stored() {
+        let mut entry = include_bytes!("../data/sample.x4").to_vec();
+        entry[21 * RECORD + 21] = b'E';
+        let mut walk = Fenced::of([19, 3, 2, 1, 2]);
+        assert_eq!(walk.go_on(&entry), (15, [1, 1, 2], [BEFORE; 8], [19, 3, 2, 1, 3]));
+        assert_eq!(walk.go_on(&entry), (0, [1, 1, 3], [0; 8], [19, 3, 2, 2, 1]));
+        assert_eq!(walk.go_on(&[]), (0, [1, 2, 1], [0; 8], [19, 3, 2, 2, 2]));
+        assert_eq!(walk.go_on(&entry[..23 * RECORD - 1]), (0, [1, 2, 2], [0; 8], [19, 3, 2, 2, 3]));
+        assert_eq!(walk.go_on(&entry).0, 0);
+        assert_eq!(walk.go_on(&entry), (0, [0; 3], [BEFORE; 8], [19, 3, 2, 3, 1]));
+        let last = Fenced::of([20_000, 18, 20_000, 20_000, 18]).go_on(&entry);
+        assert_eq!(last, (0, [1, 20_000, 18], [0; 8], [20_000, 18, 20_000, 20_001, 1]));
     }
 
     /// The array behind a reading that is answered.

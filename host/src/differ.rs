@@ -4,6 +4,7 @@
 
 use crate::generate::{self, Kind, Random, Sheet, BELOW, CAUSES};
 use crate::reference::record::permitted;
+use crate::walk::{Given, Walk};
 use crate::{library, reference, Decimal, Explained, FieldRead, NoAnswer, Part, Reason, Refusal, Verdict, RECORD};
 use std::collections::BTreeMap;
 use std::fmt;
@@ -91,6 +92,14 @@ pub trait Implementation {
         pointer: u8,
     ) -> Result<Part, NoAnswer> {
         reference::index_passage(entry, index, subentry, keyword, pointer)
+    }
+    /// Begins a walk over a section.
+    fn walk(&self, entry: &[u8], subentry: u32, section: u32) -> Result<Walk, NoAnswer> {
+        reference::walk(entry, subentry, section)
+    }
+    /// The next value of a walk.
+    fn walk_next(&self, entry: &[u8], walk: &mut Walk) -> Option<Given> {
+        reference::walk_next(entry, walk)
     }
     /// The reading of a field, and its count of digits.
     fn read_number(&self, field: &[u8]) -> Result<FieldRead, NoAnswer> {
@@ -182,6 +191,12 @@ impl Implementation for Library {
     ) -> Result<Part, NoAnswer> {
         library::index_passage(entry, index, subentry, keyword, pointer)
     }
+    fn walk(&self, entry: &[u8], subentry: u32, section: u32) -> Result<Walk, NoAnswer> {
+        library::walk(entry, subentry, section)
+    }
+    fn walk_next(&self, entry: &[u8], walk: &mut Walk) -> Option<Given> {
+        library::walk_next(entry, walk)
+    }
     fn read_number(&self, field: &[u8]) -> Result<FieldRead, NoAnswer> {
         library::read_number(field)
     }
@@ -256,6 +271,14 @@ pub struct Counts {
     pub by_own: Tally,
     /// Answers by any index to questions about any bytes.
     pub by_any: Tally,
+    /// Walks that were to be begun.
+    pub walks: Tally,
+    /// Values of the walks that were begun, up to the last of each.
+    pub walked: Tally,
+    /// Values that walks of any numbers gave, of any bytes; 15 is a malformed field.
+    pub walked_any: Tally,
+    /// Calls that found a walk done: of those that were begun, and of any numbers.
+    pub done: [u64; 2],
     /// Verdicts on transmissions.
     pub files: Tally,
     /// Those of them that are refused inside an entry.
@@ -285,6 +308,9 @@ impl fmt::Display for Counts {
             ("rows looked for", &self.rows),
             ("questions by the entry's own index", &self.by_own),
             ("questions by any index", &self.by_any),
+            ("walks begun", &self.walks),
+            ("values of walks", &self.walked),
+            ("values of walks of any numbers", &self.walked_any),
             ("verdicts on transmissions", &self.files),
             ("those inside an entry", &self.inside),
             ("verdicts on transmissions with other records below", &self.files_below),
@@ -299,6 +325,8 @@ impl fmt::Display for Counts {
                 writeln!(f, "  {number:>2}: {count}")?;
             }
         }
+        let [own, any] = self.done;
+        writeln!(f, "walks found done: {own} times, of any numbers {any} times")?;
         let [some, none] = self.begins;
         writeln!(f, "bytes of transmissions asked for an entry: {some} begin one, {none} do not")
     }
@@ -329,6 +357,7 @@ impl<'i> Pair<'i> {
                 self.below(&input, &due).map_err(|words| Difference { seed, words, input })?;
             }
             self.index(seed, &sheet)?;
+            self.walk(seed, &sheet)?;
         }
         Ok(())
     }
@@ -408,6 +437,74 @@ impl<'i> Pair<'i> {
         let Ok(before) = row else { return Ok(()) };
         let alone = asked.by_index(self.one, entry, &index[5 * before..5 * before + 5]);
         same(&format!("by an index, and by its row alone: {asked:?}"), &one, &alone)
+    }
+
+    /// Asks both to go through tables of the same entries, and nothing else.
+    pub fn walks(&mut self, seed: u64, count: u64) -> Result<(), Difference> {
+        (seed..seed + count).try_for_each(|seed| self.walk(seed, &input(&mut Random::seeded(seed))))
+    }
+
+    /// Asks both to go through tables of one input; then by walks of any numbers, and over other bytes.
+    fn walk(&mut self, seed: u64, sheet: &Sheet) -> Result<(), Difference> {
+        let random = &mut Random::seeded(seed ^ 112);
+        let mut entry = sheet.bytes.clone();
+        let begun = (0..3).try_for_each(|_| self.begun(random, sheet));
+        begun.map_err(|words| Difference { seed, words, input: entry.clone() })?;
+        for _ in 0..6 {
+            let walk = generate::walk(random, &sheet.bytes);
+            let words = |words| format!("{words}\n  walk: {walk:?}");
+            let asked = self.walked_any(&entry, walk);
+            asked.map_err(|said| Difference { seed, words: words(said), input: entry.clone() })?;
+            generate::alter_entry(random, &mut entry, &generate::index_of(&sheet.bytes));
+        }
+        Ok(())
+    }
+
+    /// A walk over a section up to its end: each place once, with the value that the full question gives there, and then
+    /// done.
+    fn begun(&mut self, random: &mut Random, sheet: &Sheet) -> Result<(), String> {
+        let (entry, [subentry, section, ..]) = (&sheet.bytes, place(random, sheet));
+        let (one, other) = (self.one.walk(entry, subentry, section), self.other.walk(entry, subentry, section));
+        same(&format!("walk {subentry} {section}"), &one, &other)?;
+        self.counts.walks.add(&one);
+        let full = |line, column| self.other.value(entry, [subentry, section, line, column]);
+        let refused = |answer: Result<FieldRead, NoAnswer>| answer.err().filter(|refused| refused.number < 34);
+        same("walk, and the full question", &one.err(), &refused(full(0, 0)))?;
+        let Ok(mut walk) = one else { return Ok(()) };
+        let [_, columns, lines, ..] = walk;
+        let ends = [full(lines, columns).err(), full(lines + 1, 1).err(), full(1, columns + 1).err()];
+        same("walk: its size", &ends.map(|refused| refused.map_or(0, |refused| refused.number)), &[0, 34, 35])?;
+        for (line, column) in (1..=lines).flat_map(|line| (1..=columns).map(move |column| (line, column))) {
+            let given = self.step(entry, &mut walk)?;
+            // The full question judges, so not every place is asked for.
+            let due = if random.once_in(8) { full(line, column) } else { given.map_or(Ok(FieldRead::BLANK), |g| g.2) };
+            same("walk_next: both, and the full question", &given, &Some((line, column, due)))?;
+            self.counts.walked.add(&due);
+        }
+        for _ in 0..3 {
+            same("walk_next behind the last", &self.step(entry, &mut walk)?, &None)?;
+            self.counts.done[0] += 1;
+        }
+        Ok(())
+    }
+
+    /// One step of both, which then stand alike.
+    fn step(&self, entry: &[u8], walk: &mut Walk) -> Result<Option<Given>, String> {
+        let (before, mut second) = (*walk, *walk);
+        let (one, other) = (self.one.walk_next(entry, walk), self.other.walk_next(entry, &mut second));
+        same(&format!("walk_next {before:?}"), &(one, *walk), &(other, second))?;
+        Ok(one)
+    }
+
+    /// A walk of any numbers over any bytes, some steps far.
+    fn walked_any(&mut self, entry: &[u8], mut walk: Walk) -> Result<(), String> {
+        for _ in 0..40 {
+            match self.step(entry, &mut walk)? {
+                Some((.., read)) => self.counts.walked_any.add(&read),
+                None => self.counts.done[1] += 1,
+            }
+        }
+        Ok(())
     }
 
     /// Asks both about the verdicts on the same entries and why, and nothing else.

@@ -1,13 +1,14 @@
 //! Reads EXFOR entries, from ENTRY to ENDENTRY: judges them and says why, answers questions about their tables and
-//! passages, with an index beside the entry where there are many, reads and writes number fields, and copies entries
-//! canonically. A whole transmission, from TRANS to ENDTRANS, is judged, taken apart into its entries and copied.
+//! passages, with an index beside the entry where there are many, goes through a table value by value, reads and writes
+//! number fields, and copies entries canonically. A whole transmission, from TRANS to ENDTRANS, is judged, taken apart
+//! into its entries and copied.
 //!
-//! "The paper" is document 01, `Build requirements and exact rules`, with six requests of document 02: M-104, the
+//! "The paper" is document 01, `Build requirements and exact rules`, with seven requests of document 02: M-104, the
 //! count of digits, M-101, headings that may repeat, M-105, a number under FLAG equals a code, M-100, whole
-//! transmissions, M-108, the reason of a refusal, and M-102, an index of subentries. Its numbers are kept: a refusal here
-//! has the number that the paper gives it, records, lines and columns count from 1, and an accepted entry has the paper's
-//! four totals. Programs call [`library`]; [`reference`] is a second implementation, written from the paper alone, which
-//! the tests hold against the first.
+//! transmissions, M-108, the reason of a refusal, M-102, an index of subentries, and M-112, values in order. Its
+//! numbers are kept: a refusal here has the number that the paper gives it, records, lines and columns count from 1,
+//! and an accepted entry has the paper's four totals. Programs call [`library`]; [`reference`] is a second
+//! implementation, written from the paper alone, which the tests hold against the first.
 //!
 //! ```
 //! use glockenbeacon::{library, Reason, Value, Verdict, DATA};
@@ -26,6 +27,9 @@
 //! }
 //! let index = library::Index::of(&entry)?; // from now on nothing is judged
 //! assert_eq!(index.value(&entry, 2, DATA, 1, 2)?, read);
+//! for place in library::values(&entry, 2, DATA)? {
+//!     println!("line {}, column {}: {:?}", place.line, place.column, place.read.value);
+//! }
 //! let file = std::fs::read("data/transmission.x4")?;
 //! assert!(library::judge_file(&file).refusal().is_none());
 //! for (first, entry) in library::entries(&file) {
@@ -52,6 +56,7 @@ pub mod plot;
 pub mod reference;
 pub mod tables;
 pub mod transmission;
+pub mod walk;
 pub mod words;
 
 pub use answers::{Explained, NoAnswer, Part, Reason, Refusal, Totals, Verdict};

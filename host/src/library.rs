@@ -7,10 +7,12 @@ pub use crate::index::{Index, Row};
 #[cfg(not(proved))]
 use crate::reference as archives_or_reference;
 use crate::transmission::Entries;
+use crate::walk::{Given, Walk};
+pub use crate::walk::{Placed, Values};
 use crate::{Decimal, Explained, FieldRead, NoAnswer, Part, Verdict};
 
 /// Every call, in the order of this module.
-pub const CALLS: [&str; 19] = [
+pub const CALLS: [&str; 21] = [
     "judge",
     "value",
     "heading",
@@ -30,6 +32,8 @@ pub const CALLS: [&str; 19] = [
     "index_heading",
     "index_unit",
     "index_passage",
+    "walk",
+    "walk_next",
 ];
 
 /// The calls that the archives of proved functions answer in this build.
@@ -41,10 +45,17 @@ pub fn proved() -> &'static [&'static str] {
 }
 
 /// The paths of the archives that are linked, if they are.
-pub fn archives() -> Option<[String; 6]> {
+pub fn archives() -> Option<[String; 7]> {
     let folder = option_env!("X4_LINKED").filter(|_| cfg!(proved))?;
-    let crates =
-        ["exports", "exports_questions", "exports_files", "exports_file_copies", "exports_reasons", "exports_index"];
+    let crates = [
+        "exports",
+        "exports_questions",
+        "exports_files",
+        "exports_file_copies",
+        "exports_reasons",
+        "exports_index",
+        "exports_walk",
+    ];
     Some(crates.map(|name| format!("{folder}/libx4_{name}.a")))
 }
 
@@ -179,4 +190,25 @@ pub fn index_passage(
     pointer: u8,
 ) -> Result<Part, NoAnswer> {
     archives_or_reference::index_passage(entry, index, subentry, keyword, pointer)
+}
+
+/// The values of COMMON (section 1) or DATA (section 2) of a subentry, each once, left to right and line by line (M-112):
+/// 31, 32 or 33, or all that [`value`] would say of the table, with one judging.
+pub fn values(entry: &[u8], subentry: u32, section: u32) -> Result<Values<'_>, NoAnswer> {
+    Values::of(entry, subentry, section)
+}
+
+/// Begins a walk over the values of a section, as [`values`] does: five numbers that say where it stands.
+pub fn walk(entry: &[u8], subentry: u32, section: u32) -> Result<Walk, NoAnswer> {
+    archives_or_reference::walk(entry, subentry, section)
+}
+
+/// The next value of a walk, which then stands behind it; none where the walk is done, and then it stays as it is. With any
+/// five numbers and any bytes there is an answer: a walk that stands at no place of a table as large as a table can be,
+/// its record at most 20,000, 18 columns and 20,000 lines, is done; a field outside the bytes is blank, and one that is
+/// malformed has 15 instead of a value, and the walk goes on behind it.
+// A table is many steps, so that all around the call is inlined.
+#[inline]
+pub fn walk_next(entry: &[u8], walk: &mut Walk) -> Option<Given> {
+    archives_or_reference::walk_next(entry, walk)
 }

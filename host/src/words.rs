@@ -11,7 +11,7 @@
 //!
 //! A value is kind (0 blank, 1 number), whether it is below zero, coefficient, power of ten in two's complement, the
 //! count of digits written, and three zeros; a part is first byte, length and pointer; the totals are subentries,
-//! keywords, lines and numbers.
+//! keywords, lines and numbers; the place of a walk's next value is 1, line and column, or three zeros where none is left.
 //!
 //! | facts of a reason | | |
 //! |---|---|---|
@@ -23,6 +23,7 @@
 //! | 5 | pointer, 0 | |
 //! | 6 | 0, 0 | the expected characters stand beside them, which are eight blanks else |
 
+use crate::walk::Given;
 use crate::{Decimal, Explained, FieldRead, NoAnswer, Part, Reason, Refusal, Totals, Value, Verdict};
 
 /// The version of the interface that this module takes apart.
@@ -64,6 +65,12 @@ pub fn value([kind, negative, coefficient, power, digits, ..]: [u64; 8]) -> Fiel
 /// What the array of a heading, a unit or a passage says, where the call is answered.
 pub fn part([first, length, pointer]: [u64; 3]) -> Part {
     Part { offset: first as usize, length: length as usize, pointer: pointer as u8 }
+}
+
+/// What the word and the arrays of a walk's next value say; none where the walk is done.
+#[inline]
+pub fn given(word: u64, [some, line, column]: [u64; 3], numbers: [u64; 8]) -> Option<Given> {
+    (some == 1).then(|| (line as u32, column as u32, answered(word).map(|()| value(numbers))))
 }
 
 /// What the arrays of a reason say.
@@ -135,5 +142,8 @@ mod tests {
         assert_eq!(value([1, 0, 1, u64::MAX - 99_999_999, 1, 0, 0, 0]), number(false, 1, -100_000_000, 1));
         let place = Part { offset: 1_619_919, length: 1_620_000, pointer: b'Z' };
         assert_eq!(part([1_619_919, 1_620_000, u64::from(b'Z')]), place);
+        assert_eq!(given(0, [1, 20_000, 18], [0; 8]), Some((20_000, 18, Ok(FieldRead::BLANK))));
+        assert_eq!(given(15, [1, 1, 2], [7; 8]), Some((1, 2, Err(NoAnswer::numbered(15)))));
+        assert_eq!(given(0, [0; 3], [7; 8]), None);
     }
 }

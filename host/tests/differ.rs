@@ -2,7 +2,7 @@
 
 mod common;
 
-use common::{end_trans, flags, sample, transmission};
+use common::{end_trans, flags, none, sample, transmission, ENTRIES, SEED};
 use glockenbeacon::differ::{Implementation, Library, Pair, Reference};
 use glockenbeacon::generate::{self, Random};
 use glockenbeacon::reference::may_repeat;
@@ -12,9 +12,7 @@ use glockenbeacon::{
     reference, Decimal, Explained, FieldRead, NoAnswer, Part, Reason, Refusal, Totals, Value, Verdict,
 };
 
-/// The short run: a long one is `cargo run --release --bin differ`.
-const SEED: u64 = 7;
-const ENTRIES: u64 = 3_000;
+/// Of transmissions there are fewer.
 const FILES: u64 = 1_000;
 
 #[test]
@@ -40,6 +38,10 @@ fn the_library_and_the_reference_agree() {
     }
     let (own, any) = (&counts.by_own, &counts.by_any);
     assert_eq!([own.of(31), own.of(38), own.of(39), any.of(31)], [0; 4], "{counts}");
+    assert!([0, 31, 32, 33].iter().all(|&number| counts.walks.of(number) >= 100), "{counts}");
+    assert!(counts.walked.of(0) >= 5_000 && counts.walked.of(15) == 0, "{counts}");
+    assert!([0, 15].iter().all(|&number| counts.walked_any.of(number) >= 1_000), "{counts}");
+    assert!(counts.done.iter().all(|&times| times >= 1_000), "{counts}");
     assert!([0, 15, 40].iter().all(|&number| counts.readings.of(number) >= 1_000), "{counts}");
     assert!([0, 40, 41].iter().all(|&number| counts.writings.of(number) >= 1_000), "{counts}");
 }
@@ -1034,10 +1036,6 @@ fn records_from_0(entry: &[u8], index: &mut [u32]) -> Result<usize, NoAnswer> {
         let records = own.chunks_mut(5).flat_map(|row| &mut row[1..]);
         records.for_each(|record| *record = record.saturating_sub(1));
     })
-}
-
-fn none(number: u32) -> NoAnswer {
-    NoAnswer { number, entry: None }
 }
 
 /// Each is found by the same entries, in what is said first.

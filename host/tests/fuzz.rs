@@ -20,6 +20,13 @@ const SANITIZED: [&str; 10] = [
     "-Iinclude",
 ];
 
+/// How many of a kind the walks had, as in `, 25 fields malformed`.
+fn given(words: &str, kind: &str) -> u64 {
+    let walks = words.split("walks by refusal").nth(1).and_then(|rest| rest.split(';').next()).unwrap_or_default();
+    let count = walks.split(", ").find_map(|part| part.strip_suffix(kind)?.trim_end().parse().ok());
+    count.unwrap_or_else(|| panic!("no {kind}: {words}"))
+}
+
 #[test]
 fn mutated_entries_are_answered() {
     let Some(program) = compiled("clang", "fuzz", &SANITIZED, &["tests/c/fuzz.c"]) else { return };
@@ -38,6 +45,13 @@ fn mutated_entries_are_answered() {
         words.split("by an index, by refusal").nth(1).and_then(|rest| rest.split(',').next()).unwrap_or_default();
     for refusal in [" 0:", " 32:", " 33:", " 34:", " 35:", " 36:", " 38:", " 39:"] {
         assert!(indexes.contains(refusal), "every answer by an index occurs: {words}");
+    }
+    let walks = words.split("walks by refusal").nth(1).and_then(|rest| rest.split(',').next()).unwrap_or_default();
+    for refusal in [" 0:", " 31:", " 32:", " 33:"] {
+        assert!(walks.contains(refusal), "every answer to a walk occurs: {words}");
+    }
+    for kind in ["values", "fields malformed", "times done"] {
+        assert!(given(&words, kind) > 0, "walks have {kind}: {words}");
     }
     let reasons = words.split("reasons by kind").nth(1).unwrap_or_default();
     assert!(reasons.contains(" 6:") && !reasons.contains(":0"), "reasons of every kind occur: {words}");

@@ -74,12 +74,30 @@ fn asked(line: &[u8], at: usize) -> u32 {
     String::from_utf8_lossy(&line[at..at + 10]).trim().parse().expect("a number of ten columns")
 }
 
-fn say_value(said: &mut Vec<u8>, answer: Result<FieldRead, NoAnswer>) {
+/// The value and the count of its digits.
+fn value_said(answer: Result<FieldRead, NoAnswer>) -> String {
     let value = match answer.map(|read| read.value) {
         Ok(Value::Number(value)) => format!("number {}", decimal(value, " ")),
         _ => "blank".to_string(),
     };
-    said.extend(format!("{} {value} {}\n", numbers(answer.as_ref().err()), digits(answer)).bytes());
+    format!("{value} {}", digits(answer))
+}
+
+fn say_value(said: &mut Vec<u8>, answer: Result<FieldRead, NoAnswer>) {
+    said.extend(format!("{} {}\n", numbers(answer.as_ref().err()), value_said(answer)).bytes());
+}
+
+/// A walk: its answer, each value with its line and column, and twice that it is done.
+fn say_walk(said: &mut Vec<u8>, entry: &[u8], subentry: u32, section: u32) {
+    let begun = reference::walk(entry, subentry, section);
+    said.extend(format!("{}\n", numbers(begun.as_ref().err())).bytes());
+    // A walk that is refused is done at once.
+    let mut walk = begun.unwrap_or_default();
+    while let Some((line, column, read)) = reference::walk_next(entry, &mut walk) {
+        said.extend(format!("{line} {column} {}\n", value_said(read)).bytes());
+    }
+    assert_eq!(reference::walk_next(entry, &mut walk), None);
+    said.extend(b"done\ndone\n");
 }
 
 fn ask(said: &mut Vec<u8>, entry: &[u8], line: &[u8]) {
@@ -89,6 +107,7 @@ fn ask(said: &mut Vec<u8>, entry: &[u8], line: &[u8]) {
         b'h' => say_part(said, entry, reference::heading(entry, n, asked(line, 11), asked(line, 21))),
         b'u' => say_part(said, entry, reference::unit(entry, n, asked(line, 11), asked(line, 21))),
         b'p' => say_part(said, entry, reference::passage(entry, n, &line[11..21], line[21])),
+        b'w' => say_walk(said, entry, n, asked(line, 11)),
         other => panic!("a line that begins with {:?}", char::from(other)),
     }
 }

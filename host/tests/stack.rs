@@ -42,6 +42,8 @@ mod measured {
         fn x4_index_heading();
         fn x4_index_unit();
         fn x4_index_passage();
+        fn x4_walk();
+        fn x4_walk_next();
     }
 
     type Function = unsafe extern "C" fn();
@@ -349,6 +351,37 @@ mod measured {
             assert!(due.iter().all(|number| said.contains(number)), "{said:?}, and {due:?} are due");
         }
         [make, row, value, heading, unit, passage].iter().for_each(Measured::say);
+    }
+
+    /// Walks over these entries, up to their end, and of any numbers.
+    #[test]
+    fn walks_are_measured() {
+        let mut begin = Measured::new("x4_walk", x4_walk);
+        let mut next = Measured::new("x4_walk_next", x4_walk_next);
+        let (mut place, mut number) = ([0u64; 3], [0u64; 8]);
+        let (mut begun, mut said, mut random) = (BTreeSet::new(), BTreeSet::new(), Random::seeded(112));
+        for entry in entries() {
+            let [first, length] = bytes(&entry);
+            let mut walks: Vec<[u32; 5]> = (0..6).map(|_| generate::walk(&mut random, &entry)).collect();
+            for (n, section) in [(1, 1), (2, 1), (2, 2), (3, 2), (2, 3), (999, 1)] {
+                let mut walk = [0u32; 5];
+                begun.insert(begin.call([first, length, n, section, lent(&mut walk)]) & 0xff);
+                walks.push(walk);
+            }
+            for mut walk in walks {
+                for _ in 0..20 {
+                    let before = walk;
+                    // Each measure is several calls, so that the walk is put back before the next step.
+                    let word = next.call([first, length, lent(&mut walk), lent(&mut place), lent(&mut number)]);
+                    said.insert((word, place[0]));
+                    walk = before;
+                    reference::walk_next(&entry, &mut walk);
+                }
+            }
+        }
+        assert!([0, 31, 32, 33].iter().all(|number| begun.contains(number)), "{begun:?}");
+        assert!([(0, 0), (0, 1), (15, 1)].iter().all(|said_so| said.contains(said_so)), "{said:?}");
+        [begin, next].iter().for_each(Measured::say);
     }
 
     #[test]

@@ -1,5 +1,5 @@
-//! Verdicts, reasons, answers, indexes, copies, entries of transmissions and counts of digits that others worked out from
-//! the papers, where their tables are beside the project: in `../shared/vectors/02`. The library and the reference are
+//! Verdicts, reasons, answers, indexes, walks, copies, entries of transmissions and counts of digits that others worked
+//! out from the papers, where their tables are beside the project: in `../shared/vectors/02`. The library and the reference are
 //! held against them.
 
 mod common;
@@ -447,6 +447,74 @@ fn indexes_that_others_made() {
     }
     let counts = by_number(&rows, 2, &["0", "31", "38"]);
     say(&format!("lookup/make.tsv: {} indexes, {renamed} without flags, by number{counts}", rows.len()));
+}
+
+/// All that a walk gives, a value to a line as a table has it; then it is done, and stays so.
+fn walked(by: &dyn Implementation, entry: &[u8], subentry: u32, section: u32) -> Result<Vec<String>, NoAnswer> {
+    let mut walk = by.walk(entry, subentry, section)?;
+    let step = || {
+        by.walk_next(entry, &mut walk).map(|(line, column, read)| format!("{line} {column} {}", told(read).join(" ")))
+    };
+    let said = std::iter::from_fn(step).collect();
+    assert!((0..3).all(|_| by.walk_next(entry, &mut walk).is_none()));
+    Ok(said)
+}
+
+/// Walks over tables (M-112): the refusal, how many values there are, the first ten and the last. As with the indexes, the
+/// headings FLAG and DECAY-FLAG get another letter where 17 refuses the entry.
+#[test]
+fn walks_that_others_took() {
+    let Some(mut rows) = table("lookup/walk.tsv") else { return };
+    without_transmissions("lookup", &mut rows, |row| row[4..7].to_vec());
+    let (mut renamed, mut values) = (0, 0);
+    for row in &rows {
+        let (subentry, section) = (row[1].parse().expect("a number"), row[2].parse().expect("a number"));
+        let mut entry = entry("lookup", &row[0]);
+        if reference::judge(&entry).numbers()[0] == 17 {
+            assert_eq!(library::walk(&entry, subentry, section), reference::walk(&entry, subentry, section));
+            flag_headings(&entry).into_iter().for_each(|first| entry[first + 1] = b'Q');
+            renamed += 1;
+        }
+        for by in BOTH {
+            let given = walked(by, &entry, subentry, section);
+            assert_eq!(refused(given.as_ref().err()), row[3..7].join(" "), "{row:?}");
+            let given = given.unwrap_or_default();
+            let none = || "-".to_string();
+            let first = if given.is_empty() { none() } else { given[..given.len().min(10)].join(" | ") };
+            let last = given.last().cloned().unwrap_or_else(none);
+            assert_eq!([given.len().to_string(), first, last], row[7..10], "{row:?}");
+            values += given.len();
+        }
+    }
+    let counts = by_number(&rows, 3, &["0", "31", "32", "33"]);
+    let (all, values) = (rows.len(), values / 2);
+    say(&format!("lookup/walk.tsv: {all} walks with {values} values, {renamed} without flags, by number{counts}"));
+}
+
+/// Whole walks, each in a file that is named after the entry, the subentry and the section.
+#[test]
+fn whole_walks_that_others_took() {
+    let Ok(files) = std::fs::read_dir(folder().join("lookup/walks")) else { return };
+    let (mut walks, mut values) = (0, 0);
+    for file in files {
+        let file = file.expect("a file").file_name().into_string().expect("a name");
+        let parts: Vec<&str> = file.trim_end_matches(".tsv").rsplitn(3, '_').collect();
+        let [section, subentry, name] = parts[..] else { panic!("{file}") };
+        let text = String::from_utf8(entry("lookup/walks", &file)).expect("lines");
+        let due: Vec<String> = text.lines().map(|line| line.replace('\t', " ")).collect();
+        let mut entry = entry("lookup", name);
+        if reference::judge(&entry).numbers()[0] == 17 {
+            flag_headings(&entry).into_iter().for_each(|first| entry[first + 1] = b'Q');
+        }
+        for by in BOTH {
+            let given = walked(by, &entry, subentry.parse().expect("a number"), section.parse().expect("a number"));
+            assert_eq!(given.as_ref(), Ok(&due), "{file}");
+        }
+        walks += 1;
+        values += due.len();
+    }
+    assert!(walks > 0 && values > 0);
+    say(&format!("lookup/walks: {walks} whole walks, {values} values"));
 }
 
 #[test]

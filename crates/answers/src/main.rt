@@ -1,10 +1,14 @@
 // Asks questions of entries. The first character of a line of the input says what it is: `*` and 80 columns, the next
 // record of the entry; `!`, a new entry begins; `v`, `h`, `u`, a value, a heading, a unit: the subentry, the section,
 // for a value the line, and the column, ten columns each; `p`, a passage: the subentry in ten columns, the keyword in
-// ten, the pointer in one. Of each question it writes the number, what stands beside it, and the answer: the value and the
-// count of its digits, or the first byte, the length, the pointer and the part.
+// ten, the pointer in one; `w`, a walk: the subentry and the section, ten columns each. Of each question it writes the
+// number, what stands beside it, and the answer: the value and the count of its digits, or the first byte, the length,
+// the pointer and the part.
 use bytes::scan::find;
 use paper_record::types::LineNo;
+use paper_walk::types::Given;
+use program_answer::say_answer;
+use program_answer::say_given;
 use program_answer::say_part;
 use program_answer::say_value;
 use program_text::number_in;
@@ -15,6 +19,8 @@ use questions::ask::passage_part;
 use questions::ask::unit;
 use questions::ask::unit_part;
 use questions::ask::value;
+use walk::walk::one_on;
+use walk_start::start::start;
 
 fn ask_value(entry: &[u8], line: &[u8]) {
     let n = number_in(line, 1, 11);
@@ -63,6 +69,38 @@ fn ask_passage(entry: &[u8], line: &[u8]) {
     say_part(p, passage_part(entry, n, keyword, pointer));
 }
 
+// Whether a walk is done.
+fn is_done(given: Given) -> bool {
+    match given {
+        Given::At(_, _, _) => false,
+        Given::Done => true,
+    }
+}
+
+// A walk: its answer, each value with its line and column, and twice that it is done. No table of these cases has so many.
+fn ask_walk(entry: &[u8], line: &[u8]) {
+    let n = number_in(line, 1, 11);
+    let section = number_in(line, 11, 21);
+    let mut walk = start(entry, n, section);
+    let a = walk.answer;
+    say_answer(a);
+    io::write_all(1, b"\n");
+    let mut i: usize = 0;
+    while i < 2000 {
+        let step = one_on(entry, walk);
+        let given = step.given;
+        walk = step.walk;
+        say_given(given);
+        if is_done(given) {
+            let again = one_on(entry, walk);
+            let last = again.given;
+            say_given(last);
+            return;
+        }
+        i += 1;
+    }
+}
+
 // A question; any other line is passed over.
 fn ask(entry: &[u8], line: &[u8], kind: u8) {
     if kind == b'v' {
@@ -76,6 +114,9 @@ fn ask(entry: &[u8], line: &[u8], kind: u8) {
     }
     if kind == b'p' {
         ask_passage(entry, line);
+    }
+    if kind == b'w' {
+        ask_walk(entry, line);
     }
 }
 

@@ -6,3 +6,4 @@ pub mod PartsBack
 pub mod NoPlace
 pub mod ValuesBack
 pub mod IndexBack
+pub mod WalkBack

@@ -34,7 +34,7 @@ use Rattle.paper_questions.proofs.Records.{record-there}
 use Rattle.paper_questions.proofs.ValuePlaces.{value-field}
 use Rattle.paper_copy.specs.Call.{copied}
 use Rattle.exports_words.specs.Words.{answerWord, answerIn, lentAfter}
-use Rattle.exports_words.specs.Values.{readingAnswer, readingStored}
+use Rattle.exports_words.specs.Values.{readingAnswer, readingStored, readingIn}
 use Rattle.exports_back.specs.QuestionClaims.{ValueBack, CopiedBack}
 use Rattle.exports_parts.specs.Questions.{valueAnswer, valueStored, valueAnswerIn}
 use Rattle.exports_back.proofs.Laws.{Fits, word-back, answer-fits, held, held-back}
@@ -63,6 +63,13 @@ field-wide s p f =
     let w : length r ≡ 81 = length-take-le 81 (drop ((p .at .0 - 1) * 81) s) (simp length-drop (omega arith)) in
     length-take-le 11 (drop (p .field * 11) r) (simp length-drop (omega arith)))
     refl
+
+-- what a field of eleven columns says comes back, and its count
+pub field-back : (before l : List ℕ) → length l ≡ 11
+    → readingIn (answerWord (readingAnswer (fieldRead l .reading))) (readingStored before (fieldRead l)) ≡ fieldRead l
+unfolding fieldRead
+field-back before l w =
+    held-back before (digitCount l) (readField l) (held l w (readField l) refl (says-exactly l (readField l) .0 refl))
 
 -- what a field says refuses no question
 says-low : (l : List ℕ) (r : Reading) → Says l r → leb 31 (answerIn (answerWord (readingAnswer r)) .number) ≡ false

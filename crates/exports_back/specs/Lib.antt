@@ -1,4 +1,5 @@
 pub mod Claims
 pub mod QuestionClaims
 pub mod IndexClaims
+pub mod WalkClaims
 pub mod NoPlace

@@ -1,2 +1,3 @@
 // What the calls about questions store and return.
 pub mod parts;
+pub mod walks;

@@ -5,10 +5,10 @@ use index_finding::finding::find_row;
 use paper_questions::types::PartAnswer;
 use paper_questions::types::ValueAnswer;
 use paper_record::types::LineNo;
-use questions_parts::answers::heading_from_row;
-use questions_parts::answers::passage_from_row;
+use questions_columns::answers::heading_from_row;
+use questions_columns::answers::unit_from_row;
 use questions_parts::answers::refused_part;
-use questions_parts::answers::unit_from_row;
+use questions_runs::answers::passage_from_row;
 use questions_values::answers::refused_value;
 use questions_values::answers::value_from_row;
 

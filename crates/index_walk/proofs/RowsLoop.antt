@@ -11,40 +11,41 @@ use lib.Seq.{paste}
 use Rattle.laws.proofs.Booleans.{or-either}
 use Rattle.paper_record.specs.Places.{recordOf}
 use Rattle.paper_record.specs.declared.types.RecordNo.{RecordNo}
-use Rattle.paper_rules.specs.declared.types.Track.{Track}
 use Rattle.paper_rules.specs.Limits.{MOST-RECORDS}
 use Rattle.paper_rules.specs.Roles.{opensSubentry, opensSection}
 use Rattle.paper_entry.specs.Judging.{Accepted}
 use Rattle.paper_entry.specs.Contexts.{contextAt, roleAt}
 use Rattle.paper_entry.proofs.Lengths.{accepted-good, whole-records}
 use Rattle.entry_walk.proofs.AcceptedWalk.{walked}
-use Rattle.entry_step.specs.declared.step.Judge.{Judge}
-use Rattle.entry_step.specs.declared.pass.Passed.{Passed}
-use Rattle.entry_step.specs.ByRanges.{startJudge}
-use Rattle.entry_step.specs.Pass.{Walking, PassedAt}
-use Rattle.entry_step.proofs.Walking.{walking-start, track-stands}
+use Rattle.entry_walk.proofs.Contexts.{records-at}
 use Rattle.paper_questions.specs.declared.types.Row.{Row}
 use Rattle.paper_questions.specs.Row.{emptyRow, notedIn}
 use Rattle.paper_questions.specs.Located.{rowAt, rowOf}
+use Rattle.paper_questions.specs.Place.{fieldsAt, identifierAt}
 use Rattle.paper_index.specs.Rows.{openedTo, rowsFor, rowNumbers, indexOf}
 use Rattle.paper_index.specs.Making.{over}
-use Rattle.paper_index.proofs.RowLists.{rows-length}
+use Rattle.paper_index.proofs.RowLists.{rows-length, rows-same}
 use Rattle.paper_index.proofs.Stored.{over-more, over-again}
 use Rattle.index_rows.specs.Walk.{inHand, rowsTo}
 use Rattle.index_rows.proofs.Opened.{opened-length, opened-rises, opened-more, opened-same, hand-more, hand-same}
-use Rattle.index_rows.proofs.Opened.{last-in-hand}
+use Rattle.index_rows.proofs.Opened.{last-in-hand, opened-start, by-opening}
 use Rattle.index_rows.proofs.RowsWalked.{row-noted, row-plain, row-new, rows-more, rows-last, rows-before}
 use Rattle.index_rows.proofs.RowsWalked.{rows-plain, section-open, rows-done}
 use Rattle.index_store.specs.Noting.{isNoted, rowBehind, storedBehind, RoomBehind}
-use Rattle.index_walk.specs.Room.{IndexRoom}
+use Rattle.system_records.specs.Next.{DueAt, recordsInside, handBehind}
+use Rattle.system_records.proofs.RowFollowed.{row-begun, same-role, hand-then, due-there, hand-there, row-there, opened-there}
+use Rattle.index_walk.specs.Room.{IndexRoom, rowsBehind}
 
--- the loop over n records has come to the record with the index i
-pub record Storing (s lent : List ℕ) (n : ℕ) (j : Judge) (out : List ℕ) (row : Row) (i : ℕ) : Type 0 where
+-- the loop over n records has come to the system record with the index i, behind so many subentries
+pub record Storing (s lent : List ℕ) (n hand rows : ℕ) (out : List ℕ) (row : Row) (i : ℕ) : Type 0 where
   pub given : IndexRoom s lent
   pub count : n ≡ length s / 81
   pub few : n ≤ MOST-RECORDS
   pub long : length out ≡ length lent
-  pub walking : Walking j s i
+  pub due : DueAt s i
+  pub in-hand : hand ≡ inHand s i
+  pub rows-are : rows ≡ length (openedTo s i)
+  pub rows-few : rows ≤ i
   pub row-is : row ≡ rowAt s (inHand s i) i
   pub same : out ≡ over (rowsTo s i) lent
 
@@ -56,7 +57,7 @@ none-in-hand : (s : List ℕ) → emptyRow 0 ≡ rowAt s (inHand s 0) 0
 unfolding contextAt rowAt
 none-in-hand s = refl
 
-pub storing-start : (s lent : List ℕ) → IndexRoom s lent → Storing s lent (length s / 81) startJudge lent (emptyRow 0) 0
+pub storing-start : (s lent : List ℕ) → IndexRoom s lent → Storing s lent (length s / 81) 0 0 lent (emptyRow 0) 0
 storing-start s lent h =
     let good = accepted-good s (h .accepted) in
     record {
@@ -64,7 +65,10 @@ storing-start s lent h =
       count = refl;
       few = whole-records (length s) good .1;
       long = refl;
-      walking = walking-start s good;
+      due = row-begun s 0 .due;
+      in-hand = row-begun s 0 .in-hand;
+      rows-are = sym (ap length (opened-start s));
+      rows-few = omega arith;
       row-is = none-in-hand s;
       same = none-opened s lent;
     }
@@ -187,50 +191,97 @@ module _ (s : List ℕ) (a : Accepted s) (i : ℕ) (h : i < length s / 81) where
 
 -- ---- a turn
 
-module _ {s lent : List ℕ} {n : ℕ} {j : Judge} {out : List ℕ} {row : Row} {i : ℕ} (k : Storing s lent n j out row i) where
+-- one more where the record opens a subentry
+opened-behind : (s : List ℕ) (i rows : ℕ) → rows ≡ length (openedTo s i)
+    → rowsBehind (roleAt s i) rows ≡ length (openedTo s (suc i))
+unfolding rowsBehind
+opened-behind s i rows e =
+    by-opening s i (rowsBehind (roleAt s i) rows ≡ length (openedTo s (suc i)))
+    (λ o. rw (o, opened-more s i o, length-append (openedTo s i) _) (omega (arith, e)))
+    (λ o. rw (o, opened-same s i o) e)
+
+one-more : (identifier rows : ℕ) → rowsBehind identifier rows ≤ rows + 1
+unfolding rowsBehind
+one-more identifier rows = by-test (opensSubentry identifier)
+  where
+    by-test : (b : Bool) → cond b (rows + 1) rows ≤ rows + 1
+    by-test true = omega arith
+    by-test false = omega arith
+
+module _ {s lent : List ℕ} {n hand rows : ℕ} {out : List ℕ} {row : Row} {i : ℕ}
+    (k : Storing s lent n hand rows out row i) where
   pub storing-there : i < n → i < length s / 81
   storing-there h = let e = k .count in omega arith
 
-  module _ (less : i < n) (x : Passed) (p : PassedAt x s i) where
-    role-is : x .role ≡ roleAt s i
-    role-is = ap (λ (y : Passed). y .role) (p .same)
+  module _ (less : i < n) where
+    abbrev here : RecordNo
+    here = record { 0 = i + 1 }
 
-    behind-is : x .next .track ≡ contextAt s (suc i) .track
-    behind-is = rw (add-one i) at (track-stands (p .walking))
+    abbrev identifier : ℕ
+    identifier = identifierAt s here
 
-    pub storing-room : RoomBehind out (x .next .track .totals .subentries) (x .role)
+    abbrev hand-behind : ℕ
+    hand-behind = handBehind identifier (fieldsAt s here) hand
+
+    abbrev there : ℕ
+    there = i + 1 + recordsInside identifier (fieldsAt s here)
+
+    h : i < length s / 81
+    h = storing-there less
+
+    a : Accepted s
+    a = k .given .accepted
+
+    role-is : roleAt s i ≡ identifier
+    role-is = same-role s a i hand (k .due) (k .in-hand) h
+
+    rows-behind : rowsBehind identifier rows ≡ contextAt s (suc i) .track .totals .subentries
+    rows-behind = rw (← role-is) (opened-behind s i rows (k .rows-are) ∙ opened-length s (suc i))
+
+    pub storing-room : RoomBehind out (rowsBehind identifier rows) identifier
     storing-room =
-        let h = storing-there less in
-        let a = k .given .accepted in
         let l = k .long in
         let r = k .given .room in
-        rw (behind-is, role-is)
+        rw (rows-behind, ← role-is)
         (record { some = some-row s a i h; fits = λ e. rows-room s a i h out (omega arith) })
 
-    pub storing-next : (at : RecordNo) → at ≡ recordOf (j .track .records)
-        → (next : Row) → next ≡ rowBehind row (x .next .track .subentry .number) (x .role) at
-        → (new : List ℕ) → new ≡ storedBehind out (x .next .track .totals .subentries) next (x .role)
-        → length new ≡ length out → Storing s lent n (x .next) new next (i + 1)
-    storing-next at at-is next next-is new new-is long =
-        let h = storing-there less in
-        let a = k .given .accepted in
-        let there : at ≡ recordOf (contextAt s i .track .records) =
-        at-is ∙ ap (λ (t : Track). recordOf (t .records)) (track-stands (k .walking)) in
+    pub storing-next : (next : Row) → next ≡ rowBehind row hand-behind identifier here
+        → (new : List ℕ) → new ≡ storedBehind out (rowsBehind identifier rows) next identifier
+        → length new ≡ length out
+        → Storing s lent n hand-behind (rowsBehind identifier rows) new next there
+    storing-next next next-is new new-is long =
+        let hand-is = hand-then s a i hand (k .due) (k .in-hand) h in
+        let hand-same = hand-there s a i hand (k .due) (k .in-hand) h in
+        let opened-same = opened-there s a i hand (k .due) (k .in-hand) h in
+        let row-same = row-there s a i hand (k .due) (k .in-hand) h in
+        let few = one-more identifier rows in
+        let before = k .rows-few in
+        let place : recordOf (contextAt s i .track .records) ≡ here = rw (records-at s i) refl in
         let row-then : next ≡ rowAt s (inHand s (suc i)) (suc i) =
-        next-is ∙ rw (behind-is, role-is, there, k .row-is) (row-behind s a i h) in
+        next-is ∙ rw (← hand-is, ← role-is, k .row-is) (rw place at (row-behind s a i h)) in
         record {
           given = k .given;
           count = k .count;
           few = k .few;
           long = long ∙ k .long;
-          walking = p .walking;
-          row-is = rw (add-one i) row-then;
-          same = rw (add-one i) (new-is ∙ rw (behind-is, role-is, row-then, k .same) (stored-behind s a i h lent));
+          due = due-there s a i hand (k .due) (k .in-hand) h;
+          in-hand = sym (hand-same ∙ hand-is);
+          rows-are = rows-behind ∙ sym (ap length opened-same ∙ opened-length s (suc i));
+          rows-few = omega arith;
+          row-is = row-then ∙ sym (row-same _) ∙ ap (λ (m : ℕ). rowAt s m there) (sym hand-same);
+          same = new-is
+              ∙ rw (rows-behind, ← role-is, row-then, k .same) (stored-behind s a i h lent)
+              ∙ ap (λ (xs : List ℕ). over xs lent) (sym (rows-kept opened-same row-same));
         }
+      where
+        rows-kept : openedTo s there ≡ openedTo s (suc i) → ((m : ℕ) → rowAt s m there ≡ rowAt s m (suc i))
+            → rowsTo s there ≡ rowsTo s (suc i)
+        rows-kept e f =
+            rw e (rows-same (λ m. rowAt s m there) (λ m. rowAt s m (suc i)) (openedTo s (suc i)) (λ j l. f _))
 
   pub storing-done : n ≤ i → out ≡ over (indexOf s) lent
   storing-done h =
       let e = k .count in
-      let u = k .walking .upto in
+      let u = k .due .there in
       let z : i ≡ length s / 81 = omega arith in
       k .same ∙ rw (z, rows-done s (k .given .accepted))

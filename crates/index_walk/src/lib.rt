@@ -1,2 +1,2 @@
-// The index of an accepted entry, stored on a second way over its records.
+// The index of an accepted entry, stored from system record to system record.
 pub mod walk;

@@ -139,7 +139,7 @@ module _ (s : List ℕ) (n : ℕ) (w : Walked s n) (fits : n * 81 ≤ length s) 
       nested-turn (contextAt s i) i (blockAt 81 s i) (contextAt s (suc i)) (w .turns i h)
       (unnumbered-at i (omega arith))
 
-  key-rises : (i j : ℕ) → i + j ≤ n → key (contextAt s i) ≤ key (contextAt s (i + j))
+  pub key-rises : (i j : ℕ) → i + j ≤ n → key (contextAt s i) ≤ key (contextAt s (i + j))
   key-rises i zero h = let e : i + 0 ≡ i = omega arith in rw e (omega arith)
   key-rises i (suc j) h =
       let e : i + suc j ≡ suc (i + j) = omega arith in

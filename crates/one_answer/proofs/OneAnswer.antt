@@ -1,9 +1,16 @@
 -- Every promise is an equation between the answer and a definition, and so is that of a lent buffer's final bytes; a part
 -- has its place besides.
 -- Assumes nothing.
+use mathlib.Core.Path.{_≡_, _∙_, ap}
 use Rattle.laws.proofs.Promise.{one-answer}
 use Rattle.paper_entry.proofs.PartPlace.{one-place}
+use Rattle.walker.specs.declared.walker.Walker.{Walker}
 use Rattle.one_answer.specs.OneAnswer.{OneAnswer}
+
+-- a walker is its entry and its walk
+one-walker : (x y : Walker) → x .entry ≡ y .entry → x .walk ≡ y .walk → x ≡ y
+one-walker x y p q =
+    ap (λ e. record { entry = e; walk = x .walk }) p ∙ ap (λ k. record { entry = y .entry; walk = k }) q
 
 pub one-answers : OneAnswer
 one-answers =
@@ -66,4 +73,13 @@ one-answers =
       x4-index-heading = λ κs a x y s t p q. (one-answer (p .0) (q .0), one-answer (p .1) (q .1));
       x4-index-unit = λ κs a x y s t p q. (one-answer (p .0) (q .0), one-answer (p .1) (q .1));
       x4-index-passage = λ κs a x y s t p q. (one-answer (p .0) (q .0), one-answer (p .1) (q .1));
+      start-from-row = λ κs a x y s t p q. one-answer p q;
+      start-walk = λ κs a x y s t p q. one-answer p q;
+      one-on = λ κs a x y s t p q. one-answer (p .0) (q .0);
+      walker-new = λ κs a x y s t p q. one-walker x y (one-answer (p .0) (q .0)) (one-answer (p .1) (q .1));
+      walker-next = λ κs a x y s t p q. (one-answer (p .1 .0) (q .1 .0), one-answer (p .0) (q .0));
+      x4-walk = λ κs a x y s t p q. (one-answer (p .0) (q .0), one-answer (p .1) (q .1));
+      x4-walk-next = λ κs a x y s t p q. (one-answer (p .0) (q .0), one-answer (p .1 .0) (q .1 .0));
+      x4-walk-next-place = λ κs a x y s t p q. (one-answer (p .0) (q .0), one-answer (p .1 .1 .0) (q .1 .1 .0));
+      x4-walk-next-value = λ κs a x y s t p q. (one-answer (p .0) (q .0), one-answer (p .1 .1 .1) (q .1 .1 .1));
     }

@@ -1,2 +1,3 @@
+pub mod ByHand
 pub mod Determined
 pub mod OneAnswer

@@ -4,8 +4,8 @@
 --   "The promise of every public call determines its entire answer and every byte lent to it, refused calls included;
 --   that two answers allowed by it are equal is proved"
 --
--- `Post` is the promise itself: the kit's reading of the call's own `ensures`. Behind it stands what is lent to be
--- written, by its place among the arguments.
+-- `Post` is the promise itself: the kit's reading of the call's own `ensures`, for a walker's two calls ByHand's. Behind it
+-- stands what is lent to be written, by its place among the arguments.
 use denote.Ref.{now}
 use Rattle.number_reading.proofs.read.read_field.Reads as read-field
 use Rattle.number_reading.proofs.read.read_digits.Reads as read-digits
@@ -42,9 +42,9 @@ use Rattle.files_reasons.proofs.explain_file.explain_file.Reads as explain-file
 use Rattle.exports_reasons.proofs.explaining.x4_explain.Reads as explained
 use Rattle.exports_reasons.proofs.explaining.x4_explain_file.Reads as explained-file
 use Rattle.questions_values.proofs.answers.value_from_row.Reads as value-from-row
-use Rattle.questions_parts.proofs.answers.heading_from_row.Reads as heading-from-row
-use Rattle.questions_parts.proofs.answers.unit_from_row.Reads as unit-from-row
-use Rattle.questions_parts.proofs.answers.passage_from_row.Reads as passage-from-row
+use Rattle.questions_columns.proofs.answers.heading_from_row.Reads as heading-from-row
+use Rattle.questions_columns.proofs.answers.unit_from_row.Reads as unit-from-row
+use Rattle.questions_runs.proofs.answers.passage_from_row.Reads as passage-from-row
 use Rattle.index_making.proofs.making.make_index.Reads as make-index
 use Rattle.index_finding.proofs.finding.find_row.Reads as find-row
 use Rattle.index_asking.proofs.asking.value_by_index.Reads as value-by-index
@@ -60,6 +60,12 @@ use Rattle.exports_index.proofs.asking.x4_index_value.Reads as x4-index-value
 use Rattle.exports_index.proofs.asking.x4_index_heading.Reads as x4-index-heading
 use Rattle.exports_index.proofs.asking.x4_index_unit.Reads as x4-index-unit
 use Rattle.exports_index.proofs.asking.x4_index_passage.Reads as x4-index-passage
+use Rattle.walk.proofs.walk.start_from_row.Reads as start-from-row
+use Rattle.walk.proofs.walk.one_on.Reads as one-on
+use Rattle.walk_start.proofs.start.start.Reads as start-walk
+use Rattle.exports_walk.proofs.walking.x4_walk.Reads as x4-walk
+use Rattle.exports_walk.proofs.walking.x4_walk_next.Reads as x4-next
+use Rattle.one_answer.specs.ByHand.{NewPost, NextPost}
 use Rattle.one_answer.specs.Determined.{Determined, DeterminedWith, DeterminedPart}
 
 pub record OneAnswer : Type 0 where
@@ -97,6 +103,12 @@ pub record OneAnswer : Type 0 where
   pub heading-part-by-index : DeterminedPart heading-part-by-index.Post
   pub unit-part-by-index : DeterminedPart unit-part-by-index.Post
   pub passage-part-by-index : DeterminedPart passage-part-by-index.Post
+  pub start-from-row : Determined start-from-row.Post
+  pub start-walk : Determined start-walk.Post
+  pub one-on : Determined one-on.Post
+  pub walker-new : Determined NewPost
+  -- the walker itself is lent
+  pub walker-next : DeterminedWith NextPost (λ κs s. now (s .0))
   -- for host programs
   pub x4-version : Determined x4-version.Post
   pub x4-judge : DeterminedWith x4-judge.Post (λ κs s. now (s .1 .0))
@@ -125,3 +137,8 @@ pub record OneAnswer : Type 0 where
   pub x4-index-heading : DeterminedWith x4-index-heading.Post (λ κs s. now (s .1 .1 .1 .1 .1 .0))
   pub x4-index-unit : DeterminedWith x4-index-unit.Post (λ κs s. now (s .1 .1 .1 .1 .1 .0))
   pub x4-index-passage : DeterminedWith x4-index-passage.Post (λ κs s. now (s .1 .1 .1 .1 .1 .0))
+  pub x4-walk : DeterminedWith x4-walk.Post (λ κs s. now (s .1 .1 .1 .0))
+  -- three arrays are lent: where the walk stands, a place and a value
+  pub x4-walk-next : DeterminedWith x4-next.Post (λ κs s. now (s .1 .0))
+  pub x4-walk-next-place : DeterminedWith x4-next.Post (λ κs s. now (s .1 .1 .0))
+  pub x4-walk-next-value : DeterminedWith x4-next.Post (λ κs s. now (s .1 .1 .1 .0))

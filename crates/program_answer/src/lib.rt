@@ -4,6 +4,7 @@ use paper_number::types::Decimal;
 use paper_number::types::Reading;
 use paper_questions::types::PartAnswer;
 use paper_questions::types::ValueAnswer;
+use paper_walk::types::Given;
 use program_text::say;
 use program_text::say_numbers;
 use program_text::say_power;
@@ -54,6 +55,24 @@ pub fn say_value(v: ValueAnswer) {
     say_reading(r);
     say(b" ", digits as u64);
     io::write_all(1, b"\n");
+}
+
+// A value that a walk gives with its line and column, or that it is done, as a line.
+pub fn say_given(given: Given) {
+    match given {
+        Given::At(line, column, field) => {
+            let r = field.reading;
+            let digits = field.digits;
+            let place = [line.0 as u64, column as u64];
+            say_numbers(b"", &place);
+            say_reading(r);
+            say(b" ", digits as u64);
+            io::write_all(1, b"\n");
+        }
+        Given::Done => {
+            io::write_all(1, b"done\n");
+        }
+    }
 }
 
 // The answer, where the part begins, its length and pointer, and the part itself, as a line.

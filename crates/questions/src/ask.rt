@@ -5,35 +5,19 @@ ghost use Rattle.paper_entry.specs.Part.{Behind};
 ghost use Rattle.paper_questions.specs.ValueAnswers.{valueSaid};
 ghost use Rattle.paper_questions.specs.PartAnswers.{bytesIn};
 ghost use Rattle.paper_questions.specs.Ask.{valueAsked, headingAsked, unitAsked, passageAsked};
-ghost use Rattle.paper_index.specs.Asked.{noRow};
 use entry_verdict::answer::answer_for;
-use paper_entry::types::Verdict;
 use paper_number::types::Reading;
 use paper_questions::types::PartAnswer;
-use paper_questions::types::Row;
 use paper_questions::types::ValueAnswer;
 use paper_record::types::LineNo;
-use questions_parts::answers::heading_from_row;
+use questions_columns::answers::heading_from_row;
+use questions_columns::answers::unit_from_row;
 use questions_parts::answers::no_part;
-use questions_parts::answers::passage_from_row;
-use questions_parts::answers::unit_from_row;
 use questions_parts::handing::part_of;
+use questions_reads::row::no_row;
 use questions_rows::row::locate;
+use questions_runs::answers::passage_from_row;
 use questions_values::answers::value_from_row;
-
-// 31, or 32 where the row has no first record; else 0.
-fn no_row(v: Verdict, row: Row) -> u8
-    ensures { λ r. ⌜ r ≡ noRow v row ⌝ }
-{
-    if v.refusal != 0 {
-        return 31;
-    }
-    let first = row.first;
-    if first.0 == 0 {
-        return 32;
-    }
-    0
-}
 
 // The value in a line and a column of COMMON (section 1) or DATA (section 2) of a subentry.
 pub fn value(entry: &[u8], number: u32, section: u32, line: LineNo, column: u32) -> ValueAnswer

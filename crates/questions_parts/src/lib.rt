@@ -1,3 +1,3 @@
-// The answers to questions for a heading, a unit or a passage, from a row: of any numbers, to any bytes.
+// The part of the entry that an answer names: said by its place, refused, and handed out.
 pub mod answers;
 pub mod handing;

@@ -1,6 +1,6 @@
 //! Holds the library against the reference: on the sample and the sample with flags with every byte changed to every
-//! other, on a transmission with every byte of TRANS and ENDTRANS changed so, and on generated entries with their indexes,
-//! transmissions, number fields and decimals.
+//! other, on a transmission with every byte of TRANS and ENDTRANS changed so, and on generated entries with their indexes and
+//! walks over their tables, transmissions, number fields and decimals.
 //!
 //!     cargo run --release --bin differ -- [--seed N] [--entries N] [--files N] [--numbers N]
 

@@ -27,10 +27,7 @@ pub fn large(random: &mut Random, shape: Shape, records: usize) -> Vec<u8> {
             text((0..records - 7).map(|index| format!("{:11}some words of text, number {index}", keyword(index))))
         }
         Shape::Keywords => text((0..records - 7).map(|index| format!("WORD-{index:05} text"))),
-        Shape::Table => {
-            let table = data(random, 18, (records - 18) / 3);
-            whole(vec![empty(), [empty(), table].concat()])
-        }
+        Shape::Table => large_table(random, 18, records),
         Shape::Subentries => {
             let each = ((records - 6) / 997).max(9);
             let others = ((records - 6) / each).min(997);
@@ -38,6 +35,14 @@ pub fn large(random: &mut Random, shape: Shape, records: usize) -> Vec<u8> {
             whole([vec![empty()], filled.collect()].concat())
         }
     }
+}
+
+/// A valid entry with one table of so many columns, in subentry 2, of at most so many records and nearly as many.
+pub fn large_table(random: &mut Random, columns: usize, records: usize) -> Vec<u8> {
+    // Twelve system records, and as many of headings and of units as a line takes.
+    let k = columns.div_ceil(6);
+    let table = data(random, columns, (records - 12 - 2 * k) / k);
+    whole(vec![empty(), [empty(), table].concat()])
 }
 
 /// An entry of one subentry with these lines of BIB: seven records more.

@@ -1,5 +1,5 @@
 //! Makes inputs for tests: valid entries of every shape, entries damaged in known and unknown ways, transmissions of
-//! both, indexes, number fields and decimals. Everything follows from a seed, so that a printed seed brings an input back.
+//! both, indexes, walks, number fields and decimals. Everything follows from a seed, so that a printed seed brings an input back.
 
 mod below;
 mod damage;
@@ -9,15 +9,17 @@ mod index;
 mod large;
 mod numbers;
 mod sheet;
+mod walk;
 mod workloads;
 
 pub use below::{added, any_bytes, with_below, Below, BELOW, BLANK};
 pub use damage::{damage, damaged, noise, random_bytes, Damage, CAUSES};
 pub use files::{damaged_file, file_input, file_limits, transmission, Parts, FILE_CAUSES};
 pub use index::{alter_entry, alter_index, index_of};
-pub use large::{large, Shape, SHAPES};
+pub use large::{large, large_table, Shape, SHAPES};
 pub use numbers::{decimal, number_field, spelling, usual_spelling};
 pub use sheet::{entry, Kind, Sheet};
+pub use walk::walk;
 pub use workloads::{Workload, WORKLOADS};
 
 /// A small generator of pseudo-random numbers (SplitMix64).

@@ -8,7 +8,7 @@
 //! field is found by trying the shapes of fields in the paper's order of preference. A transmission (M-100) is cut
 //! behind each ENDENTRY, and every piece is judged as an entry of its own. Why it is refused (M-108) is read off the tree
 //! of the records up to the refused one. An index (M-102) is made from the tree, and asked without it, by reads that refuse
-//! one after another.
+//! one after another. A walk over a table (M-112) is begun by the tree, and goes on by its numbers alone.
 
 mod files;
 pub mod flags;
@@ -19,6 +19,7 @@ mod reasons;
 pub mod record;
 mod rules;
 pub mod tree;
+mod walk;
 
 use crate::{Refusal, Verdict};
 pub use files::{copy_file, entry_length, judge_file};
@@ -28,6 +29,7 @@ pub use questions::{canonical_copy, heading, passage, unit, value};
 pub use reasons::{explain, explain_file};
 pub use rules::may_repeat;
 use tree::Tree;
+pub use walk::{walk, walk_next};
 
 /// "An entry is 1 to 20,000 records."
 const MOST_RECORDS: usize = 20_000;

@@ -17,14 +17,14 @@ pub(super) fn accepted(entry: &[u8]) -> Result<Tree<'_>, NoAnswer> {
 }
 
 /// "32 no such subentry, or NOSUBENT"
-fn subentry<'t>(tree: &'t Tree, number: u32) -> Result<&'t Subentry, NoAnswer> {
+pub(super) fn subentry<'t>(tree: &'t Tree, number: u32) -> Result<&'t Subentry, NoAnswer> {
     let digits = format!("{number:03}");
     let found = tree.subentries.iter().find(|subentry| tree.number(subentry) == digits.as_bytes());
     found.filter(|subentry| !subentry.absent).ok_or(NoAnswer::numbered(32))
 }
 
 /// "33 no such section (1 COMMON, 2 DATA, else 33)"
-fn table(subentry: &Subentry, section: u32) -> Result<&Table, NoAnswer> {
+pub(super) fn table(subentry: &Subentry, section: u32) -> Result<&Table, NoAnswer> {
     let found = match section {
         COMMON => subentry.common.as_ref(),
         DATA => subentry.data.as_ref(),

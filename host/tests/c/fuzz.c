@@ -506,6 +506,119 @@ static void indexes(const Buffer *entry, Buffer *index, Buffer *changed, Buffer 
     check(!memcmp(entry->bytes, before, entry->length), "the entry is only read");
 }
 
+/* ---- walks */
+
+static uint64_t walks[64], walked, malformed, ended;
+
+/* five numbers of a walk, against a page */
+static uint32_t *lay_walk(Buffer *b, const uint32_t numbers[5]) {
+    uint32_t *walk = lay_numbers(b, 5);
+    memcpy(walk, numbers, 20);
+    return walk;
+}
+
+/* whether a walk stands at a place of a table that can be */
+static int stands(const uint32_t w[5]) {
+    return w[0] <= 20000 && w[1] <= 18 && w[2] <= 20000 && w[3] >= 1 && w[3] <= w[2] && w[4] >= 1 && w[4] <= w[1];
+}
+
+/* one step: what it stores, where the walk stands then, and the field itself; 0 where it is done */
+static int step(const Buffer *entry, uint32_t *walk, uint64_t stored[8], uint64_t *word) {
+    static Buffer places, field;
+    if (!places.pages) {
+        places = fenced();
+        field = fenced();
+    }
+    uint32_t w[5];
+    memcpy(w, walk, sizeof w);
+    lay(&places, 24);
+    memset(places.bytes, 0xa5, 24);
+    uint64_t *place = (uint64_t *)(void *)places.bytes, *v = lend(8);
+    *word = x4_walk_next(entry->bytes, entry->length, walk, place, v);
+    memcpy(stored, v, 64);
+    check(place[0] == (uint64_t)stands(w), "a value where the walk stands at a place, and nowhere else");
+    if (!place[0]) {
+        check(!*word && !place[1] && !place[2] && !memcmp(w, walk, sizeof w), "done, and staying so");
+        untouched(1);
+        ended++;
+        return 0;
+    }
+    check(place[1] == w[3] && place[2] == w[4], "the place where it stood");
+    check(walk[0] == w[0] && walk[1] == w[1] && walk[2] == w[2], "the table is the same");
+    check(w[4] < w[1] ? walk[3] == w[3] && walk[4] == w[4] + 1 : walk[3] == w[3] + 1 && walk[4] == 1, "one place on");
+    /* k records of headings, k of units, k to a line; what lies outside is blank */
+    size_t k = (w[1] + 5) / 6, record = w[0] + (w[3] + 1) * k + (w[4] - 1) / 6;
+    lay(&field, 11);
+    memset(field.bytes, ' ', 11);
+    if ((record + 1) * RECORD <= entry->length) {
+        memcpy(field.bytes, entry->bytes + record * RECORD + 11 * ((w[4] - 1) % 6), 11);
+    }
+    check(*word == x4_read_number(field.bytes, 11, lend(8)) && !memcmp(lent.bytes, stored, 64), "what the field says");
+    check(*word == 0 || *word == 15, "15 or none");
+    malformed += *word == 15;
+    walked++;
+    return 1;
+}
+
+/* a walk over a table, from place to place, and then done; any other numbers, over changed bytes */
+static void walks_of(const Buffer *entry, Buffer *numbers, Buffer *changed, uint64_t verdict) {
+    static uint8_t before[ROOM];
+    uint64_t stored[8], word;
+    uint32_t kept[5] = {19, 3, 2, 1, 1};
+    memcpy(before, entry->bytes, entry->length);
+    for (int i = 0; i < 3; i++) {
+        size_t at = entry->length >= RECORD ? below(entry->length / RECORD) * RECORD : 0;
+        const uint8_t *r = entry->bytes + at;
+        uint32_t n = entry->length >= RECORD && below(8)
+                         ? (uint32_t)((r[71] - '0') * 100 + (r[72] - '0') * 10 + r[73] - '0')
+                         : (uint32_t)bits();
+        uint32_t section = below(8) ? 1 + (uint32_t)below(2) : (uint32_t)bits();
+        uint32_t *walk = lay_numbers(numbers, 5);
+        memset(walk, 0x5a, 20);
+        word = x4_walk(entry->bytes, entry->length, n, section, walk);
+        walks[x4_refusal(word)]++;
+        told(word, verdict, "\x1f\x20\x21");
+        if (word) {
+            for (int j = 0; j < 5; j++) {
+                check(walk[j] == 0x5a5a5a5a, "a refused call stores nothing");
+            }
+            check(x4_value(entry->bytes, entry->length, n, section, 1, 1, lend(8)) == word, "refused as the value is");
+            continue;
+        }
+        memcpy(kept, walk, sizeof kept);
+        check(walk[3] == 1 && walk[4] == 1 && stands(walk) &&
+                  has_identifier(entry, walk[0], section == 1 ? "COMMON     " : "DATA       "),
+              "at the first place of a section");
+        for (uint32_t line = 1; line <= kept[2]; line++) {
+            for (uint32_t column = 1; column <= kept[1]; column++) {
+                check(step(entry, walk, stored, &word) && !word, "each place of the table");
+                if (!below(8)) {
+                    check(!x4_value(entry->bytes, entry->length, n, section, line, column, lend(8)) &&
+                              !memcmp(lent.bytes, stored, 64),
+                          "the value of the full question");
+                }
+            }
+        }
+        for (int j = 0; j < 3; j++) {
+            check(!step(entry, walk, stored, &word), "done behind the last");
+        }
+    }
+    for (int i = 0; i < 4; i++) {
+        static const uint32_t some[] = {0, 1, 2, 6, 7, 18, 19, 20000, 20001, 0x80000000, 0xffffffff};
+        uint32_t *walk = lay_walk(numbers, kept);
+        for (size_t times = below(4); times > 0; times--) {
+            size_t place = below(5);
+            walk[place] = below(3) ? some[below(11)] : below(2) ? (uint32_t)bits() : walk[place] + 1;
+        }
+        memcpy(work, entry->bytes, entry->length);
+        fill(changed, work, below(2) ? mutate(entry->length) : entry->length);
+        for (int j = 0; j < 20; j++) {
+            step(changed, walk, stored, &word);
+        }
+    }
+    check(!memcmp(entry->bytes, before, entry->length), "the entry is only read");
+}
+
 /* the verdict on an entry; its totals are no more than its records allow */
 static uint64_t judged(const uint8_t *entry, size_t n, uint64_t totals[4]) {
     uint64_t word = x4_judge(entry, n, lend(4)), records = n / RECORD;
@@ -780,6 +893,7 @@ int main(int count, char **words) {
         }
         check(!memcmp(entry.bytes, work, n), "the entry is only read");
         indexes(&entry, &index, &copy, &keyword, verdict, totals);
+        walks_of(&entry, &index, &copy, verdict);
         transmissions(&entry, &copy, &again, (size_t)count - 3, words + 3);
     }
     printf("seeds %" PRIu64 " to %" PRIu64 ": %" PRIu64 " entries accepted, ", first, first + rounds - 1, accepted);
@@ -796,6 +910,13 @@ int main(int count, char **words) {
         }
     }
     printf(", %" PRIu64 " of them the full answers, %" PRIu64 " rows found", own_answers, rows_found);
+    printf("; walks by refusal");
+    for (int i = 0; i < 64; i++) {
+        if (walks[i]) {
+            printf(" %d:%" PRIu64, i, walks[i]);
+        }
+    }
+    printf(", %" PRIu64 " values, %" PRIu64 " fields malformed, %" PRIu64 " times done", walked, malformed, ended);
     printf("; transmissions by refusal");
     for (int i = 0; i < 64; i++) {
         if (file_refusals[i]) {

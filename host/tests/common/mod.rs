@@ -9,6 +9,10 @@ use std::io::Write;
 use std::path::{Path, PathBuf};
 use std::process::Command;
 
+/// The short run of the comparison: a long one is `cargo run --release --bin differ`.
+pub const SEED: u64 = 7;
+pub const ENTRIES: u64 = 3_000;
+
 /// Who is held against what is written in the tests.
 pub const BOTH: [&dyn Implementation; 2] = [&Library, &Reference];
 
@@ -227,6 +231,11 @@ pub const C: [&str; 7] = ["-std=c11", "-O2", "-Wall", "-Wextra", "-Werror", "-pe
 /// Said past the test's own output, which nobody sees when a test passes.
 pub fn say(words: &str) {
     std::io::stderr().write_all(format!("{words}\n").as_bytes()).unwrap();
+}
+
+/// A refusal with zeros beside it.
+pub fn none(number: u32) -> NoAnswer {
+    NoAnswer { number, entry: None }
 }
 
 /// What programs of other languages print of a refused question or copy.

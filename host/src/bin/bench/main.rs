@@ -1,10 +1,10 @@
 //! Times the library beside the reference and beside other readers of numbers: same process, same input, medians.
 //!
-//!     cargo run --release --bin bench [-- --plot FILE | --index | --peer FILE [--samples N] | --help]
+//!     cargo run --release --bin bench [-- --plot FILE | --index | --walk | --peer FILE [--samples N] | --help]
 //!
 //! Each line has the time of one field, value or record: the median, its ratio to the library's, and the least, which
 //! says more where the machine had other work. `--plot` draws the times of judging, by the number of records, as SVG.
-//! `--index` times the index and the questions by it alone.
+//! `--index` times the index and the questions by it alone, `--walk` tables that are gone through value by value.
 //! `--peer` times the library beside a reader written by hand instead: see `beside.rs`.
 
 #![forbid(unsafe_code)]
@@ -378,10 +378,96 @@ fn making(entry: &Vec<u8>) {
     table(&format!("Making an index beside judging, {n} records: time of a record"), &rows);
 }
 
+/// Times these by turns, by the processor's clock of the thread, so that a slow spell of the machine meets all alike: of
+/// one of so many parts.
+fn by_turns<const N: usize>(parts: usize, mut runs: [&mut dyn FnMut(); N]) -> [Time; N] {
+    let mut samples = vec![vec![]; N];
+    for _ in 0..=RUNS {
+        for (run, samples) in runs.iter_mut().zip(&mut samples) {
+            let start = boundary::processor_time();
+            run();
+            samples.push(boundary::processor_time() - start);
+        }
+    }
+    std::array::from_fn(|run| Time::of(&mut samples[run..=run], parts))
+}
+
+/// Times tables that are gone through by a walk (M-112), beside one judging and the reading of their fields one by one.
+fn walking() {
+    for columns in [18, 3] {
+        let entry = generate::large_table(&mut Random::seeded(1), columns, 20_000);
+        let values = library::values(&entry, 2, DATA).expect("it is accepted");
+        let (first, count, k) = (values.walk(), values.len(), columns.div_ceil(6));
+        let records: Vec<&[u8]> = entry.chunks_exact(RECORD).skip(first[0] as usize + 2 * k).collect();
+        let line = |records: &[&[u8]]| -> Vec<[u8; 11]> {
+            let fields = records.iter().flat_map(|record| record[..66].chunks_exact(11)).take(columns);
+            fields.map(|field| field.try_into().expect("eleven bytes")).collect()
+        };
+        let fields: Vec<[u8; 11]> = records.chunks(k).take(values.lines() as usize).flat_map(line).collect();
+        let read = fields.iter().map(|field| library::read_number(field).expect("in form"));
+        assert!(values.map(|placed| placed.read).eq(read) && fields.len() == count);
+        let judge = || {
+            black_box(library::judge(black_box(&entry)));
+        };
+        let read = || {
+            for field in &fields {
+                let _ = black_box(library::read_number(black_box(field)));
+            }
+        };
+        let begin = || {
+            let _ = black_box(library::walk(black_box(&entry), 2, DATA));
+        };
+        let values = || {
+            for placed in library::values(black_box(&entry), 2, DATA).expect("it is accepted") {
+                black_box(placed);
+            }
+        };
+        let steps = || {
+            let mut walk = black_box(first);
+            while let Some(given) = library::walk_next(black_box(&entry), &mut walk) {
+                let _ = black_box(given);
+            }
+        };
+        let [both, gone, alone, stepped, judged, begun] = by_turns(
+            count,
+            [
+                &mut || {
+                    judge();
+                    read();
+                },
+                &mut || values(),
+                &mut || read(),
+                &mut || steps(),
+                &mut || judge(),
+                &mut || begin(),
+            ],
+        );
+        let rows = [
+            ("judging, and library::read_number", both),
+            ("library::values, all of them", gone),
+            ("library::read_number alone", alone),
+            ("library::walk_next alone", stepped),
+            ("library::judge alone", judged),
+            ("library::walk alone", begun),
+        ];
+        let n = entry.len() / RECORD;
+        table(&format!("A table of {columns} columns gone through, {n} records: time of a value, of {count}"), &rows);
+        for (name, one, other) in [
+            ("gone through, beside judging and reading", gone, both),
+            ("a step beside a reading", stepped, alone),
+            ("begun beside judged", begun, judged),
+        ] {
+            let (median, least) = (one.median / other.median, one.least / other.least);
+            println!("  {name}: {median:.2}, by the least times {least:.2}");
+        }
+    }
+}
+
 const HELP: &str = "\
 bench                              times the library beside the reference and other readers of numbers
 bench --plot FILE                  the same, and draws the times of judging as SVG
 bench --index                      times the index, the questions by it and the tables alone
+bench --walk                       times tables gone through value by value, beside judging and reading, alone
 bench --peer FILE [--samples N]    times the library beside the reader in FILE, and prints ratios
 
 FILE is a module in Rust without dependencies. It is compiled with this program's sources, in target/peer, and has to
@@ -415,6 +501,7 @@ fn times(plot_file: Option<&str>) -> std::io::Result<()> {
     let plot = judging();
     asking();
     by_index();
+    walking();
     transmissions();
     plot_file.map_or(Ok(()), |file| std::fs::write(file, plot.svg()))
 }
@@ -428,11 +515,11 @@ fn is_proved() -> bool {
     proved
 }
 
-/// The tables of times by an index alone.
-fn index_times() -> std::io::Result<()> {
+/// Some tables of times alone.
+fn alone(times: fn()) -> std::io::Result<()> {
     println!("answered {}", library::who_answers());
     if is_proved() {
-        by_index();
+        times();
     }
     Ok(())
 }
@@ -443,7 +530,8 @@ fn main() -> std::io::Result<()> {
     match words[..] {
         [] => times(None),
         ["--plot", file] => times(Some(file)),
-        ["--index"] => index_times(),
+        ["--index"] => alone(by_index),
+        ["--walk"] => alone(walking),
         ["--peer", file] => beside::run(file, RUNS),
         ["--peer", file, "--samples", samples] => match samples.parse() {
             Ok(0) | Err(_) => help(),

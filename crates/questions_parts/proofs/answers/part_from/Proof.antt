@@ -1,5 +1,4 @@
 use Prim.Native.Nat.{_+_}
-use Rattle.laws.specs.Search.{first}
 use Rattle.paper_questions.specs.PartAnswers.{noPart}
 use borrow.Author.Tests.{le-leb, lt-leb}
 use lib.ListN.{length}

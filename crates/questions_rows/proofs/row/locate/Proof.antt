@@ -1,7 +1,6 @@
-use Rattle.paper_entry.proofs.Lengths.{accepted-good}
 use Rattle.paper_entry.specs.declared.types.Verdict.{Verdict}
-use Rattle.paper_questions.proofs.FoundRow.{found-row, refused-row}
-use Rattle.questions_rows.proofs.Rows.{met-empty}
+use Rattle.paper_questions.proofs.FoundRow.{refused-row}
+use Rattle.system_records.proofs.MetRows.{met-empty}
 use mathlib.Core.Path.{_∙_, ap, sym}
 use borrow.Author.Needs.{needs}
 use Rattle.questions_rows.proofs.row.locate.Statement.{statement}
@@ -10,7 +9,7 @@ use Rattle.questions_rows.proofs.row.locate.Reads as reads
 use Rattle.questions_rows.proofs.row.locate.Lts as lts
 use Rattle.entry.proofs.judge.judge.Reads as judge-reads
 use Rattle.questions_noted.proofs.row.empty_row.Reads as empty-row-reads
-use Rattle.questions_rows.proofs.row.row_of.Reads as row-of-reads
+use Rattle.questions_system.proofs.row.row_of.Reads as row-of-reads
 
 judge-requires : tie.Need-judge-requires
 judge-requires c κs = search needs
@@ -29,15 +28,12 @@ returns c =
 row-of-requires : tie.Need-row-of-requires
 row-of-requires c κs =
     let judged = c .before .before .judge .ensures in
-    accepted-good _ (ap (λ (v : Verdict). v .refusal) (sym judged) ∙ c .if1 .left)
+    ap (λ (v : Verdict). v .refusal) (sym judged) ∙ c .if1 .left
 
 returns-2 : tie.Need-returns-2
 returns-2 c =
     let judged = c .before .before .before .judge .ensures in
-    let accepted = ap (λ (v : Verdict). v .refusal) (sym judged) ∙ c .before .if1 .left in (
-      λ k. record { verdict = judged k; row = (c .row-of .ensures .0 ∙ sym (found-row _ _ accepted)) k },
-      c .row-of .ensures .1,
-    )
+    (λ k. record { verdict = judged k; row = c .row-of .ensures .0 k }, c .row-of .ensures .1)
 
 pub locate-spec : {M : Type 1} → statement M
 locate-spec =

@@ -1,0 +1,2 @@
+pub mod StartByRow
+pub mod Walked

@@ -1,0 +1,2 @@
+// Values in order: making a walk.
+pub mod start;
