@@ -23,7 +23,7 @@ use Rattle.paper_walk.specs.declared.types.Given.the-variants.{At, Done}
 use Rattle.paper_walk.specs.Walk.{doneWalk, walkFrom, startBy, startOf, stands, onward, fieldNext, stepOf, placedAt, lineNo}
 use Rattle.paper_walk.specs.Walk.{after, givenAt}
 use Rattle.exports_words.specs.Words.{answerWord, answerIn, lentAfter}
-use Rattle.exports_parts.specs.Walks.{walkNumbers, walkStored, walkIn, placeNumbers, givenAnswer, givenStored}
+use Rattle.exports_places.specs.Walks.{walkNumbers, walkStored, walkIn, placeNumbers, givenAnswer, givenStored}
 use Rattle.exports_back.specs.WalkClaims.{givenIn, StartBack, GivenBack, OnwardBack}
 use Rattle.exports_back.specs.WalkClaims.{numbersAfter, NumbersAfter, CallsGive, CallsFromStart}
 use Rattle.exports_back.proofs.Laws.{word-back, answer-fits, plain-fits}

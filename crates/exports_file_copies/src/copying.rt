@@ -7,7 +7,6 @@ ghost use Rattle.exports_words.specs.Words.{answerWord};
 use exports_words::words::answer_word;
 use files_copy::copy_file::copy_file;
 use files_parts::parts::entry_length;
-use paper_entry::types::Answer;
 
 // How many bytes the entry has that begins with the byte `at` of a file, 0 where none does.
 #[no_mangle]
@@ -23,17 +22,5 @@ pub extern "C" fn x4_copy_file(file: &[u8], out: &mut [u8]) -> u64
     ensures { λ r. ⌜ r ≡ answerWord (copiedFile (now (file .entry)) (length (now (out .entry)))) ⌝ }
     ensures { λ r. ⌜ now (out .exit) ≡ storedFile (now (file .entry)) (now (out .entry)) ⌝ }
 {
-    let c = copy_file(file, out);
-    let number = c.number;
-    let refusal = c.refusal;
-    let record = c.record;
-    let column = c.column;
-    let ordinal = c.ordinal;
-    answer_word(Answer {
-        number,
-        refusal,
-        record,
-        column,
-        ordinal,
-    })
+    answer_word(copy_file(file, out))
 }

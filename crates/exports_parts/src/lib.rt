@@ -1,3 +1,2 @@
 // What the calls about questions store and return.
 pub mod parts;
-pub mod walks;

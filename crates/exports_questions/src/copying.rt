@@ -5,7 +5,6 @@ ghost use Rattle.paper_copy.specs.Call.{copied, storedCopy};
 ghost use Rattle.exports_words.specs.Words.{answerWord};
 use copy::copy::copy;
 use exports_words::words::answer_word;
-use paper_entry::types::Answer;
 
 // Stores the copy of an entry in a buffer that may be longer: 0 done, else the word of refusal 31 or 37.
 #[no_mangle]
@@ -13,17 +12,5 @@ pub extern "C" fn x4_copy(entry: &[u8], out: &mut [u8]) -> u64
     ensures { λ r. ⌜ r ≡ answerWord (copied (now (entry .entry)) (length (now (out .entry)))) ⌝ }
     ensures { λ r. ⌜ now (out .exit) ≡ storedCopy (now (entry .entry)) (now (out .entry)) ⌝ }
 {
-    let c = copy(entry, out);
-    let number = c.number;
-    let refusal = c.refusal;
-    let record = c.record;
-    let column = c.column;
-    let ordinal = c.ordinal;
-    answer_word(Answer {
-        number,
-        refusal,
-        record,
-        column,
-        ordinal,
-    })
+    answer_word(copy(entry, out))
 }

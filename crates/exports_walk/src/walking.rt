@@ -2,11 +2,11 @@
 ghost use mathlib.Core.Path.{_≡_};
 ghost use Rattle.paper_walk.specs.Walk.{startOf, stepOf};
 ghost use Rattle.exports_words.specs.Words.{answerWord};
-ghost use Rattle.exports_parts.specs.Walks.{walkNumbers, walkStored, walkIn, placeNumbers, givenAnswer, givenStored};
-use exports_parts::walks::put_given;
-use exports_parts::walks::put_walk;
-use exports_parts::walks::walk_in;
-use exports_parts::walks::walk_numbers;
+ghost use Rattle.exports_places.specs.Walks.{walkNumbers, walkStored, walkIn, placeNumbers, givenAnswer, givenStored};
+use exports_places::walks::put_given;
+use exports_places::walks::put_walk;
+use exports_places::walks::walk_in;
+use exports_places::walks::walk_numbers;
 use walk::walk::one_on;
 use walk_start::start::start;
 

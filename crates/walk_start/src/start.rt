@@ -5,8 +5,8 @@ use entry_verdict::answer::answer_for;
 use paper_walk::types::Walk;
 use questions_reads::row::no_row;
 use questions_rows::row::locate;
-use walk::walk::done_walk;
 use walk::walk::start_from_row;
+use walk_places::places::done_walk;
 
 // The walk over the values of COMMON (section 1) or DATA (section 2) of a subentry; refused by 31, 32 or 33 it is done.
 pub fn start(entry: &[u8], number: u32, section: u32) -> Walk

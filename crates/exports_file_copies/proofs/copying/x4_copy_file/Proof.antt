@@ -15,7 +15,7 @@ same-length c = search needs
 
 returns : tie.Need-returns
 returns c =
-    let e = c .before .before .before .before .copy-file .ensures in
+    let e = c .before .before .before .copy-file .ensures in
     (c .answer-word .ensures ∙ ap answerWord (e .0), e .1)
 
 pub x4-copy-file-spec : {M : Type 1} → statement M

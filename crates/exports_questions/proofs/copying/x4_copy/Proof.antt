@@ -15,7 +15,7 @@ same-length c = search needs
 
 returns : tie.Need-returns
 returns c =
-    let e = c .before .before .before .before .copy .ensures in
+    let e = c .before .before .before .copy .ensures in
     (c .answer-word .ensures ∙ ap answerWord (e .0), e .1)
 
 pub x4-copy-spec : {M : Type 1} → statement M

@@ -1,6 +1,6 @@
 use mathlib.Core.Path.{_≡_, _∙_, ap}
 use Rattle.paper_walk.specs.Walk.{stepOf}
-use Rattle.exports_parts.specs.Walks.{walkIn}
+use Rattle.exports_places.specs.Walks.{walkIn}
 use borrow.Author.Needs.{needs}
 use Rattle.exports_walk.proofs.walking.x4_walk_next.Statement.{statement}
 use Rattle.exports_walk.proofs.walking.x4_walk_next.Tie as tie

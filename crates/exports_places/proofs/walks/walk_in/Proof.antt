@@ -1,7 +1,7 @@
 use mathlib.Core.Path.{refl}
 use borrow.Author.Needs.{needs}
-use Rattle.exports_parts.proofs.walks.walk_in.Statement.{statement}
-use Rattle.exports_parts.proofs.walks.walk_in.Tie as tie
+use Rattle.exports_places.proofs.walks.walk_in.Statement.{statement}
+use Rattle.exports_places.proofs.walks.walk_in.Tie as tie
 
 answer-of-requires : tie.Need-answer-of-requires
 answer-of-requires c κs = search needs

@@ -2,8 +2,8 @@ use mathlib.Core.Path.{sym}
 use native.Mathlib.Omega.{arith}
 use Rattle.paper_walk.proofs.Standing.{standing}
 use Rattle.paper_walk.proofs.Steps.{onward-right, onward-below}
-use Rattle.walk.proofs.walk.onward.Statement.{statement}
-use Rattle.walk.proofs.walk.onward.Tie as tie
+use Rattle.walk_places.proofs.places.onward.Statement.{statement}
+use Rattle.walk_places.proofs.places.onward.Tie as tie
 
 returns : tie.Need-returns
 returns c =

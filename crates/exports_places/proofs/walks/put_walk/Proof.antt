@@ -3,10 +3,10 @@ use mathlib.Core.Bool.{true, false}
 use lib.Dec.{eqb}
 use borrow.Author.Tests.{eq-eqb, ne-eqb}
 use Rattle.exports_words.specs.Words.{lentAfter}
-use Rattle.exports_parts.specs.Walks.{walkStored}
+use Rattle.exports_places.specs.Walks.{walkStored}
 use borrow.Author.Needs.{needs}
-use Rattle.exports_parts.proofs.walks.put_walk.Statement.{statement}
-use Rattle.exports_parts.proofs.walks.put_walk.Tie as tie
+use Rattle.exports_places.proofs.walks.put_walk.Statement.{statement}
+use Rattle.exports_places.proofs.walks.put_walk.Tie as tie
 
 answer-word-requires : tie.Need-answer-word-requires
 answer-word-requires c κs = search needs

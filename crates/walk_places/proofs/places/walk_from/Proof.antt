@@ -1,7 +1,7 @@
 use mathlib.Core.Path.{refl}
 use borrow.Author.Needs.{needs}
-use Rattle.walk.proofs.walk.walk_from.Statement.{statement}
-use Rattle.walk.proofs.walk.walk_from.Tie as tie
+use Rattle.walk_places.proofs.places.walk_from.Statement.{statement}
+use Rattle.walk_places.proofs.places.walk_from.Tie as tie
 
 answer-of-requires : tie.Need-answer-of-requires
 answer-of-requires c κs = search needs

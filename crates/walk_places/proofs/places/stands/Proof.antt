@@ -2,8 +2,8 @@ use mathlib.Core.Path.{refl}
 use borrow.Author.Tests.{le-leb, lt-leb}
 use borrow.Author.Needs.{needs}
 use Rattle.paper_walk.specs.Walk.{stands}
-use Rattle.walk.proofs.walk.stands.Statement.{statement}
-use Rattle.walk.proofs.walk.stands.Tie as tie
+use Rattle.walk_places.proofs.places.stands.Statement.{statement}
+use Rattle.walk_places.proofs.places.stands.Tie as tie
 
 returns : tie.Need-returns
 unfolding stands

@@ -1,8 +1,8 @@
 use mathlib.Core.Path.{refl}
 use Rattle.exports_words.specs.Words.{answerWord}
 use borrow.Author.Needs.{needs}
-use Rattle.exports_parts.proofs.walks.put_given.Statement.{statement}
-use Rattle.exports_parts.proofs.walks.put_given.Tie as tie
+use Rattle.exports_places.proofs.walks.put_given.Statement.{statement}
+use Rattle.exports_places.proofs.walks.put_given.Tie as tie
 
 enum-known-given : tie.Need-enum-known-given
 enum-known-given c = search needs

@@ -1,7 +1,7 @@
 // What the calls about a walk store in the numbers that the caller lends.
 ghost use mathlib.Core.Path.{_≡_};
 ghost use Rattle.exports_words.specs.Words.{answerWord};
-ghost use Rattle.exports_parts.specs.Walks.{walkNumbers, walkStored, walkIn, placeNumbers, givenAnswer, givenStored};
+ghost use Rattle.exports_places.specs.Walks.{walkNumbers, walkStored, walkIn, placeNumbers, givenAnswer, givenStored};
 use entry_verdict::answer::answer_of;
 use exports_words::values::put_reading;
 use exports_words::words::answer_word;

@@ -1,0 +1,2 @@
+// What the calls about a walk store and return.
+pub mod walks;

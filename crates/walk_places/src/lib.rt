@@ -1,0 +1,2 @@
+// Where a walk stands, by its numbers alone.
+pub mod places;
