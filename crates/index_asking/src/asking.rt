@@ -7,9 +7,9 @@ use paper_questions::types::ValueAnswer;
 use paper_record::types::LineNo;
 use questions_columns::answers::heading_from_row;
 use questions_columns::answers::unit_from_row;
+use questions_fields::fields::refused_value;
 use questions_parts::answers::refused_part;
 use questions_runs::answers::passage_from_row;
-use questions_values::answers::refused_value;
 use questions_values::answers::value_from_row;
 
 // The value in a line and a column of COMMON (section 1) or DATA (section 2) of a subentry.

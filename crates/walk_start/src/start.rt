@@ -3,7 +3,7 @@ ghost use mathlib.Core.Path.{_≡_};
 ghost use Rattle.paper_walk.specs.Walk.{startOf};
 use entry_verdict::answer::answer_for;
 use paper_walk::types::Walk;
-use questions_reads::row::no_row;
+use questions_numbers::row::no_row;
 use questions_rows::row::locate;
 use walk::walk::start_from_row;
 use walk_places::places::done_walk;

@@ -11,9 +11,9 @@ use Rattle.questions_columns.proofs.answers.column_read.Tie as tie
 use Rattle.questions_columns.proofs.answers.column_read.Reads as reads
 use Rattle.questions_columns.proofs.answers.column_read.Lts as lts
 use Rattle.questions_places.proofs.place.shape_from.Reads as shape-from-reads
-use Rattle.questions_reads.proofs.reads.is_counted.Reads as is-counted-reads
+use Rattle.questions_numbers.proofs.numbers.is_counted.Reads as is-counted-reads
 use Rattle.questions_reads.proofs.reads.read_section.Reads as read-section-reads
-use Rattle.questions_reads.proofs.reads.table_identifier.Reads as table-identifier-reads
+use Rattle.questions_numbers.proofs.numbers.table_identifier.Reads as table-identifier-reads
 
 table-identifier-requires : tie.Need-table-identifier-requires
 table-identifier-requires c κs = search needs

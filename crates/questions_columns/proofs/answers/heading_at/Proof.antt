@@ -9,7 +9,7 @@ use Rattle.questions_columns.proofs.answers.heading_at.Lts as lts
 use Rattle.questions_columns.proofs.answers.is_heading.Reads as is-heading-reads
 use Rattle.questions_parts.proofs.answers.both.Reads as both-reads
 use Rattle.questions_places.proofs.place.field_of.Reads as field-of-reads
-use Rattle.questions_reads.proofs.reads.in_entry.Reads as in-entry-reads
+use Rattle.questions_numbers.proofs.numbers.in_entry.Reads as in-entry-reads
 
 in-entry-requires : tie.Need-in-entry-requires
 in-entry-requires c κs = search needs

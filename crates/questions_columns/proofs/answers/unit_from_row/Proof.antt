@@ -15,7 +15,7 @@ use Rattle.questions_parts.proofs.answers.refused_part.Reads as refused-part-re
 use Rattle.questions_places.proofs.place.byte_of.Reads as byte-of-reads
 use Rattle.questions_places.proofs.place.heading_place.Reads as heading-place-reads
 use Rattle.questions_places.proofs.place.unit_place.Reads as unit-place-reads
-use Rattle.questions_reads.proofs.reads.section_in.Reads as section-in-reads
+use Rattle.questions_numbers.proofs.numbers.section_in.Reads as section-in-reads
 
 section-in-requires : tie.Need-section-in-requires
 section-in-requires c κs = search needs

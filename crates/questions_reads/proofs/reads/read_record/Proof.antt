@@ -7,7 +7,7 @@ use Rattle.questions_reads.proofs.reads.read_record.Tie as tie
 use Rattle.questions_reads.proofs.reads.read_record.Reads as reads
 use Rattle.questions_reads.proofs.reads.read_record.Lts as lts
 use Rattle.questions_places.proofs.place.field_at.Reads as field-at-reads
-use Rattle.questions_reads.proofs.reads.in_entry.Reads as in-entry-reads
+use Rattle.questions_numbers.proofs.numbers.in_entry.Reads as in-entry-reads
 use Rattle.questions_reads.proofs.reads.read_counts.Reads as read-counts-reads
 use Rattle.record_names.proofs.identifier.identifier_of.Reads as identifier-of-reads
 

@@ -10,7 +10,7 @@ use Rattle.questions_reads.proofs.reads.read_section.Statement.{stateme
 use Rattle.questions_reads.proofs.reads.read_section.Tie as tie
 use Rattle.questions_reads.proofs.reads.read_section.Reads as reads
 use Rattle.questions_reads.proofs.reads.read_section.Lts as lts
-use Rattle.questions_reads.proofs.reads.first_refusal.Reads as first-refusal-reads
+use Rattle.questions_first.proofs.first.first_refusal.Reads as first-refusal-reads
 use Rattle.questions_reads.proofs.reads.read_record.Reads as read-record-reads
 use Rattle.record_names.proofs.identifier.names.Reads as names-reads
 

@@ -11,12 +11,12 @@ use Rattle.questions_values.proofs.answers.value_from_row.Reads as read
 use Rattle.questions_values.proofs.answers.value_from_row.Lts as lts
 use Rattle.columns_places.proofs.places.place_of.Reads as place-of-reads
 use Rattle.questions_places.proofs.place.shape_from.Reads as shape-from-reads
-use Rattle.questions_reads.proofs.reads.is_counted.Reads as is-counted-reads
+use Rattle.questions_numbers.proofs.numbers.is_counted.Reads as is-counted-reads
 use Rattle.questions_reads.proofs.reads.read_section.Reads as read-section-reads
-use Rattle.questions_reads.proofs.reads.section_in.Reads as section-in-reads
-use Rattle.questions_reads.proofs.reads.table_identifier.Reads as table-identifier-reads
-use Rattle.questions_values.proofs.answers.refused_value.Reads as refused-value-reads
-use Rattle.questions_values.proofs.answers.value_at.Reads as value-at-reads
+use Rattle.questions_numbers.proofs.numbers.section_in.Reads as section-in-reads
+use Rattle.questions_numbers.proofs.numbers.table_identifier.Reads as table-identifier-reads
+use Rattle.questions_fields.proofs.fields.refused_value.Reads as refused-value-reads
+use Rattle.questions_fields.proofs.fields.value_at.Reads as value-at-reads
 
 section-in-requires : tie.Need-section-in-requires
 section-in-requires c κs = search needs

@@ -1,0 +1,2 @@
+// The subentry's first record, as a question reads it.
+pub mod first;
