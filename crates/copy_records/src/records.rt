@@ -1,44 +1,17 @@
 // A record of the copy: its number fields made canonical, every other byte as it is.
 ghost use mathlib.Core.Path.{_≡_};
-ghost use Prim.Native.Nat.{_+_, _<_, _≤_};
+ghost use Prim.Native.Nat.{_+_, _≤_};
 ghost use lib.ListN.{length, drop};
 ghost use lib.Seq.{paste};
 ghost use Rattle.paper_copy.specs.Replaced.{replaced, mask};
 ghost use Rattle.paper_record.specs.Columns.{Whole};
 ghost use Rattle.rules_flags.specs.Lent.{WholeRecords};
-ghost use Rattle.paper_copy.specs.CopyField.{valueField, numberIn, copyField};
+ghost use Rattle.paper_copy.specs.CopyField.{numberIn, copyField};
 use columns::fields::field;
 use copy_fields::fields::put_field;
+use copy_masks::masks::is_number_field;
 use paper_rules::types::Track;
-use rules_flags::flags::is_flag_column;
-use rules_roles::roles::COMMON_VALUE;
-use rules_roles::roles::DATA_VALUE;
 use rules_roles::roles::is_value;
-use rules_state::state::used;
-
-// Whether the field k of a record with this role is a value field.
-fn is_value_field(t: Track, role: usize, k: usize) -> bool
-    ensures { λ r. ⌜ r ≡ valueField t role k ⌝ }
-{
-    if role == COMMON_VALUE {
-        return k < used(t);
-    }
-    if role == DATA_VALUE {
-        return k < used(t);
-    }
-    false
-}
-
-// Whether it is a number field: none under FLAG or DECAY-FLAG is one.
-fn is_number_field(t: Track, table: &[u8], role: usize, k: usize) -> bool
-    requires { ⌜ WholeRecords (now table) × (k < 6) ⌝ }
-    ensures { λ r. ⌜ r ≡ numberIn (now (table .entry)) t role k ⌝ }
-{
-    if !is_value_field(t, role, k) {
-        return false;
-    }
-    !is_flag_column(t, table, k)
-}
 
 // The six fields; `table` are the heading records of the table in hand.
 fn copy_fields<'a>(out: &mut [u8], at: usize, t: Track, table: &'a [u8], role: usize, rec: &'a [u8])

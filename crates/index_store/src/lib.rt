@@ -1,4 +1,3 @@
-// Making an index: what is refused, and what a record leaves in the rows.
-pub mod noted;
+// Making an index: what is refused, and a row stored.
 pub mod refusal;
 pub mod store;

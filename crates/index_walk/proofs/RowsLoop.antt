@@ -31,7 +31,7 @@ use Rattle.index_rows.proofs.Opened.{opened-length, opened-rises, opened-more, 
 use Rattle.index_rows.proofs.Opened.{last-in-hand, opened-start, by-opening}
 use Rattle.index_rows.proofs.RowsWalked.{row-noted, row-plain, row-new, rows-more, rows-last, rows-before}
 use Rattle.index_rows.proofs.RowsWalked.{rows-plain, section-open, rows-done}
-use Rattle.index_store.specs.Noting.{isNoted, rowBehind, storedBehind, RoomBehind}
+use Rattle.index_noted.specs.Noting.{isNoted, rowBehind, storedBehind, RoomBehind}
 use Rattle.system_records.specs.Next.{DueAt, recordsInside, handBehind}
 use Rattle.system_records.proofs.RowFollowed.{row-begun, same-role, hand-then, due-there, hand-there, row-there, opened-there}
 use Rattle.index_walk.specs.Room.{IndexRoom, rowsBehind}

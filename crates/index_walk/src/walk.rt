@@ -5,7 +5,7 @@ ghost use Rattle.paper_rules.specs.Limits.{MOST-RECORDS};
 ghost use Rattle.paper_index.specs.Rows.{indexOf};
 ghost use Rattle.paper_index.specs.Making.{over};
 ghost use Rattle.index_walk.specs.Room.{IndexRoom, rowsBehind};
-use index_store::noted::note_row;
+use index_noted::noted::note_row;
 use paper_record::types::RecordNo;
 use questions_noted::row::empty_row;
 use questions_system::system::system_at;

@@ -1,21 +1,18 @@
 // The answers about a heading and a unit from a row, whatever bytes and numbers these are.
 ghost use mathlib.Core.Path.{_≡_};
-ghost use mathlib.Core.Bool.{not, _&&_};
 ghost use mathlib.Core.List.{[], _∷_, _++_};
 ghost use Prim.Native.Nat.{_≤_};
-ghost use Rattle.paper_record.specs.Word.{isWord, pointerOf};
-ghost use Rattle.paper_record.specs.Faults.{badPointer};
 ghost use Rattle.paper_rules.specs.Limits.{MOST-COLUMNS};
 ghost use Rattle.paper_entry.specs.Answer.{refusal, firstOf};
-ghost use Rattle.paper_questions.specs.Place.{shapeOf, fieldOf, InSection};
+ghost use Rattle.paper_questions.specs.Place.{shapeOf, InSection};
 ghost use Rattle.paper_questions.specs.Refused.{noColumn};
-ghost use Rattle.paper_index.specs.Reads.{readRefusals, tableIdentifier, goodHeading, goodUnit};
+ghost use Rattle.paper_index.specs.Reads.{readRefusals, tableIdentifier};
 ghost use Rattle.paper_index.specs.TableAnswers.{headingFromRow, unitFromRow};
 use paper_questions::types::PartAnswer;
 use paper_questions::types::Row;
-use paper_record::types::Place;
 use paper_record::types::RecordNo;
-use questions_numbers::numbers::in_entry;
+use questions_headings::headings::heading_at;
+use questions_headings::headings::unit_at;
 use questions_numbers::numbers::is_counted;
 use questions_numbers::numbers::section_in;
 use questions_numbers::numbers::table_identifier;
@@ -23,25 +20,15 @@ use questions_parts::answers::both;
 use questions_parts::answers::part_from;
 use questions_parts::answers::refused_part;
 use questions_places::place::byte_of;
-use questions_places::place::field_of;
 use questions_places::place::heading_place;
 use questions_places::place::shape_from;
 use questions_places::place::unit_place;
 use questions_reads::reads::read_section;
-use record_faults::faults::bad_pointer;
-use record_faults::faults::is_unit;
-use record_words::word::is_word;
 
 // What is read before the field that is asked for: the number of the first refusal, or 0 and the section's columns.
 struct ColumnRead {
     number: u8,
     columns: u32,
-}
-
-// A heading's field: whether it is in its form, and its eleventh column.
-struct HeadingRead {
-    good: bool,
-    pointer: u8,
 }
 
 // The subentry's first record, the section's, and the column that it has.
@@ -69,43 +56,6 @@ fn column_read(entry: &[u8], row: Row, at: RecordNo, section: u32, column: u32) 
         };
     }
     ColumnRead { number: 0, columns }
-}
-
-// Whether a field is a heading: a word, and a pointer or blank.
-fn is_heading(f: [u8; 11]) -> bool
-    ensures { λ r. ⌜ r ≡ isWord 10 f && not (badPointer f) ⌝ }
-{
-    if bad_pointer(f) {
-        return false;
-    }
-    is_word(f)
-}
-
-// Whether the heading at a place can be read there, and its pointer.
-fn heading_at(entry: &[u8], place: Place) -> HeadingRead
-    requires { ⌜ place .field ≤ 5 ⌝ }
-    ensures { λ r. ⌜ r .good ≡ goodHeading (now (entry .entry)) place ⌝ }
-    ensures { λ r. ⌜ r .pointer ≡ pointerOf (fieldOf (now (entry .entry)) place) ⌝ }
-{
-    let at = place.at;
-    let inside = in_entry(entry, at);
-    let f = field_of(entry, place);
-    let heading = is_heading(f);
-    let good = both(inside, heading);
-    let pointer = f[10];
-    HeadingRead { good, pointer }
-}
-
-// Whether the unit at a place can be read there.
-fn unit_at(entry: &[u8], place: Place) -> bool
-    requires { ⌜ place .field ≤ 5 ⌝ }
-    ensures { λ r. ⌜ r ≡ goodUnit (now (entry .entry)) place ⌝ }
-{
-    let at = place.at;
-    let inside = in_entry(entry, at);
-    let f = field_of(entry, place);
-    let unit = is_unit(f);
-    both(inside, unit)
 }
 
 // The heading of a column of the row's COMMON (section 1) or DATA (section 2).

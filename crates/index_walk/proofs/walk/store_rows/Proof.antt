@@ -7,7 +7,7 @@ use Rattle.index_walk.proofs.walk.store_rows.Statement.{statement}
 use Rattle.index_walk.proofs.walk.store_rows.Tie as tie
 use Rattle.index_walk.proofs.walk.store_rows.Reads as reads
 use Rattle.index_walk.proofs.walk.store_rows.Lts as lts
-use Rattle.index_store.proofs.noted.note_row.Reads as note-row-reads
+use Rattle.index_noted.proofs.noted.note_row.Reads as note-row-reads
 use Rattle.index_walk.proofs.walk.rows_behind.Reads as rows-behind-reads
 use Rattle.questions_noted.proofs.row.empty_row.Reads as empty-row-reads
 use Rattle.questions_system.proofs.system.system_at.Reads as system-at-reads

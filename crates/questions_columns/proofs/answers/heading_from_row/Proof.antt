@@ -7,7 +7,7 @@ use Rattle.questions_columns.proofs.answers.heading_from_row.Tie as tie
 use Rattle.questions_columns.proofs.answers.heading_from_row.Reads as reads
 use Rattle.questions_columns.proofs.answers.heading_from_row.Lts as lts
 use Rattle.questions_columns.proofs.answers.column_read.Reads as column-read-reads
-use Rattle.questions_columns.proofs.answers.heading_at.Reads as heading-at-reads
+use Rattle.questions_headings.proofs.headings.heading_at.Reads as heading-at-reads
 use Rattle.questions_parts.proofs.answers.part_from.Reads as part-from-reads
 use Rattle.questions_parts.proofs.answers.refused_part.Reads as refused-part-reads
 use Rattle.questions_places.proofs.place.byte_of.Reads as byte-of-reads

@@ -1,7 +1,7 @@
 // What a record leaves in the rows of an index.
 ghost use mathlib.Core.Path.{_≡_};
-ghost use Rattle.index_store.specs.Noting.{isNoted, rowBegun, rowBehind, storedBehind, RoomBehind};
-use crate::store::put_row;
+ghost use Rattle.index_noted.specs.Noting.{isNoted, rowBegun, rowBehind, storedBehind, RoomBehind};
+use index_store::store::put_row;
 use paper_questions::types::Row;
 use paper_record::types::RecordNo;
 use questions_noted::row::empty_row;

@@ -2,15 +2,15 @@ use mathlib.Core.Path.{_≡_, _∙_, refl, sym}
 use mathlib.Core.Bool.{true, false}
 use native.Mathlib.Omega.{arith}
 use borrow.Author.Tests.{not-true, not-false}
-use Rattle.index_store.specs.Noting.{isNoted, rowBehind, storedBehind}
+use Rattle.index_noted.specs.Noting.{isNoted, rowBehind, storedBehind}
 use borrow.Author.Needs.{needs}
-use Rattle.index_store.proofs.noted.note_row.Statement.{statement}
-use Rattle.index_store.proofs.noted.note_row.Tie as tie
-use Rattle.index_store.proofs.noted.note_row.Reads as reads
-use Rattle.index_store.proofs.noted.note_row.Lts as lts
-use Rattle.index_store.proofs.noted.is_noted.Reads as is-noted-reads
-use Rattle.index_store.proofs.noted.row_begun.Reads as row-begun-reads
+use Rattle.index_noted.proofs.noted.note_row.Statement.{statement}
+use Rattle.index_noted.proofs.noted.note_row.Tie as tie
+use Rattle.index_noted.proofs.noted.note_row.Reads as reads
+use Rattle.index_noted.proofs.noted.note_row.Lts as lts
+use Rattle.index_noted.proofs.noted.is_noted.Reads as is-noted-reads
+use Rattle.index_noted.proofs.noted.row_begun.Reads as row-begun-reads
 use Rattle.index_store.proofs.store.put_row.Reads as put-row-reads
 use Rattle.questions_noted.proofs.row.noted_in.Reads as noted-in-reads
 
 is-noted-requires : tie.Need-is-noted-requires

@@ -2,11 +2,11 @@ use Rattle.paper_index.specs.Reads.{goodHeading}
 use mathlib.Core.Bool.{_&&_}
 use mathlib.Core.Path.{_≡_, refl}
 use borrow.Author.Needs.{needs}
-use Rattle.questions_columns.proofs.answers.heading_at.Statement.{statement}
-use Rattle.questions_columns.proofs.answers.heading_at.Tie as tie
-use Rattle.questions_columns.proofs.answers.heading_at.Reads as reads
-use Rattle.questions_columns.proofs.answers.heading_at.Lts as lts
-use Rattle.questions_columns.proofs.answers.is_heading.Reads as is-heading-reads
+use Rattle.questions_headings.proofs.headings.heading_at.Statement.{statement}
+use Rattle.questions_headings.proofs.headings.heading_at.Tie as tie
+use Rattle.questions_headings.proofs.headings.heading_at.Reads as reads
+use Rattle.questions_headings.proofs.headings.heading_at.Lts as lts
+use Rattle.questions_headings.proofs.headings.is_heading.Reads as is-heading-reads
 use Rattle.questions_parts.proofs.answers.both.Reads as both-reads
 use Rattle.questions_places.proofs.place.field_of.Reads as field-of-reads
 use Rattle.questions_numbers.proofs.numbers.in_entry.Reads as in-entry-reads

@@ -1,10 +1,10 @@
 use Rattle.paper_index.specs.Reads.{goodUnit}
 use mathlib.Core.Path.{refl}
 use borrow.Author.Needs.{needs}
-use Rattle.questions_columns.proofs.answers.unit_at.Statement.{statement}
-use Rattle.questions_columns.proofs.answers.unit_at.Tie as tie
-use Rattle.questions_columns.proofs.answers.unit_at.Reads as reads
-use Rattle.questions_columns.proofs.answers.unit_at.Lts as lts
+use Rattle.questions_headings.proofs.headings.unit_at.Statement.{statement}
+use Rattle.questions_headings.proofs.headings.unit_at.Tie as tie
+use Rattle.questions_headings.proofs.headings.unit_at.Reads as reads
+use Rattle.questions_headings.proofs.headings.unit_at.Lts as lts
 use Rattle.questions_parts.proofs.answers.both.Reads as both-reads
 use Rattle.questions_places.proofs.place.field_of.Reads as field-of-reads
 use Rattle.questions_numbers.proofs.numbers.in_entry.Reads as in-entry-reads

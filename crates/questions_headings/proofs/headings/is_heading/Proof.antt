@@ -3,10 +3,10 @@ use Rattle.paper_record.specs.Word.{isWord}
 use mathlib.Core.Bool.{false}
 use mathlib.Core.Path.{_∙_, refl, sym}
 use borrow.Author.Needs.{needs}
-use Rattle.questions_columns.proofs.answers.is_heading.Statement.{statement}
-use Rattle.questions_columns.proofs.answers.is_heading.Tie as tie
-use Rattle.questions_columns.proofs.answers.is_heading.Reads as reads
-use Rattle.questions_columns.proofs.answers.is_heading.Lts as lts
+use Rattle.questions_headings.proofs.headings.is_heading.Statement.{statement}
+use Rattle.questions_headings.proofs.headings.is_heading.Tie as tie
+use Rattle.questions_headings.proofs.headings.is_heading.Reads as reads
+use Rattle.questions_headings.proofs.headings.is_heading.Lts as lts
 use Rattle.record_faults.proofs.faults.bad_pointer.Reads as bad-pointer-reads
 use Rattle.record_words.proofs.word.is_word.Reads as is-word-reads
 

@@ -1,10 +1,10 @@
 use mathlib.Core.Path.{_∙_, refl, sym}
 use borrow.Author.Tests.{eq-eqb, ne-eqb}
 use borrow.Author.Needs.{needs}
-use Rattle.index_store.proofs.noted.is_noted.Statement.{statement}
-use Rattle.index_store.proofs.noted.is_noted.Tie as tie
-use Rattle.index_store.proofs.noted.is_noted.Reads as reads
-use Rattle.index_store.proofs.noted.is_noted.Lts as lts
+use Rattle.index_noted.proofs.noted.is_noted.Statement.{statement}
+use Rattle.index_noted.proofs.noted.is_noted.Tie as tie
+use Rattle.index_noted.proofs.noted.is_noted.Reads as reads
+use Rattle.index_noted.proofs.noted.is_noted.Lts as lts
 use Rattle.rules_roles.proofs.roles.opens_section.Reads as opens-section-reads
 
 opens-section-requires : tie.Need-opens-section-requires

@@ -1,9 +1,9 @@
 use mathlib.Core.Path.{_∙_, refl, sym}
 use borrow.Author.Needs.{needs}
-use Rattle.index_store.proofs.noted.row_begun.Statement.{statement}
-use Rattle.index_store.proofs.noted.row_begun.Tie as tie
-use Rattle.index_store.proofs.noted.row_begun.Reads as reads
-use Rattle.index_store.proofs.noted.row_begun.Lts as lts
+use Rattle.index_noted.proofs.noted.row_begun.Statement.{statement}
+use Rattle.index_noted.proofs.noted.row_begun.Tie as tie
+use Rattle.index_noted.proofs.noted.row_begun.Reads as reads
+use Rattle.index_noted.proofs.noted.row_begun.Lts as lts
 use Rattle.questions_noted.proofs.row.empty_row.Reads as empty-row-reads
 use Rattle.rules_roles.proofs.roles.opens_subentry.Reads as opens-subentry-reads
 

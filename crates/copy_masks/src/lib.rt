@@ -1,0 +1,2 @@
+// Which fields of a record are number fields.
+pub mod masks;

@@ -1,0 +1,2 @@
+// Making an index: what a record leaves in the rows.
+pub mod noted;

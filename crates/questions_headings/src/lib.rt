@@ -1,0 +1,2 @@
+// The heading and the unit in a field, as a question reads them.
+pub mod headings;
