@@ -1,4 +1,6 @@
-use mathlib.Core.Path.{refl}
+use mathlib.Core.Path.{_≡_, refl}
+use mathlib.Core.Bool.{false}
+use lib.Dec.{eqb}
 use borrow.Author.Tests.{eq-eqb, ne-eqb}
 use Rattle.exports_words.specs.Words.{lentAfter}
 use Rattle.exports_parts.specs.Questions.{numberStored}
@@ -11,7 +13,10 @@ answer-word-requires c κs = search needs
 
 returns : tie.Need-returns
 unfolding numberStored lentAfter
-returns c = (c .answer-word .ensures, rw (ne-eqb _ _ (c .before .if1 .taken)) refl)
+returns c =
+    let a = c .before .before .args in
+    let e : eqb (a .answer .number) 0 ≡ false = ne-eqb _ _ (c .before .if1 .taken) in
+    (c .answer-word .ensures, rw e refl)
 
 answer-word-requires-2 : tie.Need-answer-word-requires-2
 answer-word-requires-2 c κs = search needs
