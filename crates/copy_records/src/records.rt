@@ -9,7 +9,7 @@ ghost use Rattle.rules_flags.specs.Lent.{WholeRecords};
 ghost use Rattle.paper_copy.specs.CopyField.{numberIn, copyField};
 use columns::fields::field;
 use copy_fields::fields::put_field;
-use copy_masks::masks::is_number_field;
+use copy_numbers::fields::is_number_field;
 use paper_rules::types::Track;
 use rules_roles::roles::is_value;
 

@@ -17,7 +17,7 @@ use Rattle.copy_records.proofs.records.copy_fields.Reads as reads
 use Rattle.copy_records.proofs.records.copy_fields.Lts as lts
 use Rattle.columns.proofs.fields.field.Reads as field-reads
 use Rattle.copy_fields.proofs.fields.put_field.Reads as put-field-reads
-use Rattle.copy_masks.proofs.masks.is_number_field.Reads as is-number-field-reads
+use Rattle.copy_numbers.proofs.fields.is_number_field.Reads as is-number-field-reads
 
 abbrev Inv-loop : tie.InvT-loop
 Inv-loop out₀ at t table role rec k₀ out k =

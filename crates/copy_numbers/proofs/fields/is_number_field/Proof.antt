@@ -2,11 +2,11 @@ use borrow.Author.Tests.{not-false, not-true}
 use mathlib.Core.Bool.{not}
 use mathlib.Core.Path.{_∙_, ap, sym}
 use borrow.Author.Needs.{needs}
-use Rattle.copy_masks.proofs.masks.is_number_field.Statement.{statement}
-use Rattle.copy_masks.proofs.masks.is_number_field.Tie as tie
-use Rattle.copy_masks.proofs.masks.is_number_field.Reads as reads
-use Rattle.copy_masks.proofs.masks.is_number_field.Lts as lts
-use Rattle.copy_masks.proofs.masks.is_value_field.Reads as is-value-field-reads
+use Rattle.copy_numbers.proofs.fields.is_number_field.Statement.{statement}
+use Rattle.copy_numbers.proofs.fields.is_number_field.Tie as tie
+use Rattle.copy_numbers.proofs.fields.is_number_field.Reads as reads
+use Rattle.copy_numbers.proofs.fields.is_number_field.Lts as lts
+use Rattle.copy_numbers.proofs.fields.is_value_field.Reads as is-value-field-reads
 use Rattle.rules_flags.proofs.flags.is_flag_column.Reads as is-flag-column-reads
 
 is-value-field-requires : tie.Need-is-value-field-requires

@@ -4,10 +4,10 @@ use lib.Dec.{eqb}
 use Rattle.paper_rules.specs.Roles.{DATA-VALUE}
 use borrow.Author.Tests.{eq-eqb, ne-eqb}
 use borrow.Author.Needs.{needs}
-use Rattle.copy_masks.proofs.masks.is_value_field.Statement.{statement}
-use Rattle.copy_masks.proofs.masks.is_value_field.Tie as tie
-use Rattle.copy_masks.proofs.masks.is_value_field.Reads as reads
-use Rattle.copy_masks.proofs.masks.is_value_field.Lts as lts
+use Rattle.copy_numbers.proofs.fields.is_value_field.Statement.{statement}
+use Rattle.copy_numbers.proofs.fields.is_value_field.Tie as tie
+use Rattle.copy_numbers.proofs.fields.is_value_field.Reads as reads
+use Rattle.copy_numbers.proofs.fields.is_value_field.Lts as lts
 use Rattle.rules_state.proofs.state.used.Reads as used-reads
 
 used-requires : tie.Need-used-requires

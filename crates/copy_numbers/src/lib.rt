@@ -1,2 +1,2 @@
 // Which fields of a record are number fields.
-pub mod masks;
+pub mod fields;
