@@ -1,7 +1,7 @@
 ! The functions of the proved archives (rt staticlib) for Fortran. The numbers are document 01's; the count of digits is
 ! that of document 02, M-104, refusal 17, a flag with an exponent or one that equals no code, that of M-105,
-! transmissions are those of M-100, reasons those of M-108, the index of subentries is that of M-102, and walks are
-! those of M-112.
+! transmissions are those of M-100, reasons those of M-108, the index of subentries is that of M-102, walks are those of
+! M-112, and doubles those of M-107.
 !
 ! A call returns a word, 0 where it is answered, and then stores what it answers in an array that is lent to it:
 ! totals(4) are subentries, keywords, DATA lines, numbers; value(8) are kind (0 blank, 1 number), 1 if below zero,
@@ -11,8 +11,12 @@
 ! x4_walk_next with 15, the refusal of the value alone, stores the value's place and the walk. The word has the number of
 ! the refusal in bits 0-7, the refusal of the entry or transmission in 8-15, its column in 16-23, its record in 24-47,
 ! the ordinal of the entry in a transmission in 48-63.
+!
+! The words of x4_double, x4_index_double and x4_read_double tell in bits 48-55 which of the three it is, blank, a double,
+! or a decimal that is outside the simple range, and in 56-63 how many digits are written. The double is stored where there
+! is one.
 module x4
-  use, intrinsic :: iso_c_binding, only: c_char, c_int8_t, c_int32_t, c_int64_t, c_size_t
+  use, intrinsic :: iso_c_binding, only: c_char, c_double, c_int8_t, c_int32_t, c_int64_t, c_size_t
   implicit none
   private
   public :: x4_version, x4_interface, x4_refused, x4_value, x4_part, x4_verdict
@@ -22,12 +26,17 @@ module x4
   public :: x4_most_numbers, x4_made_index, x4_find_row
   public :: x4_index_ask_value, x4_index_ask_heading, x4_index_ask_unit, x4_index_ask_passage
   public :: x4_walk_place, x4_begun, x4_next
+  public :: x4_is_blank, x4_is_double, x4_is_decimal, x4_kind
+  public :: x4_ask_double, x4_index_ask_double, x4_read_double, x4_to_double, x4_kind_of
 
   ! The interface that this module describes; x4_version() is the same of the archives.
   integer(c_int32_t), parameter :: x4_interface = 4
 
   ! The most numbers that an index has: five to a subentry, of which there are 998 at the most.
   integer, parameter :: x4_most_numbers = 4990
+
+  ! Which of the three a value is: blank, a double, or a decimal that is outside the simple range.
+  integer(c_int32_t), parameter :: x4_is_blank = 0, x4_is_double = 1, x4_is_decimal = 2
 
   ! A refusal by its number, 0 where there is none; beside 31 why the entry or transmission is refused, else zeros. The
   ! ordinal is that of the entry in a transmission, 0 for a single entry and outside entries.
@@ -46,6 +55,13 @@ module x4
     integer(c_int32_t) :: power = 0
     integer(c_int32_t) :: digits = 0
   end type x4_value
+
+  ! What stands beside a double: a refusal, which of the three it is, blank where it is refused, and the count of digits.
+  type :: x4_kind
+    type(x4_refused) :: refused
+    integer(c_int32_t) :: kind = x4_is_blank
+    integer(c_int32_t) :: digits = 0
+  end type x4_kind
 
   ! Where a walk over a table stands: the section's record, its columns and lines, and line and column of the next value.
   ! One that was not begun, or was refused, is done.
@@ -281,6 +297,50 @@ module x4
       integer(c_int64_t), intent(inout) :: place(3), value(8)
       integer(c_int64_t) :: word
     end function c_walk_next
+
+    function c_ask_double(entry, length, subentry, section, line, column, value) bind(c, name='x4_double') result(word)
+      import :: c_char, c_double, c_int32_t, c_int64_t, c_size_t
+      character(kind=c_char), intent(in) :: entry(*)
+      integer(c_size_t), value :: length
+      integer(c_int32_t), value :: subentry, section, line, column
+      real(c_double), intent(inout) :: value(1)
+      integer(c_int64_t) :: word
+    end function c_ask_double
+
+    function c_index_double(entry, length, index, numbers, subentry, section, line, column, value) &
+        bind(c, name='x4_index_double') result(word)
+      import :: c_char, c_double, c_int32_t, c_int64_t, c_size_t
+      character(kind=c_char), intent(in) :: entry(*)
+      integer(c_int32_t), intent(in) :: index(*)
+      integer(c_size_t), value :: length, numbers
+      integer(c_int32_t), value :: subentry, section, line, column
+      real(c_double), intent(inout) :: value(1)
+      integer(c_int64_t) :: word
+    end function c_index_double
+
+    function c_read_double(field, length, value) bind(c, name='x4_read_double') result(word)
+      import :: c_char, c_double, c_int64_t, c_size_t
+      character(kind=c_char), intent(in) :: field(*)
+      integer(c_size_t), value :: length
+      real(c_double), intent(inout) :: value(1)
+      integer(c_int64_t) :: word
+    end function c_read_double
+
+    function c_as_double(negative, coefficient, power) bind(c, name='x4_as_double') result(x)
+      import :: c_double, c_int32_t, c_int64_t
+      integer(c_int32_t), value :: negative
+      integer(c_int64_t), value :: coefficient
+      integer(c_int32_t), value :: power
+      real(c_double) :: x
+    end function c_as_double
+
+    function c_as_double_kind(negative, coefficient, power) bind(c, name='x4_as_double_kind') result(kind)
+      import :: c_int32_t, c_int64_t
+      integer(c_int32_t), value :: negative
+      integer(c_int64_t), value :: coefficient
+      integer(c_int32_t), value :: power
+      integer(c_int64_t) :: kind
+    end function c_as_double_kind
   end interface
 
 contains
@@ -503,6 +563,58 @@ contains
     v = value_in(word, numbers)
   end function x4_next
 
+  ! The value in a line and a column of a section as a double, 0 where it is none; and what stands beside it. Refused as
+  ! x4_ask_value is, which has the decimal where it is outside the simple range.
+  function x4_ask_double(entry, subentry, section, line, column, k) result(x)
+    character(len=*, kind=c_char), intent(in) :: entry
+    integer(c_int32_t), intent(in) :: subentry, section, line, column
+    type(x4_kind), intent(out) :: k
+    real(c_double) :: x, place(1)
+    place = 0
+    k = kind_in(c_ask_double(entry, len(entry, c_size_t), subentry, section, line, column, place))
+    x = place(1)
+  end function x4_ask_double
+
+  ! The same by an index, refused as x4_index_ask_value is; nothing is judged.
+  function x4_index_ask_double(entry, index, subentry, section, line, column, k) result(x)
+    character(len=*, kind=c_char), intent(in) :: entry
+    integer(c_int32_t), contiguous, intent(in) :: index(:)
+    integer(c_int32_t), intent(in) :: subentry, section, line, column
+    type(x4_kind), intent(out) :: k
+    real(c_double) :: x, place(1)
+    place = 0
+    k = kind_in(c_index_double(entry, len(entry, c_size_t), index, size(index, kind=c_size_t), subentry, section, line, &
+                               column, place))
+    x = place(1)
+  end function x4_index_ask_double
+
+  ! What a number field says as a double, 0 where it is none; and what stands beside it.
+  function x4_read_double(field, k) result(x)
+    character(len=*, kind=c_char), intent(in) :: field
+    type(x4_kind), intent(out) :: k
+    real(c_double) :: x, place(1)
+    place = 0
+    k = kind_in(c_read_double(field, len(field, c_size_t), place))
+    x = place(1)
+  end function x4_read_double
+
+  ! A value in hand as a double, 0 where it is blank, refused or outside the simple range; and which of the three it is.
+  ! Its numbers are taken as they stand, and the power is the one in v. Those that this module gives are the value's own.
+  function x4_to_double(v) result(x)
+    type(x4_value), intent(in) :: v
+    real(c_double) :: x
+    x = 0
+    if (.not. v%blank) x = c_as_double(merge(1_c_int32_t, 0_c_int32_t, v%negative), v%coefficient, v%power)
+  end function x4_to_double
+
+  function x4_kind_of(v) result(kind)
+    type(x4_value), intent(in) :: v
+    integer(c_int32_t) :: kind
+    kind = x4_is_blank
+    if (.not. v%blank) kind = int(c_as_double_kind(merge(1_c_int32_t, 0_c_int32_t, v%negative), v%coefficient, &
+                                                   v%power), c_int32_t)
+  end function x4_kind_of
+
   ! Stores the canonical copy in the front of a text that is as long as the entry or longer. Columns under FLAG and
   ! DECAY-FLAG stay as they were.
   function x4_copied(entry, copy) result(r)
@@ -580,6 +692,15 @@ contains
     v%power = int(numbers(4), c_int32_t)
     v%digits = int(numbers(5), c_int32_t)
   end function value_in
+
+  ! no ordinal: of a single entry the kind and the digits stand in its place
+  pure function kind_in(word) result(k)
+    integer(c_int64_t), intent(in) :: word
+    type(x4_kind) :: k
+    k%refused = refused_in(ibits(word, 0, 48))
+    k%kind = int(ibits(word, 48, 8), c_int32_t)
+    k%digits = int(ibits(word, 56, 8), c_int32_t)
+  end function kind_in
 
   pure function part_in(word, numbers) result(p)
     integer(c_int64_t), intent(in) :: word, numbers(3)

@@ -3,11 +3,12 @@
  * A slice of bytes or of numbers is a pointer and a length. Every call answers for every argument: nothing has to be
  * tested before, but a pointer must be that of so many bytes or numbers. The numbers are document 01's; the count of
  * digits is that of document 02, M-104, refusal 17 that of M-105, transmissions are those of M-100, reasons those of
- * M-108, the index is that of M-102, and walks are those of M-112.
+ * M-108, the index is that of M-102, walks are those of M-112, and doubles those of M-107.
  *
  * A call returns a word, 0 where it is answered, and then stores what it answers in the array that is lent to it, as
- * long as its parameter says. A refused call stores nothing, with these exceptions: x4_explain and x4_explain_file store
- * the reason that they are asked for; x4_walk_next with 15, the refusal of the value alone, the value's place and the walk.
+ * long as its parameter says. The words of x4_double, x4_index_double and x4_read_double have more in them, as is said
+ * below. A refused call stores nothing, with these exceptions: x4_explain and x4_explain_file store the reason that they
+ * are asked for; x4_walk_next with 15, the refusal of the value alone, the value's place and the walk.
  *
  *     bits    the word that a call returns
  *     0-7     the number of its refusal; 0 answered
@@ -189,6 +190,64 @@ uint64_t x4_walk(const uint8_t *entry, size_t length, uint32_t subentry, uint32_
  * is given as a blank. None of the arrays overlaps another or the entry. */
 uint64_t x4_walk_next(const uint8_t *entry, size_t length, uint32_t walk[5], uint64_t place[3], uint64_t value[8]);
 
+/* ---- doubles: each value is blank, a double, or a decimal that is outside the simple range
+ *
+ * Simple is a decimal whose coefficient has ten digits at the most and whose power lies in -22 to 22: its double is the
+ * coefficient times, or divided by, that power of ten, rounded once, so the nearest one there is, a tie to the even one.
+ * Every field has ten digits at the most, so of a value the power alone decides: that of its decimal, as x4_value has it,
+ * whose coefficient does not end in a zero. 10.+22 has the power 23, and .1+23 the power 22. A whole number below 2 to the
+ * 53rd in size is its double exactly. The double of a value or a field is never -0.0, an infinity or a NaN.
+ *
+ * Three calls store the double where there is one, and their word tells which of the three it is. Of a blank, of a decimal
+ * outside the range and where it is refused the lent place stays as it is.
+ *
+ *     bits    the word of x4_double, x4_index_double and x4_read_double
+ *     0-47    as in every word, 0 where it is answered
+ *     48-55   0 blank, and where it is refused; 1 a double; 2 a decimal outside the simple range
+ *     56-63   the count of digits written in the field; 0 where it is refused
+ *
+ * So the word is not 0 where it is a double or a decimal outside: ask x4_refusal for its refusal, and x4_double_kind and
+ * x4_double_digits for the rest. A single entry has no ordinal, and x4_entry_ordinal says nothing of these words.
+ *
+ *     double x[1];
+ *     uint64_t word = x4_double(entry, length, 2, 2, 1, 2, x);
+ *     if (x4_double_kind(word) == 1) .. x[0] ..
+ *
+ * A fitting code goes through its table with one judging and takes each decimal as a double:
+ *
+ *     uint64_t place[3], value[8];
+ *     uint32_t walk[5] = {0};
+ *     if (x4_walk(entry, length, 2, 2, walk) == 0)
+ *         while (x4_walk_next(entry, length, walk, place, value), place[0]) {
+ *             if (!x4_is_number(value)) continue;
+ *             double x = x4_as_double((uint32_t)value[1], value[2], x4_power(value));
+ *             if (x == 0 && value[2] != 0) .. outside the simple range: the exact decimal is in value ..
+ *             else .. place[1], place[2], x ..
+ *         }
+ */
+
+/* The value in a line and a column of a section, as x4_value has it. Refusals: 31 to 35. The exact decimal of one that is
+ * outside the range is x4_value's. Each call judges the entry, so for many values take a walk or an index. */
+uint64_t x4_double(const uint8_t *entry, size_t length, uint32_t subentry, uint32_t section, uint32_t line,
+                   uint32_t column, double value[1]);
+
+/* The same by an index, as x4_index_value has it: nothing is judged. Refusals: 32 to 35, 38, 39. */
+uint64_t x4_index_double(const uint8_t *entry, size_t length, const uint32_t *index, size_t numbers, uint32_t subentry,
+                         uint32_t section, uint32_t line, uint32_t column, double value[1]);
+
+/* What a number field says, as x4_read_number has it. Refusals: 15, 40. */
+uint64_t x4_read_double(const uint8_t *field, size_t length, double value[1]);
+
+/* A decimal in hand, as x4_write_number takes one: negative (0 no, else yes), coefficient and power of ten. The double is
+ * returned, +0.0 where there is none; the second returns the kind alone: 1, or 2 where the coefficient has more than ten
+ * digits or the power is outside -22 to 22. A blank value is no decimal: ask x4_is_number first.
+ *
+ * The three numbers are taken as they stand: the power is the one handed over, not that of the value. So 10 with power 22 is
+ * a double, 10 with power -23 is outside, and so is 0 with power 23. Those that a call of this library stored are always the
+ * value's own. A zero that is simple is +0.0, however it is signed. */
+double x4_as_double(uint32_t negative, uint64_t coefficient, int32_t power);
+uint64_t x4_as_double_kind(uint32_t negative, uint64_t coefficient, int32_t power);
+
 /* ---- the word that a call returns */
 
 /* 0 where the call is answered */
@@ -199,6 +258,11 @@ static inline uint32_t x4_entry_refusal(uint64_t word) { return (uint32_t)(word 
 static inline uint32_t x4_entry_column(uint64_t word) { return (uint32_t)(word >> 16 & 0xff); }
 static inline uint32_t x4_entry_record(uint64_t word) { return (uint32_t)(word >> 24 & 0xffffff); }
 static inline uint32_t x4_entry_ordinal(uint64_t word) { return (uint32_t)(word >> 48); }
+
+/* of the words of x4_double, x4_index_double and x4_read_double alone: 0 blank or refused, 1 a double, 2 a decimal outside
+ * the simple range; 0 to 10 digits */
+static inline uint32_t x4_double_kind(uint64_t word) { return (uint32_t)(word >> 48 & 0xff); }
+static inline uint32_t x4_double_digits(uint64_t word) { return (uint32_t)(word >> 56); }
 
 /* ---- the lent array of a value */
 

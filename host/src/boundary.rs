@@ -119,6 +119,29 @@ extern "C" {
         place: *mut [u64; 3],
         value: *mut [u64; 8],
     ) -> u64;
+    fn x4_double(
+        entry: *const u8,
+        length: usize,
+        subentry: u32,
+        section: u32,
+        line: u32,
+        column: u32,
+        value: *mut [f64; 1],
+    ) -> u64;
+    fn x4_index_double(
+        entry: *const u8,
+        length: usize,
+        index: *const u32,
+        numbers: usize,
+        subentry: u32,
+        section: u32,
+        line: u32,
+        column: u32,
+        value: *mut [f64; 1],
+    ) -> u64;
+    fn x4_read_double(field: *const u8, length: usize, value: *mut [f64; 1]) -> u64;
+    fn x4_as_double(negative: u32, coefficient: u64, power: i32) -> f64;
+    fn x4_as_double_kind(negative: u32, coefficient: u64, power: i32) -> u64;
 }
 
 /// The version of the archives' interface, which is to be [`words::VERSION`].
@@ -333,6 +356,53 @@ pub fn walk_next(entry: &[u8], walk: &mut Walk) -> Option<Given> {
     // other arrays are this call's own.
     let word = unsafe { x4_walk_next(entry.as_ptr(), entry.len(), walk, &mut place, &mut value) };
     words::given(word, place, value)
+}
+
+/// What stands in a column of a line, as a double, 0.0 where it is none; and the word: its refusal, which of the three it
+/// is, and the digits written.
+#[cfg(proved)]
+pub fn double(entry: &[u8], subentry: u32, section: u32, line: u32, column: u32) -> (f64, u64) {
+    let mut value = [0.0];
+    // SAFETY: the pointer and the length are those of one slice, which is only read; the array is this call's own.
+    let word = unsafe { x4_double(entry.as_ptr(), entry.len(), subentry, section, line, column, &mut value) };
+    (value[0], word)
+}
+
+/// The same by an index.
+#[cfg(proved)]
+pub fn index_double(entry: &[u8], index: &[u32], subentry: u32, section: u32, line: u32, column: u32) -> (f64, u64) {
+    let mut value = [0.0];
+    let (bytes, length, row, numbers) = (entry.as_ptr(), entry.len(), index.as_ptr(), index.len());
+    // SAFETY: both pointers and lengths are those of slices, which are only read; the array is this call's own.
+    let word = unsafe { x4_index_double(bytes, length, row, numbers, subentry, section, line, column, &mut value) };
+    (value[0], word)
+}
+
+/// What one number field says, as a double, 0.0 where it is none; and the word.
+#[cfg(proved)]
+#[inline]
+pub fn read_double(field: &[u8]) -> (f64, u64) {
+    let mut value = [0.0];
+    // SAFETY: the pointer and the length are those of one slice, which is only read; the array is this call's own.
+    let word = unsafe { x4_read_double(field.as_ptr(), field.len(), &mut value) };
+    (value[0], word)
+}
+
+/// A decimal in hand, below zero where `negative` is not 0, as a double; 0.0 where it is outside the simple range.
+// A table is many of these, so that nothing is put around the call.
+#[cfg(proved)]
+#[inline]
+pub fn as_double(negative: u32, coefficient: u64, power: i32) -> f64 {
+    // SAFETY: it takes numbers alone.
+    unsafe { x4_as_double(negative, coefficient, power) }
+}
+
+/// Which of the three that is: 1 a double, 2 outside.
+#[cfg(proved)]
+#[inline]
+pub fn as_double_kind(negative: u32, coefficient: u64, power: i32) -> u64 {
+    // SAFETY: it takes numbers alone.
+    unsafe { x4_as_double_kind(negative, coefficient, power) }
 }
 
 /// What C's own reader makes of a text: for comparisons of speed.
@@ -666,6 +736,179 @@ mod tests {
         assert_eq!(walk.go_on(&entry), (0, [0; 3], [BEFORE; 8], [19, 3, 2, 3, 1]));
         let last = Fenced::of([20_000, 18, 20_000, 20_000, 18]).go_on(&entry);
         assert_eq!(last, (0, [1, 20_000, 18], [0; 8], [20_000, 18, 20_000, 20_001, 1]));
+    }
+
+    /// A word of the calls for doubles: its number, which of the three it is, and the digits.
+    const fn double_told(number: u64, kind: u64, digits: u64) -> u64 {
+        number + (kind << 48) + (digits << 56)
+    }
+
+    /// What stands in the lent place, by its bits, and the word: in full and by some numbers.
+    fn doubles(entry: &[u8], index: &[u32], [n, section, line, column]: [u32; 4]) -> [(u64, u64); 2] {
+        let (bytes, length, row, numbers) = (entry.as_ptr(), entry.len(), index.as_ptr(), index.len());
+        let [mut full, mut by_index] = [[f64::from_bits(BEFORE)]; 2];
+        // SAFETY: pointers and lengths are those of slices, which are only read; the arrays are this function's own.
+        let words = unsafe {
+            [
+                x4_double(bytes, length, n, section, line, column, &mut full),
+                x4_index_double(bytes, length, row, numbers, n, section, line, column, &mut by_index),
+            ]
+        };
+        [(full[0].to_bits(), words[0]), (by_index[0].to_bits(), words[1])]
+    }
+
+    /// The seven values of the sample, and one of each kind in the place of 1.45-1.
+    #[test]
+    fn doubles_are_stored() {
+        let sample = include_bytes!("../data/sample.x4");
+        for (place, text, digits) in [
+            ([1, 1, 1, 1], "14", 2),
+            ([2, DATA, 1, 1], "10", 2),
+            ([2, DATA, 1, 2], "0.145", 3),
+            ([2, DATA, 2, 1], "20", 2),
+            ([2, DATA, 2, 2], "0.14", 2),
+            ([2, DATA, 2, 3], "25", 2),
+        ] {
+            let due = (text.parse::<f64>().expect("a number").to_bits(), double_told(0, 1, digits));
+            assert_eq!(doubles(sample, &INDEX, place), [due; 2], "{place:?}");
+            let alone = &INDEX[5 * (place[0] as usize - 1)..][..5];
+            assert_eq!(doubles(sample, alone, place)[1], due, "by its row alone");
+            // the same through the wrappers
+            let [n, section, line, column] = place;
+            let (full, word) = double(sample, n, section, line, column);
+            assert_eq!((full.to_bits(), word), due);
+            let (by_index, word) = index_double(sample, &INDEX, n, section, line, column);
+            assert_eq!((by_index.to_bits(), word), due);
+        }
+        assert_eq!(doubles(sample, &INDEX, [2, DATA, 1, 3]), [(BEFORE, 0); 2], "blank");
+        for (field, bits, kind, digits) in [
+            ("    1.45-1 ", BEFORE, 0, 0), // malformed: refused by 15, and by an index by 39
+            ("       -.00", 0, 1, 0),
+            ("  -1.450-01", (-0.145f64).to_bits(), 1, 4),
+            ("      1.+22", 1e22f64.to_bits(), 1, 1),
+            ("     10.+22", BEFORE, 2, 2),
+            ("     -1.-22", (-1e-22f64).to_bits(), 1, 1),
+            ("     -.1-22", BEFORE, 2, 1),
+            ("1.+99999999", BEFORE, 2, 1),
+            ("0.+99999999", 0, 1, 0),
+            ("9999999999.", 9_999_999_999f64.to_bits(), 1, 10),
+        ] {
+            let mut entry = sample.to_vec();
+            entry[21 * RECORD + 11..][..11].copy_from_slice(field.as_bytes());
+            let [full, by_index] = match field {
+                "    1.45-1 " => [(BEFORE, 31 + (15 << 8) + (12 << 16) + (22 << 24)), (BEFORE, 39)],
+                _ => [(bits, double_told(0, kind, digits)); 2],
+            };
+            assert_eq!(doubles(&entry, &INDEX, [2, DATA, 1, 2]), [full, by_index], "{field:?}");
+        }
+    }
+
+    /// Refused, nothing is stored, and neither a kind nor digits stand beside the number.
+    #[test]
+    fn refused_doubles_store_nothing() {
+        let sample = include_bytes!("../data/sample.x4");
+        for (place, number) in [
+            ([3, DATA, 1, 1], 32),
+            ([2, 1, 1, 1], 33),
+            ([2, 3, 1, 1], 33),
+            ([2, DATA, 3, 1], 34),
+            ([2, DATA, 0, 1], 34),
+            ([1, 1, 2, 1], 34),
+            ([2, DATA, 1, 4], 35),
+            ([2, DATA, 1, 0], 35),
+            ([u32::MAX; 4], 32),
+        ] {
+            assert_eq!(doubles(sample, &INDEX, place), [(BEFORE, number); 2], "{place:?}");
+        }
+        let place = [2, DATA, 1, 2];
+        let due = (0.145f64.to_bits(), double_told(0, 1, 3));
+        assert_eq!(doubles(sample, &INDEX[..9], place), [due, (BEFORE, 38)]);
+        assert_eq!(doubles(sample, &[], place), [due, (BEFORE, 32)]);
+        assert_eq!(doubles(sample, &[2, 14, 14, 0, 19], place), [due, (BEFORE, 39)]);
+        // twenty records end before ENDENTRY; by the index the field's record lies outside
+        assert_eq!(
+            doubles(&sample[..20 * RECORD], &INDEX, place),
+            [(BEFORE, 31 + (16 << 8) + (21 << 24)), (BEFORE, 39)]
+        );
+        assert_eq!(doubles(&sample[..22 * RECORD], &INDEX, place)[1], due, "nothing is judged");
+        assert_eq!(doubles(&[], &INDEX, place), [(BEFORE, 31 + (1 << 8)), (BEFORE, 39)]);
+    }
+
+    /// Fields, of which M-107's page has the bits of most.
+    #[test]
+    fn fields_are_doubles() {
+        for (field, bits, word) in [
+            ("     1.45-1", 0x3fc2_8f5c_28f5_c28f, double_told(0, 1, 3)),
+            ("        0.1", 0x3fb9_9999_9999_999a, double_told(0, 1, 1)),
+            ("      1.+22", 0x4480_f0cf_064d_d592, double_told(0, 1, 1)),
+            ("     .1+23 ", BEFORE, 15),
+            ("      .1+23", 0x4480_f0cf_064d_d592, double_told(0, 1, 1)),
+            ("      1.+23", BEFORE, double_told(0, 2, 1)),
+            ("     10.+22", BEFORE, double_told(0, 2, 2)),
+            ("      1.-22", 0x3b5e_3920_1017_5ee6, double_told(0, 1, 1)),
+            ("      .1-22", BEFORE, double_told(0, 2, 1)),
+            ("9999999999.", 0x4202_a05f_1ff8_0000, double_told(0, 1, 10)),
+            (".1234567890", 0.123_456_789f64.to_bits(), double_told(0, 1, 10)),
+            ("-999999999.", (-999_999_999f64).to_bits(), double_told(0, 1, 9)),
+            ("        -.0", 0, double_told(0, 1, 0)),
+            ("0.-99999999", 0, double_told(0, 1, 0)),
+            ("           ", BEFORE, 0),
+            ("     1.45-X", BEFORE, 15),
+            ("1.", BEFORE, 40),
+            ("", BEFORE, 40),
+            ("     1.45-1 ", BEFORE, 40),
+        ] {
+            let mut value = [f64::from_bits(BEFORE)];
+            // SAFETY: the pointer and the length are those of one slice, which is only read; the array is this test's own.
+            let told = unsafe { x4_read_double(field.as_ptr(), field.len(), &mut value) };
+            assert_eq!((value[0].to_bits(), told), (bits, word), "{field:?}");
+            let due = if bits == BEFORE { 0 } else { bits };
+            let (double, word) = read_double(field.as_bytes());
+            let wrapped = (double.to_bits(), word);
+            assert_eq!(wrapped, (due, word), "{field:?}");
+        }
+    }
+
+    /// Decimals in hand on both sides of each limit: any number but 0 makes it negative, and zero keeps that sign.
+    #[test]
+    fn decimals_in_hand_are_doubles() {
+        const MOST: u64 = 9_999_999_999;
+        for (coefficient, power) in [
+            (145, -3),
+            (1, 22),
+            (1, 23),
+            (1, -22),
+            (1, -23),
+            (MOST, 22),
+            (MOST, -22),
+            (MOST, 0),
+            (MOST + 1, 0),
+            (MOST + 1, 22),
+            (MOST, 23),
+            (10, 22),
+            (100, -22),
+            (0, 0),
+            (0, 22),
+            (0, -23),
+            (1, i32::MAX),
+            (1, i32::MIN),
+            (u64::MAX, 0),
+            (1 << 53, 0),
+        ] {
+            let simple = coefficient <= MOST && (-22..=22).contains(&power);
+            for negative in [0, 1, 2, 0x100, 0x8000_0000, u32::MAX] {
+                let sign = if negative == 0 || coefficient == 0 { "" } else { "-" };
+                let due: f64 = format!("{sign}{coefficient}e{power}").parse().expect("a number");
+                let due = if simple { (due.to_bits(), 1) } else { (0, 2) };
+                // SAFETY: they take numbers alone.
+                let (double, kind) = unsafe {
+                    (x4_as_double(negative, coefficient, power), x4_as_double_kind(negative, coefficient, power))
+                };
+                assert_eq!((double.to_bits(), kind), due, "{negative} {coefficient} {power}");
+                let double = as_double(negative, coefficient, power);
+                assert_eq!((double.to_bits(), as_double_kind(negative, coefficient, power)), due);
+            }
+        }
     }
 
     /// The array behind a reading that is answered.

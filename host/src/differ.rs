@@ -3,9 +3,11 @@
 //! Each case has a seed of its own, which a difference names, so that the case can be made again.
 
 use crate::generate::{self, Kind, Random, Sheet, BELOW, CAUSES};
+use crate::library::DoubleCalls;
 use crate::reference::record::permitted;
 use crate::walk::{Given, Walk};
-use crate::{library, reference, Decimal, Explained, FieldRead, NoAnswer, Part, Reason, Refusal, Verdict, RECORD};
+use crate::{library, reference, words, Decimal, DoubleRead, Explained, FieldRead, NoAnswer, Part, Reason, Refusal};
+use crate::{Simple, Value, Verdict, RECORD};
 use std::collections::BTreeMap;
 use std::fmt;
 
@@ -109,6 +111,38 @@ pub trait Implementation {
     fn write_number(&self, decimal: Decimal, buffer: &mut [u8]) -> Result<(), NoAnswer> {
         reference::write_number(decimal, buffer)
     }
+    /// The value in a place as a double, and its count of digits.
+    fn double(&self, entry: &[u8], place: [u32; 4]) -> Result<DoubleRead, NoAnswer> {
+        let [subentry, section, line, column] = place;
+        reference::double(entry, subentry, section, line, column)
+    }
+    /// The same by an index.
+    fn index_double(&self, entry: &[u8], index: &[u32], place: [u32; 4]) -> Result<DoubleRead, NoAnswer> {
+        let [subentry, section, line, column] = place;
+        reference::index_double(entry, index, subentry, section, line, column)
+    }
+    /// The reading of a field as a double, and its count of digits.
+    fn read_double(&self, field: &[u8]) -> Result<DoubleRead, NoAnswer> {
+        reference::read_double(field)
+    }
+    /// A decimal as a double.
+    fn as_double(&self, decimal: Decimal) -> Simple {
+        reference::as_double(decimal)
+    }
+    /// What a program of another language is given for a double: its bits, and the word. By default what follows from the
+    /// answers above.
+    fn double_calls(&self, calls: DoubleCalls) -> (u64, u64) {
+        let (double, word) = match calls {
+            DoubleCalls::InFull(entry, place) => words::double_calls(self.double(entry, place)),
+            DoubleCalls::ByIndex(entry, index, place) => words::double_calls(self.index_double(entry, index, place)),
+            DoubleCalls::Field(field) => words::double_calls(self.read_double(field)),
+            DoubleCalls::InHand(decimal) => {
+                let simple = self.as_double(decimal);
+                (simple.double().unwrap_or(0.0), simple.kind())
+            }
+        };
+        (double.to_bits(), word)
+    }
 }
 
 /// The reference.
@@ -203,6 +237,24 @@ impl Implementation for Library {
     fn write_number(&self, decimal: Decimal, buffer: &mut [u8]) -> Result<(), NoAnswer> {
         library::write_number(decimal, buffer)
     }
+    fn double(&self, entry: &[u8], place: [u32; 4]) -> Result<DoubleRead, NoAnswer> {
+        let [subentry, section, line, column] = place;
+        library::double(entry, subentry, section, line, column)
+    }
+    fn index_double(&self, entry: &[u8], index: &[u32], place: [u32; 4]) -> Result<DoubleRead, NoAnswer> {
+        let [subentry, section, line, column] = place;
+        library::index_double(entry, index, subentry, section, line, column)
+    }
+    fn read_double(&self, field: &[u8]) -> Result<DoubleRead, NoAnswer> {
+        library::read_double(field)
+    }
+    fn as_double(&self, decimal: Decimal) -> Simple {
+        library::as_double(decimal)
+    }
+    fn double_calls(&self, calls: DoubleCalls) -> (u64, u64) {
+        let (double, word) = library::double_calls(calls);
+        (double.to_bits(), word)
+    }
 }
 
 /// How much of an input is shown.
@@ -295,6 +347,14 @@ pub struct Counts {
     pub readings: Tally,
     /// Writings.
     pub writings: Tally,
+    /// Questions for doubles, in full.
+    pub doubles: Tally,
+    /// By the entry's own index, where it is accepted, and by any index about any bytes.
+    pub doubles_by_index: Tally,
+    /// Fields read as doubles.
+    pub double_fields: Tally,
+    /// Which of the three was given by all of these and to decimals in hand: blanks, doubles, decimals outside.
+    pub simple: [u64; 3],
 }
 
 impl fmt::Display for Counts {
@@ -318,6 +378,9 @@ impl fmt::Display for Counts {
             ("copies of transmissions", &self.file_copies),
             ("number fields read", &self.readings),
             ("decimals written", &self.writings),
+            ("questions for doubles", &self.doubles),
+            ("questions for doubles by an index", &self.doubles_by_index),
+            ("number fields read as doubles", &self.double_fields),
         ];
         for (name, Tally(tally)) in groups {
             writeln!(f, "{name}: {}", tally.values().sum::<u64>())?;
@@ -327,6 +390,8 @@ impl fmt::Display for Counts {
         }
         let [own, any] = self.done;
         writeln!(f, "walks found done: {own} times, of any numbers {any} times")?;
+        let [blanks, doubles, outside] = self.simple;
+        writeln!(f, "values as doubles: {blanks} blanks, {doubles} doubles, {outside} decimals outside")?;
         let [some, none] = self.begins;
         writeln!(f, "bytes of transmissions asked for an entry: {some} begin one, {none} do not")
     }
@@ -358,6 +423,7 @@ impl<'i> Pair<'i> {
             }
             self.index(seed, &sheet)?;
             self.walk(seed, &sheet)?;
+            self.doubles_of(seed, &sheet)?;
         }
         Ok(())
     }
@@ -503,6 +569,131 @@ impl<'i> Pair<'i> {
                 Some((.., read)) => self.counts.walked_any.add(&read),
                 None => self.counts.done[1] += 1,
             }
+        }
+        Ok(())
+    }
+
+    /// Asks both for doubles of the same entries, and nothing else.
+    pub fn doubles(&mut self, seed: u64, count: u64) -> Result<(), Difference> {
+        (seed..seed + count).try_for_each(|seed| self.doubles_of(seed, &input(&mut Random::seeded(seed))))
+    }
+
+    /// Asks both for doubles of one input: in full, by its own index, and by altered ones about altered bytes.
+    fn doubles_of(&mut self, seed: u64, sheet: &Sheet) -> Result<(), Difference> {
+        let random = &mut Random::seeded(seed ^ 107);
+        let mut entry = sheet.bytes.clone();
+        let own = {
+            let mut numbers = vec![0; 5 * entry.len() / RECORD];
+            let rows = self.other.make_index(&entry, &mut numbers);
+            rows.map(|rows| numbers[..5 * rows].to_vec())
+        };
+        for _ in 0..4 {
+            let place = place(random, sheet);
+            let asked = self.double_in_full(&entry, place).and_then(|full| match &own {
+                Ok(index) => self.double_by_index(&entry, index, place, Some(full)),
+                Err(_) => Ok(()),
+            });
+            let words = |words| format!("{words}\n  {place:?}");
+            asked.map_err(|said| Difference { seed, words: words(said), input: entry.clone() })?;
+        }
+        let index = generate::index_of(&entry);
+        for _ in 0..6 {
+            let (place, mut altered) = (place(random, sheet), index.clone());
+            if random.once_in(2) {
+                generate::alter_index(random, &mut altered);
+            }
+            let asked = self.double_by_index(&entry, &altered, place, None);
+            let words = |words| format!("{words}\n  {place:?} by {altered:?}");
+            asked.map_err(|said| Difference { seed, words: words(said), input: entry.clone() })?;
+            generate::alter_entry(random, &mut entry, &index);
+        }
+        Ok(())
+    }
+
+    /// A question in full, refused and counted as the value question is.
+    fn double_in_full(&mut self, entry: &[u8], place: [u32; 4]) -> Result<Result<DoubleRead, NoAnswer>, String> {
+        let (one, other) = (self.one.double(entry, place), self.other.double(entry, place));
+        same("double", &one, &other)?;
+        self.counts.doubles.add(&one);
+        self.double_of_value("double: both, and the value question", one, self.other.value(entry, place))?;
+        self.double_called("double", DoubleCalls::InFull(entry, place))?;
+        Ok(one)
+    }
+
+    /// A question by an index, refused and counted as the value question is; by the entry's own it has the full answer.
+    fn double_by_index(
+        &mut self,
+        entry: &[u8],
+        index: &[u32],
+        place: [u32; 4],
+        full: Option<Result<DoubleRead, NoAnswer>>,
+    ) -> Result<(), String> {
+        let (one, other) = (self.one.index_double(entry, index, place), self.other.index_double(entry, index, place));
+        same("index_double", &one, &other)?;
+        self.counts.doubles_by_index.add(&one);
+        let value = self.other.index_value(entry, index, place);
+        self.double_of_value("index_double: both, and the value question", one, value)?;
+        self.double_called("index_double", DoubleCalls::ByIndex(entry, index, place))?;
+        full.map_or(Ok(()), |full| same("index_double, and in full", &one, &full))
+    }
+
+    /// A double is the decimal of the value question, by the call for one in hand, with the same refusal and digits.
+    fn double_of_value(
+        &mut self,
+        asked: &str,
+        double: Result<DoubleRead, NoAnswer>,
+        value: Result<FieldRead, NoAnswer>,
+    ) -> Result<(), String> {
+        let in_hand = |read: FieldRead| DoubleRead {
+            value: match read.value {
+                Value::Blank => Simple::Blank,
+                Value::Number(decimal) => self.one.as_double(decimal),
+            },
+            digits: read.digits,
+        };
+        same(asked, &double, &value.map(in_hand))?;
+        if let Ok(read) = double {
+            self.counts.simple[read.value.kind() as usize] += 1;
+        }
+        Ok(())
+    }
+
+    /// What programs of other languages are given.
+    fn double_called(&self, asked: &str, calls: DoubleCalls) -> Result<(), String> {
+        let hex = |(bits, word): (u64, u64)| format!("{bits:016x}, {word:016x}");
+        let (one, other) = (hex(self.one.double_calls(calls)), hex(self.other.double_calls(calls)));
+        same(&format!("{asked}: as it is called"), &one, &other)
+    }
+
+    /// Asks both to read so many number fields as doubles.
+    pub fn double_fields(&mut self, seed: u64, count: u64) -> Result<(), Difference> {
+        for seed in seed..seed + count {
+            let mut random = Random::seeded(seed);
+            let field = generate::double_field(&mut random);
+            let field = if random.once_in(50) { &field[..random.below(11)] } else { &field };
+            let asked = self.double_field(field);
+            asked.map_err(|words| Difference { seed, words, input: field.to_vec() })?;
+        }
+        Ok(())
+    }
+
+    fn double_field(&mut self, field: &[u8]) -> Result<(), String> {
+        let (one, other) = (self.one.read_double(field), self.other.read_double(field));
+        same("read_double", &one, &other)?;
+        self.counts.double_fields.add(&one);
+        self.double_of_value("read_double: both, and read_number", one, self.other.read_number(field))?;
+        self.double_called("read_double", DoubleCalls::Field(field))
+    }
+
+    /// Asks both for the doubles of so many decimals.
+    pub fn double_decimals(&mut self, seed: u64, count: u64) -> Result<(), Difference> {
+        for seed in seed..seed + count {
+            let decimal = generate::decimal_in_hand(&mut Random::seeded(seed));
+            let (one, other) = (self.one.as_double(decimal), self.other.as_double(decimal));
+            let asked = same("as_double", &one, &other);
+            let asked = asked.and_then(|()| self.double_called("as_double", DoubleCalls::InHand(decimal)));
+            asked.map_err(|words| Difference { seed, words: format!("{decimal:?}: {words}"), input: Vec::new() })?;
+            self.counts.simple[one.kind() as usize] += 1;
         }
         Ok(())
     }

@@ -14,7 +14,7 @@
 
 use crate::json::{array, object, text};
 use crate::transmission::of_entries;
-use crate::{library, FieldRead, NoAnswer, Part, RECORD};
+use crate::{library, DoubleRead, FieldRead, NoAnswer, Part, RECORD};
 
 /// How many numbers a row has.
 pub const ROW: usize = 5;
@@ -73,6 +73,18 @@ impl Index {
         library::index_value(entry, &self.numbers, subentry, section, line, column)
     }
 
+    /// The value in a column of a line as a double, and its count of digits.
+    pub fn double(
+        &self,
+        entry: &[u8],
+        subentry: u32,
+        section: u32,
+        line: u32,
+        column: u32,
+    ) -> Result<DoubleRead, NoAnswer> {
+        library::index_double(entry, &self.numbers, subentry, section, line, column)
+    }
+
     /// The heading of a column: ten columns of the entry, and its pointer.
     pub fn heading(&self, entry: &[u8], subentry: u32, section: u32, column: u32) -> Result<Part, NoAnswer> {
         library::index_heading(entry, &self.numbers, subentry, section, column)
@@ -118,6 +130,11 @@ impl Row {
     /// What stands in a column of a line.
     pub fn value(&self, entry: &[u8], section: u32, line: u32, column: u32) -> Result<FieldRead, NoAnswer> {
         library::index_value(entry, &self.numbers(), self.subentry, section, line, column)
+    }
+
+    /// The value in a column of a line as a double.
+    pub fn double(&self, entry: &[u8], section: u32, line: u32, column: u32) -> Result<DoubleRead, NoAnswer> {
+        library::index_double(entry, &self.numbers(), self.subentry, section, line, column)
     }
 
     /// The heading of a column.

@@ -1,13 +1,13 @@
 //! Reads EXFOR entries, from ENTRY to ENDENTRY: judges them and says why, answers questions about their tables and
 //! passages, with an index beside the entry where there are many, goes through a table value by value, reads and writes
-//! number fields, and copies entries canonically. A whole transmission, from TRANS to ENDTRANS, is judged, taken apart
-//! into its entries and copied.
+//! number fields, gives values as doubles, and copies entries canonically. A whole transmission, from TRANS to ENDTRANS,
+//! is judged, taken apart into its entries and copied.
 //!
-//! "The paper" is document 01, `Build requirements and exact rules`, with seven requests of document 02: M-104, the
+//! "The paper" is document 01, `Build requirements and exact rules`, with eight requests of document 02: M-104, the
 //! count of digits, M-101, headings that may repeat, M-105, a number under FLAG equals a code, M-100, whole
-//! transmissions, M-108, the reason of a refusal, M-102, an index of subentries, and M-112, values in order. Its
-//! numbers are kept: a refusal here has the number that the paper gives it, records, lines and columns count from 1,
-//! and an accepted entry has the paper's four totals. Programs call [`library`]; [`reference`] is a second
+//! transmissions, M-108, the reason of a refusal, M-102, an index of subentries, M-112, values in order, and M-107, values
+//! as doubles. Its numbers are kept: a refusal here has the number that the paper gives it, records, lines and columns
+//! count from 1, and an accepted entry has the paper's four totals. Programs call [`library`]; [`reference`] is a second
 //! implementation, written from the paper alone, which the tests hold against the first.
 //!
 //! ```
@@ -28,7 +28,7 @@
 //! let index = library::Index::of(&entry)?; // from now on nothing is judged
 //! assert_eq!(index.value(&entry, 2, DATA, 1, 2)?, read);
 //! for place in library::values(&entry, 2, DATA)? {
-//!     println!("line {}, column {}: {:?}", place.line, place.column, place.read.value);
+//!     println!("line {}, column {}: {:?}, {:?}", place.line, place.column, place.read.value, place.double());
 //! }
 //! let file = std::fs::read("data/transmission.x4")?;
 //! assert!(library::judge_file(&file).refusal().is_none());
@@ -47,6 +47,7 @@ pub mod boundary;
 pub mod compare;
 pub mod decimal;
 pub mod differ;
+pub mod double;
 pub mod explain;
 pub mod generate;
 pub mod index;
@@ -61,6 +62,7 @@ pub mod words;
 
 pub use answers::{Explained, NoAnswer, Part, Reason, Refusal, Totals, Verdict};
 pub use decimal::{Decimal, FieldRead, Value};
+pub use double::{DoubleRead, Simple};
 pub use index::Index;
 
 /// "A record is 80 columns and one line feed (81 bytes)."

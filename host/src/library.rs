@@ -3,16 +3,17 @@
 
 #[cfg(proved)]
 use crate::boundary as archives_or_reference;
+pub use crate::double::{DoubleRead, Simple};
 pub use crate::index::{Index, Row};
 #[cfg(not(proved))]
 use crate::reference as archives_or_reference;
 use crate::transmission::Entries;
 use crate::walk::{Given, Walk};
 pub use crate::walk::{Placed, Values};
-use crate::{Decimal, Explained, FieldRead, NoAnswer, Part, Verdict};
+use crate::{Decimal, Explained, FieldRead, NoAnswer, Part, Value, Verdict};
 
 /// Every call, in the order of this module.
-pub const CALLS: [&str; 21] = [
+pub const CALLS: [&str; 25] = [
     "judge",
     "value",
     "heading",
@@ -34,6 +35,10 @@ pub const CALLS: [&str; 21] = [
     "index_passage",
     "walk",
     "walk_next",
+    "double",
+    "index_double",
+    "read_double",
+    "as_double",
 ];
 
 /// The calls that the archives of proved functions answer in this build.
@@ -45,7 +50,7 @@ pub fn proved() -> &'static [&'static str] {
 }
 
 /// The paths of the archives that are linked, if they are.
-pub fn archives() -> Option<[String; 7]> {
+pub fn archives() -> Option<[String; 9]> {
     let folder = option_env!("X4_LINKED").filter(|_| cfg!(proved))?;
     let crates = [
         "exports",
@@ -55,6 +60,8 @@ pub fn archives() -> Option<[String; 7]> {
         "exports_reasons",
         "exports_index",
         "exports_walk",
+        "exports_doubles",
+        "exports_reals",
     ];
     Some(crates.map(|name| format!("{folder}/libx4_{name}.a")))
 }
@@ -211,4 +218,119 @@ pub fn walk(entry: &[u8], subentry: u32, section: u32) -> Result<Walk, NoAnswer>
 #[inline]
 pub fn walk_next(entry: &[u8], walk: &mut Walk) -> Option<Given> {
     archives_or_reference::walk_next(entry, walk)
+}
+
+/// The value in a column of a line as a double (M-107), with its count of digits: refused as [`value`] is. The entry is
+/// judged once, by that question.
+pub fn double(entry: &[u8], subentry: u32, section: u32, line: u32, column: u32) -> Result<DoubleRead, NoAnswer> {
+    value(entry, subentry, section, line, column).map(doubled)
+}
+
+/// The answer of [`double`], by an index: refused as [`index_value`] is.
+pub fn index_double(
+    entry: &[u8],
+    index: &[u32],
+    subentry: u32,
+    section: u32,
+    line: u32,
+    column: u32,
+) -> Result<DoubleRead, NoAnswer> {
+    index_value(entry, index, subentry, section, line, column).map(doubled)
+}
+
+/// Reads one number field of eleven bytes as a double, and counts the digits written in it: refused as [`read_number`] is.
+#[inline]
+pub fn read_double(field: &[u8]) -> Result<DoubleRead, NoAnswer> {
+    #[cfg(proved)]
+    {
+        let (double, word) = archives_or_reference::read_double(field);
+        // The call gives no decimal, so where it is outside the field is read again.
+        match crate::words::double(word, double)? {
+            Some(read) => Ok(read),
+            None => read_number(field).map(doubled),
+        }
+    }
+    #[cfg(not(proved))]
+    {
+        archives_or_reference::read_double(field)
+    }
+}
+
+/// What a reading in hand is as a double: of [`value`], of a walk, or of [`read_number`].
+#[inline]
+pub fn doubled(read: FieldRead) -> DoubleRead {
+    let value = match read.value {
+        Value::Blank => Simple::Blank,
+        Value::Number(decimal) => as_double(decimal),
+    };
+    DoubleRead { value, digits: read.digits }
+}
+
+/// A decimal in hand as a double; outside, where it has more than ten digits or its power is not -22 to 22. The power is the
+/// one handed over, not that of the value, whose coefficient ten does not divide. A simple zero is 0.0, however it is signed.
+#[inline]
+pub fn as_double(decimal: Decimal) -> Simple {
+    #[cfg(proved)]
+    {
+        let Decimal { negative, coefficient, power } = decimal;
+        // The first call gives 0.0 where there is no double, so only then the other is needed.
+        let double = archives_or_reference::as_double(negative.into(), coefficient, power);
+        match double != 0.0 || archives_or_reference::as_double_kind(negative.into(), coefficient, power) == 1 {
+            true => Simple::Double(double),
+            // "Zero is (no, 0, 0), however signed"
+            false => Simple::Outside(Decimal { negative: negative && coefficient != 0, ..decimal }),
+        }
+    }
+    #[cfg(not(proved))]
+    {
+        archives_or_reference::as_double(decimal)
+    }
+}
+
+/// A question for a double, as `include/x4.h` has it.
+#[derive(Clone, Copy, Debug)]
+pub enum DoubleCalls<'a> {
+    /// `x4_double`: the entry, and subentry, section, line and column.
+    InFull(&'a [u8], [u32; 4]),
+    /// `x4_index_double`: the same by an index.
+    ByIndex(&'a [u8], &'a [u32], [u32; 4]),
+    /// `x4_read_double`.
+    Field(&'a [u8]),
+    /// `x4_as_double` and `x4_as_double_kind`.
+    InHand(Decimal),
+}
+
+/// The double that is stored, 0.0 where none is, and the word ([`crate::words`]), or the kind for a decimal in hand: to hold
+/// the functions above against.
+pub fn double_calls(calls: DoubleCalls) -> (f64, u64) {
+    #[cfg(proved)]
+    {
+        use archives_or_reference as archives;
+        match calls {
+            DoubleCalls::InFull(entry, [n, section, line, column]) => archives::double(entry, n, section, line, column),
+            DoubleCalls::ByIndex(entry, index, [n, section, line, column]) => {
+                archives::index_double(entry, index, n, section, line, column)
+            }
+            DoubleCalls::Field(field) => archives::read_double(field),
+            DoubleCalls::InHand(Decimal { negative, coefficient, power }) => (
+                archives::as_double(negative.into(), coefficient, power),
+                archives::as_double_kind(negative.into(), coefficient, power),
+            ),
+        }
+    }
+    #[cfg(not(proved))]
+    {
+        let answer = match calls {
+            DoubleCalls::InFull(entry, [n, section, line, column]) => double(entry, n, section, line, column),
+            DoubleCalls::ByIndex(entry, index, [n, section, line, column]) => {
+                index_double(entry, index, n, section, line, column)
+            }
+            DoubleCalls::Field(field) => read_double(field),
+            DoubleCalls::InHand(decimal) => {
+                let simple = as_double(decimal);
+                return (simple.double().unwrap_or(0.0), simple.kind());
+            }
+        };
+        crate::words::double_calls(answer)
+    }
 }

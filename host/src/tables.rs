@@ -20,11 +20,14 @@
 //! 90001002,DATA,1,10,2,0.145,3,,0
 //! 90001002,DATA,2,20,2,0.14,2,25,2
 //! ```
+//!
+//! As doubles (M-107) numbers are shown shortly, with the fewest digits that read back to the double, `1e22`; a decimal
+//! that is outside the simple range is still exact.
 
 use crate::json::{array, object, text};
 use crate::library::Index;
 use crate::transmission::of_entries;
-use crate::{index, FieldRead, NoAnswer, Value, COMMON, DATA};
+use crate::{double, index, library, FieldRead, NoAnswer, Value, COMMON, DATA};
 
 /// A column of a table.
 #[derive(Clone, Debug, PartialEq, Eq)]
@@ -111,11 +114,37 @@ fn written(place: &[u8]) -> String {
     String::from_utf8_lossy(place).trim_end_matches(' ').to_string()
 }
 
-/// A value as text: nothing for blank.
-pub fn value_text(value: &Value) -> String {
-    match value {
-        Value::Blank => String::new(),
-        Value::Number(decimal) => decimal.to_string(),
+/// How tables are shown.
+#[derive(Clone, Copy, Debug, Default, PartialEq, Eq)]
+pub struct Shown {
+    /// With the count of digits behind each value.
+    pub digits: bool,
+    /// With values as doubles (M-107).
+    pub doubles: bool,
+}
+
+impl Shown {
+    /// A value as a double, where they are asked for and it is one.
+    fn double(self, read: &FieldRead) -> Option<f64> {
+        self.doubles.then(|| library::doubled(*read).value.double())?
+    }
+
+    /// A value as text: nothing for blank.
+    fn text(self, read: &FieldRead) -> String {
+        match (read.value, self.double(read)) {
+            (Value::Blank, _) => String::new(),
+            (_, Some(double)) => double::text(double),
+            (Value::Number(decimal), None) => decimal.to_string(),
+        }
+    }
+
+    /// A value as JSON: null for blank, and a text for a decimal, so that no reader rounds it. A double is a number.
+    fn json(self, read: &FieldRead) -> String {
+        match (read.value, self.double(read)) {
+            (Value::Blank, _) => "null".to_string(),
+            (_, Some(double)) => double::text(double),
+            (Value::Number(decimal), None) => text(&decimal.to_string()),
+        }
     }
 }
 
@@ -139,7 +168,7 @@ pub struct Row {
 
 impl Table {
     /// The rows of this table, with the digits behind each column where they are asked for.
-    pub fn rows(&self, digits: bool) -> Vec<Row> {
+    pub fn rows(&self, shown: Shown) -> Vec<Row> {
         let row = |kind: String, cells: Vec<String>| Row {
             entry: self.entry,
             subentry: self.subentry.clone(),
@@ -147,7 +176,7 @@ impl Table {
             kind,
             cells,
         };
-        let cells = |own: String, behind: String| if digits { vec![own, behind] } else { vec![own] };
+        let cells = |own: String, behind: String| if shown.digits { vec![own, behind] } else { vec![own] };
         let each = |text: fn(&Column) -> String, behind: &str| {
             self.columns.iter().flat_map(|column| cells(text(column), behind.into())).collect()
         };
@@ -157,7 +186,7 @@ impl Table {
             row("unit".into(), each(|column| column.unit.clone(), "")),
         ];
         for (index, line) in self.lines.iter().enumerate() {
-            let texts = line.iter().flat_map(|read| cells(value_text(&read.value), read.digits.to_string()));
+            let texts = line.iter().flat_map(|read| cells(shown.text(read), read.digits.to_string()));
             rows.push(row((index + 1).to_string(), texts.collect()));
         }
         rows
@@ -165,9 +194,9 @@ impl Table {
 }
 
 /// Tables as comma-separated values, with the digits behind each column where they are asked for.
-pub fn to_csv(tables: &[Table], digits: bool) -> String {
+pub fn to_csv(tables: &[Table], shown: Shown) -> String {
     let mut text = String::new();
-    for row in tables.iter().flat_map(|table| table.rows(digits)) {
+    for row in tables.iter().flat_map(|table| table.rows(shown)) {
         let fields = [&row.subentry, &row.section, &row.kind].into_iter().chain(&row.cells);
         text += &fields.map(|field| csv_field(field)).collect::<Vec<_>>().join(",");
         text.push('\n');
@@ -216,9 +245,9 @@ fn csv_fields(line: &str) -> Option<Vec<String>> {
     (!inside).then(|| fields.iter().map(|field| field.trim().to_string()).collect())
 }
 
-/// Tables as JSON: numbers are texts, so that no reader rounds them; blank is null. With digits a value is an object of
-/// both. Of a transmission each table has its entry's ordinal.
-pub fn to_json(tables: &[Table], digits: bool) -> String {
+/// Tables as JSON: numbers are texts, so that no reader rounds them, but doubles are numbers; blank is null. With digits a
+/// value is an object of both. Of a transmission each table has its entry's ordinal.
+pub fn to_json(tables: &[Table], shown: Shown) -> String {
     let tables = tables.iter().map(|table| {
         let columns = table.columns.iter().map(|column| {
             object(&[
@@ -227,13 +256,9 @@ pub fn to_json(tables: &[Table], digits: bool) -> String {
                 ("unit", text(&column.unit)),
             ])
         });
-        let value = |value: &Value| match value {
-            Value::Blank => "null".to_string(),
-            Value::Number(decimal) => text(&decimal.to_string()),
-        };
-        let cell = |read: &FieldRead| match digits {
-            false => value(&read.value),
-            true => object(&[("value", value(&read.value)), (DIGITS, read.digits.to_string())]),
+        let cell = |read: &FieldRead| match shown.digits {
+            false => shown.json(read),
+            true => object(&[("value", shown.json(read)), (DIGITS, read.digits.to_string())]),
         };
         let lines = table.lines.iter().map(|line| array(line.iter().map(cell)));
         let own = [

@@ -13,7 +13,7 @@
 //! # Ok::<(), Box<dyn std::error::Error>>(())
 //! ```
 
-use crate::{library, FieldRead, NoAnswer};
+use crate::{library, FieldRead, NoAnswer, Simple};
 use std::iter::FusedIterator;
 
 /// Where a walk stands: the record of its section, the section's columns and lines, and the line and the column of the
@@ -33,6 +33,14 @@ pub struct Placed {
     pub column: u32,
     /// What stands there, blank or a number, and its count of digits: the answer of [`library::value`].
     pub read: FieldRead,
+}
+
+impl Placed {
+    /// The value as a double (M-107): the answer of [`library::double`].
+    #[inline]
+    pub fn double(&self) -> Simple {
+        library::doubled(self.read).value
+    }
 }
 
 /// The values of a table, each once, left to right and line by line; from [`library::values`]. It keeps the entry, so that

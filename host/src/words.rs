@@ -8,6 +8,8 @@
 //! | 16-23 | its column |
 //! | 24-47 | its record |
 //! | 48-63 | the ordinal of the entry in a transmission; 0 for a single entry |
+//! | 48-55 | of a double: 0 blank or refused, 1 a double, 2 a decimal outside the simple range |
+//! | 56-63 | of a double: how many digits are written in the field |
 //!
 //! A value is kind (0 blank, 1 number), whether it is below zero, coefficient, power of ten in two's complement, the
 //! count of digits written, and three zeros; a part is first byte, length and pointer; the totals are subentries,
@@ -24,7 +26,9 @@
 //! | 6 | 0, 0 | the expected characters stand beside them, which are eight blanks else |
 
 use crate::walk::Given;
-use crate::{Decimal, Explained, FieldRead, NoAnswer, Part, Reason, Refusal, Totals, Value, Verdict};
+use crate::{
+    Decimal, DoubleRead, Explained, FieldRead, NoAnswer, Part, Reason, Refusal, Simple, Totals, Value, Verdict,
+};
 
 /// The version of the interface that this module takes apart.
 pub const VERSION: u32 = 4;
@@ -71,6 +75,33 @@ pub fn part([first, length, pointer]: [u64; 3]) -> Part {
 #[inline]
 pub fn given(word: u64, [some, line, column]: [u64; 3], numbers: [u64; 8]) -> Option<Given> {
     (some == 1).then(|| (line as u32, column as u32, answered(word).map(|()| value(numbers))))
+}
+
+/// What the word of a call that stores a double and what is stored then say; none where the value is a decimal outside the
+/// simple range, which the call does not give.
+#[inline]
+pub fn double(word: u64, double: f64) -> Result<Option<DoubleRead>, NoAnswer> {
+    answered(word)?;
+    let read = |value| DoubleRead { value, digits: (word >> 56) as u32 };
+    Ok(match word >> 48 & 0xff {
+        0 => Some(read(Simple::Blank)),
+        1 => Some(read(Simple::Double(double))),
+        _ => None,
+    })
+}
+
+/// The double and the word of an answer, as a call hands them back; the double is 0.0 where none is stored.
+pub fn double_calls(answer: Result<DoubleRead, NoAnswer>) -> (f64, u64) {
+    match answer {
+        Ok(DoubleRead { value, digits }) => {
+            (value.double().unwrap_or(0.0), value.kind() << 48 | u64::from(digits) << 56)
+        }
+        Err(NoAnswer { number, entry }) => {
+            let [refusal, column, record] =
+                entry.map_or([0; 3], |entry| [entry.number, entry.column, entry.record].map(u64::from));
+            (0.0, u64::from(number) | refusal << 8 | column << 16 | record << 24)
+        }
+    }
 }
 
 /// What the arrays of a reason say.
@@ -145,5 +176,25 @@ mod tests {
         assert_eq!(given(0, [1, 20_000, 18], [0; 8]), Some((20_000, 18, Ok(FieldRead::BLANK))));
         assert_eq!(given(15, [1, 1, 2], [7; 8]), Some((1, 2, Err(NoAnswer::numbered(15)))));
         assert_eq!(given(0, [0; 3], [7; 8]), None);
+    }
+
+    #[test]
+    fn doubles_are_where_the_table_says() {
+        let outside = Simple::Outside(Decimal { negative: false, coefficient: 1, power: 23 });
+        for (value, digits, called) in [
+            (Simple::Blank, 0, (0.0, 0)),
+            (Simple::Double(0.145), 3, (0.145, (1 << 48) + (3 << 56))),
+            (outside, 10, (0.0, (2 << 48) + (10 << 56))),
+        ] {
+            assert_eq!(double_calls(Ok(DoubleRead { value, digits })), called);
+            assert_eq!(answered(called.1), Ok(()));
+            let read = Some(DoubleRead { value, digits }).filter(|_| value != outside);
+            assert_eq!(double(called.1, called.0), Ok(read));
+        }
+        let refused = NoAnswer { number: 31, entry: Some(Refusal::new(17, 20_001, 81)) };
+        let (none, word) = double_calls(Err(refused));
+        assert_eq!((none, word), (0.0, 31 + (17 << 8) + (81 << 16) + (20_001 << 24)));
+        assert_eq!((answered(word), double(word, 7.0)), (Err(refused), Err(refused)));
+        assert_eq!(double_calls(Err(NoAnswer::numbered(15))), (0.0, 15));
     }
 }

@@ -20,6 +20,8 @@ fn the_library_and_the_reference_agree() {
     let mut pair = Pair::new(&Library, &Reference);
     let outcome = pair.fields(SEED, 100_000).and_then(|()| pair.decimals(SEED, 100_000));
     let outcome = outcome.and_then(|()| pair.entries(SEED, ENTRIES));
+    let outcome = outcome.and_then(|()| pair.double_fields(SEED, 100_000));
+    let outcome = outcome.and_then(|()| pair.double_decimals(SEED, 100_000));
     let outcome = outcome.and_then(|()| pair.bytes(include_bytes!("../data/sample.x4"), b" 01A.E\n#"));
     outcome.unwrap_or_else(|difference| panic!("{difference}"));
     let counts = pair.counts;
@@ -44,6 +46,13 @@ fn the_library_and_the_reference_agree() {
     assert!(counts.done.iter().all(|&times| times >= 1_000), "{counts}");
     assert!([0, 15, 40].iter().all(|&number| counts.readings.of(number) >= 1_000), "{counts}");
     assert!([0, 40, 41].iter().all(|&number| counts.writings.of(number) >= 1_000), "{counts}");
+    assert!([0, 31, 32, 33, 34, 35].iter().all(|&number| counts.doubles.of(number) >= 100), "{counts}");
+    for number in [0, 32, 33, 34, 35, 38, 39] {
+        assert!(counts.doubles_by_index.of(number) >= 100, "{counts}");
+    }
+    assert_eq!(counts.doubles_by_index.of(31), 0, "{counts}");
+    assert!([0, 15, 40].iter().all(|&number| counts.double_fields.of(number) >= 1_000), "{counts}");
+    assert!(counts.simple.iter().all(|&times| times >= 1_000), "{counts}");
 }
 
 /// Transmissions: generated ones, those at the limits, and each byte of TRANS and ENDTRANS changed.

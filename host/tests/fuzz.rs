@@ -53,6 +53,12 @@ fn mutated_entries_are_answered() {
     for kind in ["values", "fields malformed", "times done"] {
         assert!(given(&words, kind) > 0, "walks have {kind}: {words}");
     }
+    let doubles = words.split("doubles by refusal").nth(1).and_then(|rest| rest.split(';').next()).unwrap_or_default();
+    for refusal in [" 0:", " 15:", " 31:", " 32:", " 33:", " 34:", " 35:", " 38:", " 39:", " 40:"] {
+        assert!(doubles.contains(refusal), "every answer for a double occurs: {words}");
+    }
+    let kinds: Vec<u64> = doubles.split(", ").skip(1).flat_map(|part| part.split(' ')).flat_map(str::parse).collect();
+    assert!(kinds.len() == 4 && kinds.iter().all(|&times| times > 0), "doubles and decimals occur: {words}");
     let reasons = words.split("reasons by kind").nth(1).unwrap_or_default();
     assert!(reasons.contains(" 6:") && !reasons.contains(":0"), "reasons of every kind occur: {words}");
     let files = words.split("transmissions by refusal").nth(1).unwrap_or_default();

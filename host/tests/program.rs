@@ -682,6 +682,53 @@ fn tables_with_digits() {
     assert_eq!(run(&["judge", "--digits"], &sample()).status.code(), Some(2));
 }
 
+/// With --doubles each number is its double, shortly; a decimal outside the simple range stays exact.
+#[test]
+fn tables_with_doubles() {
+    let mut entry = changed(10, 1, "      1.+22");
+    put(&mut entry, 22, 1, "1000.           -1.-22");
+    put(&mut entry, 23, 1, "-0.0             1.+23      1.-60");
+    let csv = "\
+90001001,COMMON,heading,EN
+90001001,COMMON,pointer,
+90001001,COMMON,unit,MEV
+90001001,COMMON,1,1e22
+90001002,DATA,heading,ANG,DATA,DATA
+90001002,DATA,pointer,,1,2
+90001002,DATA,unit,ADEG,MB/SR,MB/SR
+90001002,DATA,1,1e3,-1e-22,
+90001002,DATA,2,0,100000000000000000000000,1E-60
+";
+    let output = run(&["tables", "--doubles"], &entry);
+    assert_eq!((printed(&output).as_str(), output.status.code()), (csv, Some(0)));
+    // Of the sample all are as short as exact decimals.
+    assert_eq!(run(&["tables", "--doubles"], &sample()).stdout, run(&["tables"], &sample()).stdout);
+    // A double is a number, a decimal a text; without the option all are texts.
+    let json = printed(&run(&["tables", "--doubles", "--json"], &entry));
+    let lines = "\"lines\":[[1e3,-1e-22,null],[0,\"100000000000000000000000\",\"1E-60\"]]}]\n";
+    assert!(json.contains("\"lines\":[[1e22]]") && json.ends_with(lines), "{json}");
+    let both = printed(&run(&["tables", "--doubles", "--digits"], &entry));
+    assert!(
+        both.ends_with("DATA,1,1e3,4,-1e-22,1,,0\n90001002,DATA,2,0,0,100000000000000000000000,1,1E-60,1\n"),
+        "{both}"
+    );
+    let json = printed(&run(&["tables", "--json", "--digits", "--doubles"], &entry));
+    assert!(json.contains("[[{\"value\":1e3,\"digits\":4},{\"value\":-1e-22,\"digits\":1},"), "{json}");
+    let json = printed(&run(&["tables", "--json"], &entry));
+    assert!(json.contains("\"lines\":[[\"1000\",\"-0.0000000000000000000001\",null],"), "{json}");
+    // The tables of both kinds are the same to a program that compares doubles.
+    let (first, table) = (file("doubles.x4", &entry), file("doubles.csv", csv.as_bytes()));
+    assert_eq!(printed(&run(&["compare", &first, &table], b"")), "same: 2 tables, 6 numbers\n");
+    let refused = run(&["tables", "--doubles"], &changed(4, 79, "4"));
+    assert_eq!((printed(&refused).as_str(), refused.status.code()), ("", Some(1)));
+    let help = printed(&run(&["tables", "--help"], b""));
+    assert!(help.contains("With --doubles each number is the text of its double"), "{help}");
+    assert!(printed(&run(&["help"], b"")).contains("\n  x4 tables [--json] [--digits] [--doubles] [FILE]\n"));
+    for command in ["judge", "index", "compare", "canon"] {
+        assert_eq!(run(&[command, "--doubles"], &sample()).status.code(), Some(2), "{command}");
+    }
+}
+
 #[test]
 fn canonical_copies() {
     let output = run(&["canon"], &sample());

@@ -2,7 +2,7 @@
 //! compared with the proved functions at every check of the crates, and here with an implementation that shares nothing
 //! with these.
 
-use glockenbeacon::{reference, Decimal, FieldRead, NoAnswer, Part, Value, RECORD};
+use glockenbeacon::{reference, Decimal, DoubleRead, FieldRead, NoAnswer, Part, Simple, Value, RECORD};
 use std::fmt::Write;
 use std::path::Path;
 
@@ -124,6 +124,44 @@ fn questions_are_answered_as_stored() {
         }
     }
     same_lines("answers", &said);
+}
+
+/// Which of the three the value is, a double by its bits, and the count of digits.
+fn double_said(read: Result<DoubleRead, NoAnswer>) -> String {
+    let value = match read.map(|read| read.value) {
+        Ok(Simple::Double(double)) => format!("double {:016x}", double.to_bits()),
+        Ok(Simple::Outside(Decimal { negative, coefficient, power })) => {
+            format!("decimal {} {coefficient} {power}", if negative { '-' } else { '+' })
+        }
+        Ok(Simple::Blank) | Err(_) => "blank".to_string(),
+    };
+    format!("{value} {}", read.map_or(0, |read| read.digits))
+}
+
+/// A field that is refused is its number alone, a question that is has a blank beside its numbers.
+#[test]
+fn doubles_are_given_as_stored() {
+    let (mut entry, mut said) = (Vec::new(), String::new());
+    for line in stored("double_cases", "stdin").split(|&byte| byte == b'\n') {
+        match line.first() {
+            None | Some(b'#') => {}
+            Some(b'!') => entry.clear(),
+            Some(b'*') => entry.extend([&line[1..], b"\n"].concat()),
+            Some(b'f') => {
+                let read = reference::read_double(&line[1..]);
+                let field = read.map_or_else(|no| format!("{} 0", no.number), |_| double_said(read));
+                writeln!(said, "{field}").expect("a string takes all");
+            }
+            Some(b'd') => {
+                let [n, section, row, column] = [1, 11, 21, 31].map(|at| asked(line, at));
+                let answer = reference::double(&entry, n, section, row, column);
+                let beside = numbers(answer.as_ref().err());
+                writeln!(said, "{beside} {}", double_said(answer)).expect("a string takes all");
+            }
+            Some(&other) => panic!("a line that begins with {:?}", char::from(other)),
+        }
+    }
+    same_lines("double_cases", said.as_bytes());
 }
 
 /// Makes an index in so many numbers, and hands back its rows, none where it is refused.

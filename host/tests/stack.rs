@@ -14,7 +14,7 @@ fn writing_takes_little_stack() {
 mod measured {
     use crate::common::{sample, say, transmission, wide};
     use glockenbeacon::generate::{self, Random};
-    use glockenbeacon::{reference, Decimal};
+    use glockenbeacon::{reference, Decimal, FieldRead, NoAnswer, Value};
     use std::arch::asm;
     use std::collections::BTreeSet;
 
@@ -44,6 +44,11 @@ mod measured {
         fn x4_index_passage();
         fn x4_walk();
         fn x4_walk_next();
+        fn x4_double();
+        fn x4_index_double();
+        fn x4_read_double();
+        fn x4_as_double();
+        fn x4_as_double_kind();
     }
 
     type Function = unsafe extern "C" fn();
@@ -51,10 +56,11 @@ mod measured {
     /// The most words that a call takes.
     type Words = [u64; 9];
 
-    /// Calls a C function with up to nine words on another stack, which ends 32 bytes above `top`.
+    /// Calls a C function with up to nine words on another stack, which ends 32 bytes above `top`: its answer, and the double
+    /// where it returns one.
     #[cfg(target_arch = "x86_64")]
-    unsafe fn call_on(top: *mut u128, function: Function, words: Words) -> u64 {
-        let answer;
+    unsafe fn call_on(top: *mut u128, function: Function, words: Words) -> (u64, f64) {
+        let (answer, double);
         // the seventh word, the eighth and the ninth stand on the stack, above the return address
         *top = u128::from(words[6]) | u128::from(words[7]) << 64;
         *top.add(1) = u128::from(words[8]);
@@ -72,16 +78,17 @@ mod measured {
             inout("r8") words[4] => _,
             inout("r9") words[5] => _,
             lateout("rax") answer,
+            lateout("xmm0") double,
             out("r12") _,
             clobber_abi("C"),
         );
-        answer
+        (answer, double)
     }
 
     /// The same on Arm, where eight words go in registers and the ninth stands on the stack.
     #[cfg(target_arch = "aarch64")]
-    unsafe fn call_on(top: *mut u128, function: Function, words: Words) -> u64 {
-        let answer;
+    unsafe fn call_on(top: *mut u128, function: Function, words: Words) -> (u64, f64) {
+        let (answer, double);
         *top = u128::from(words[8]);
         asm!(
             "mov x20, sp",
@@ -98,10 +105,11 @@ mod measured {
             inout("x5") words[5] => _,
             inout("x6") words[6] => _,
             inout("x7") words[7] => _,
+            lateout("v0") double,
             out("x20") _,
             clobber_abi("C"),
         );
-        answer
+        (answer, double)
     }
 
     /// A call of the archives, the stack that it is made on, and the most that it has taken so far.
@@ -110,11 +118,13 @@ mod measured {
         function: Function,
         stack: Vec<u128>,
         most: usize,
+        /// What the last call left where a double is returned.
+        double: f64,
     }
 
     impl Measured {
         fn new(name: &'static str, function: Function) -> Measured {
-            Measured { name, function, stack: vec![0; 4096], most: 0 }
+            Measured { name, function, stack: vec![0; 4096], most: 0, double: 0.0 }
         }
 
         /// Makes the call on a stack painted with a byte: its answer, and the bytes from the caller down to the lowest
@@ -124,7 +134,8 @@ mod measured {
             self.stack.fill(plain);
             let top = self.stack.len() - 2;
             // SAFETY: the words are what the function takes, and 64 kB are more than it needs by far.
-            let answer = unsafe { call_on(self.stack.as_mut_ptr().add(top), self.function, words) };
+            let (answer, double) = unsafe { call_on(self.stack.as_mut_ptr().add(top), self.function, words) };
+            self.double = double;
             let low = self.stack[..top].iter().position(|&word| word != plain).unwrap_or(top);
             let kept = self.stack[low].to_ne_bytes().iter().position(|&byte| byte != paint).unwrap_or(0);
             (answer, (top - low) * 16 - if low == top { 0 } else { kept })
@@ -382,6 +393,106 @@ mod measured {
         assert!([0, 31, 32, 33].iter().all(|number| begun.contains(number)), "{begun:?}");
         assert!([(0, 0), (0, 1), (15, 1)].iter().all(|said_so| said.contains(said_so)), "{said:?}");
         [begin, next].iter().for_each(Measured::say);
+    }
+
+    /// The five calls for doubles: of these entries in full and by an index, of fields, and of decimals in hand. Each double
+    /// is the nearest one to the decimal that the reference says, and nothing is stored where its word has another kind.
+    #[test]
+    fn doubles_are_measured() {
+        let mut full = Measured::new("x4_double", x4_double);
+        let mut by_index = Measured::new("x4_index_double", x4_index_double);
+        let mut read = Measured::new("x4_read_double", x4_read_double);
+        let mut hand = Measured::new("x4_as_double", x4_as_double);
+        let mut hand_kind = Measured::new("x4_as_double_kind", x4_as_double_kind);
+        let mut place: [f64; 1];
+        // what was said by which call: its number and its kind
+        let mut said = vec![BTreeSet::new(); 4];
+        for (turn, entry) in entries().iter().enumerate() {
+            let [first, length] = bytes(entry);
+            let mut index = generate::index_of(entry);
+            match turn % 4 {
+                0 | 1 => {}
+                2 => generate::alter_index(&mut Random::seeded(turn as u64), &mut index),
+                _ => drop(index.pop()),
+            }
+            let [numbers, count] = [index.as_ptr() as u64, index.len() as u64];
+            for (n, section) in [(1, 1), (2, 1), (2, 2), (3, 2), (2, 3), (999, 1)] {
+                for (line, column) in [(1, 1), (1, 2), (1, 18), (9, 1)] {
+                    let [a, b, c, d] = [n, section, line, column].map(|number| number as u32);
+                    place = [MARK];
+                    let word = full.call([first, length, n, section, line, column, lent(&mut place)]);
+                    said[0].insert(returned(stored(place, word), word, reference::value(entry, a, b, c, d)));
+                    place = [MARK];
+                    let words = [first, length, numbers, count, n, section, line, column, lent(&mut place)];
+                    let word = by_index.call(words);
+                    let due = reference::index_value(entry, &index, a, b, c, d);
+                    said[1].insert(returned(stored(place, word), word, due));
+                }
+            }
+        }
+        let mut random = Random::seeded(107);
+        for _ in 0..3000 {
+            let field = generate::number_field(&mut random);
+            let length = if random.once_in(20) { random.below(11) } else { 11 };
+            let [first, length] = bytes(&field[..length]);
+            place = [MARK];
+            let word = read.call([first, length, lent(&mut place)]);
+            said[2].insert(returned(stored(place, word), word, reference::read_number(&field[..length as usize])));
+            let Decimal { negative, mut coefficient, mut power } = generate::decimal(&mut random);
+            if random.once_in(2) {
+                (coefficient, power) = (coefficient % 20_000_000_000, random.below(61) as i32 - 30);
+            }
+            let words = [negative.into(), coefficient, power as u32 as u64];
+            let kind = hand_kind.call(words);
+            hand.call(words);
+            let value = Value::Number(Decimal { negative, coefficient, power });
+            said[3].insert(returned(hand.double, kind << 48, Ok(FieldRead { value, digits: 0 })));
+        }
+        let due = [
+            &[(0, 0), (0, 1), (0, 2), (31, 0), (32, 0), (33, 0), (34, 0), (35, 0)][..],
+            &[(0, 0), (0, 1), (0, 2), (32, 0), (33, 0), (34, 0), (35, 0), (38, 0), (39, 0)],
+            &[(0, 0), (0, 1), (0, 2), (15, 0), (40, 0)],
+            &[(0, 1), (0, 2)],
+        ];
+        for (said, due) in said.iter().zip(due) {
+            assert!(due.iter().all(|told| said.contains(told)), "{said:?}, and {due:?} are due");
+        }
+        [full, by_index, read, hand, hand_kind].iter().for_each(Measured::say);
+    }
+
+    /// What stands in the place of a double before, which none of these values is.
+    const MARK: f64 = -1.2345e99;
+
+    /// The double that was stored, 0.0 for none, which is so exactly where the word has another kind than 1.
+    fn stored(place: [f64; 1], word: u64) -> f64 {
+        assert_eq!(place[0] != MARK, word >> 48 & 0xff == 1, "{word:x}");
+        if place[0] != MARK {
+            place[0]
+        } else {
+            0.0
+        }
+    }
+
+    /// The number and the kind of an answer, after a look at what was returned.
+    fn returned(double: f64, word: u64, due: Result<FieldRead, NoAnswer>) -> (u64, u64) {
+        let (number, kind, digits) = (word & 0xff, word >> 48 & 0xff, word >> 56);
+        let (mut decimal, mut told) = (None, (0, 0, 0));
+        match due {
+            Err(no) => told.0 = u64::from(no.number),
+            Ok(FieldRead { value: Value::Blank, .. }) => {}
+            Ok(FieldRead { value: Value::Number(d), digits }) => {
+                let simple = d.coefficient <= 9_999_999_999 && (-22..=22).contains(&d.power);
+                decimal = simple.then_some(d);
+                told = (0, if simple { 1 } else { 2 }, digits.into());
+            }
+        }
+        assert_eq!((number, kind, digits), told, "{due:?}");
+        let nearest = decimal.map_or(0.0, |Decimal { negative, coefficient, power }| {
+            let sign = if negative && coefficient != 0 { "-" } else { "" };
+            format!("{sign}{coefficient}e{power}").parse().expect("a number")
+        });
+        assert_eq!(double.to_bits(), f64::to_bits(nearest), "{due:?}");
+        (number, kind)
     }
 
     #[test]

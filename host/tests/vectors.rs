@@ -1,4 +1,4 @@
-//! Verdicts, reasons, answers, indexes, walks, copies, entries of transmissions and counts of digits that others worked
+//! Verdicts, reasons, answers, indexes, walks, doubles, copies, entries of transmissions and counts of digits that others worked
 //! out from the papers, where their tables are beside the project: in `../shared/vectors/02`. The library and the reference are
 //! held against them.
 
@@ -6,7 +6,11 @@ mod common;
 
 use common::{copied, say, sha256, BOTH};
 use glockenbeacon::differ::Implementation;
-use glockenbeacon::{library, reference, Decimal, Explained, FieldRead, NoAnswer, Part, Value, Verdict, RECORD};
+use glockenbeacon::library::DoubleCalls;
+use glockenbeacon::{
+    library, reference, words, Decimal, DoubleRead, Explained, FieldRead, NoAnswer, Part, Simple, Value,
+};
+use glockenbeacon::{Verdict, RECORD};
 use std::collections::BTreeMap;
 use std::path::PathBuf;
 
@@ -515,6 +519,94 @@ fn whole_walks_that_others_took() {
     }
     assert!(walks > 0 && values > 0);
     say(&format!("lookup/walks: {walks} whole walks, {values} values"));
+}
+
+/// What is told of a double: `blank`, `double`, `decimal` or the refusal, and the double's bits or `-`.
+fn told_double(double: Result<DoubleRead, NoAnswer>) -> [String; 2] {
+    let none = "-".to_string();
+    match double.map(|read| read.value) {
+        Ok(Simple::Blank) => ["blank".into(), none],
+        Ok(Simple::Double(double)) => ["double".into(), format!("{:016x}", double.to_bits())],
+        Ok(Simple::Outside(_)) => ["decimal".into(), none],
+        Err(refused) => [refused.number.to_string(), none],
+    }
+}
+
+/// A decimal outside is the one that the number reader says.
+fn same_outside(double: Result<DoubleRead, NoAnswer>, read: Result<FieldRead, NoAnswer>) {
+    if let Ok(DoubleRead { value: Simple::Outside(decimal), .. }) = double {
+        assert_eq!(read.map(|read| read.value), Ok(Value::Number(decimal)));
+    }
+}
+
+/// The calls for a double say what its answer says.
+fn same_calls(by: &dyn Implementation, calls: DoubleCalls, answer: Result<DoubleRead, NoAnswer>) {
+    let (double, word) = words::double_calls(answer);
+    assert_eq!(by.double_calls(calls), (double.to_bits(), word));
+}
+
+/// Fields as doubles (M-107): which of the three, the bits, the decimal and the digits.
+#[test]
+fn fields_that_others_made_doubles() {
+    let Some(rows) = table("lookup/doubles.tsv") else { return };
+    for row in &rows {
+        // No bytes are a dash.
+        let field = bytes(row[0].trim_end_matches('-'));
+        for by in BOTH {
+            let (double, read) = (by.read_double(&field), by.read_number(&field));
+            assert_eq!(told_double(double), row[1..3], "{row:?}");
+            assert_eq!(told(read)[1..], row[3..7], "{row:?}");
+            assert_eq!(double.map_or(0, |read| read.digits).to_string(), row[6], "{row:?}");
+            same_outside(double, read);
+            same_calls(by, DoubleCalls::Field(&field), double);
+            if let Ok(FieldRead { value: Value::Number(decimal), .. }) = read {
+                assert_eq!(Ok(by.as_double(decimal)), double.map(|read| read.value), "{row:?}");
+            }
+        }
+    }
+    let counts = by_number(&rows, 1, &["blank", "double", "decimal", "15", "40"]);
+    say(&format!("lookup/doubles.tsv: {} fields{counts}", rows.len()));
+}
+
+/// Questions for doubles: the refusal, which of the three, the bits and the decimal. As with the indexes, the headings FLAG
+/// and DECAY-FLAG get another letter where 17 refuses the entry.
+#[test]
+fn doubles_that_others_answered() {
+    let Some(mut rows) = table("lookup/double_ask.tsv") else { return };
+    without_transmissions("lookup", &mut rows, |row| row[3..6].to_vec());
+    let mut renamed = 0;
+    for row in &rows {
+        let asked: Vec<u32> = row[1].split(' ').map(|number| number.parse().expect("a number")).collect();
+        let place: [u32; 4] = asked.try_into().expect("four numbers");
+        let mut entry = entry("lookup", &row[0]);
+        if reference::judge(&entry).numbers()[0] == 17 {
+            assert_eq!(BOTH[0].double(&entry, place), BOTH[1].double(&entry, place));
+            flag_headings(&entry).into_iter().for_each(|first| entry[first + 1] = b'Q');
+            renamed += 1;
+        }
+        for by in BOTH {
+            let (double, value) = (by.double(&entry, place), by.value(&entry, place));
+            assert_eq!(refused(double.as_ref().err()), row[2..6].join(" "), "{row:?}");
+            let blank = DoubleRead { value: Simple::Blank, digits: 0 };
+            assert_eq!(told_double(double.or(Ok(blank))), row[6..8], "{row:?}");
+            assert_eq!(told(value.or(Ok(FieldRead::BLANK)))[1..4], row[8..11], "{row:?}");
+            same_outside(double, value);
+            same_calls(by, DoubleCalls::InFull(&entry, place), double);
+            // Where the entry is accepted, its index gives the same.
+            let mut index = vec![0; 5 * entry.len() / RECORD];
+            if let Ok(made) = by.make_index(&entry, &mut index) {
+                let by_index = by.index_double(&entry, &index[..5 * made], place);
+                assert_eq!(by_index, double, "{row:?}");
+                same_calls(by, DoubleCalls::ByIndex(&entry, &index[..5 * made], place), by_index);
+            }
+        }
+    }
+    let counts = by_number(&rows, 2, &["0", "31", "32", "33", "34", "35"]);
+    let kinds = by_number(&rows, 6, &["blank", "double", "decimal"]);
+    say(&format!(
+        "lookup/double_ask.tsv: {} questions, {renamed} without flags, by number{counts}, {kinds}",
+        rows.len()
+    ));
 }
 
 #[test]

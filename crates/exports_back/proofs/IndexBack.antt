@@ -47,14 +47,14 @@ numbered-making s numbers =
     first-numbered (refusal 31 (isRefused (judgeOf s)) ∷ refusal 38 (ltb numbers (5 * rowsIn s)) ∷ [])
     (one 31 (omega arith) (omega arith), (one 38 (omega arith) (omega arith), tt))
 
-numbered-row : (t : List ℕ) (n : ℕ) → Numbered (rowRefusal t n)
+pub numbered-row : (t : List ℕ) (n : ℕ) → Numbered (rowRefusal t n)
 numbered-row t n =
     first-numbered
     (refusal 38 (not (eqb (length t % 5) 0)) ∷ refusal 32 (eqb (rowsBefore t n) (length t / 5)) ∷ [])
     (one 38 (omega arith) (omega arith), (one 32 (omega arith) (omega arith), tt))
 
 module _ (s : List ℕ) (x : Row) (at : RecordNo) (identifier : ℕ) (ys : List Refusal) where
-  numbered-reads : All (λ y. Numbered (y .number)) ys → Numbered (firstOf (readRefusals s x at identifier ++ ys))
+  pub numbered-reads : All (λ y. Numbered (y .number)) ys → Numbered (firstOf (readRefusals s x at identifier ++ ys))
   numbered-reads h =
       first-numbered (readRefusals s x at identifier ++ ys) (
         one 32 (omega arith) (omega arith),

@@ -7,3 +7,4 @@ pub mod NoPlace
 pub mod ValuesBack
 pub mod IndexBack
 pub mod WalkBack
+pub mod DoubleBack

@@ -82,4 +82,13 @@ one-answers =
       x4-walk-next = λ κs a x y s t p q. (one-answer (p .0) (q .0), one-answer (p .1 .0) (q .1 .0));
       x4-walk-next-place = λ κs a x y s t p q. (one-answer (p .0) (q .0), one-answer (p .1 .1 .0) (q .1 .1 .0));
       x4-walk-next-value = λ κs a x y s t p q. (one-answer (p .0) (q .0), one-answer (p .1 .1 .1) (q .1 .1 .1));
+      doubled = λ κs a x y s t p q. one-answer (p .0) (q .0);
+      double = λ κs a x y s t p q. one-answer (p .0) (q .0);
+      double-from-row = λ κs a x y s t p q. one-answer (p .0) (q .0);
+      double-by-index = λ κs a x y s t p q. one-answer (p .0) (q .0);
+      x4-double = λ κs a x y s t p q. (one-answer (p .0) (q .0), one-answer (p .1) (q .1));
+      x4-index-double = λ κs a x y s t p q. (one-answer (p .0) (q .0), one-answer (p .1) (q .1));
+      x4-read-double = λ κs a x y s t p q. (one-answer (p .0) (q .0), one-answer (p .1) (q .1));
+      x4-as-double = λ κs a x y s t p q. one-answer p q;
+      x4-as-double-kind = λ κs a x y s t p q. one-answer p q;
     }

@@ -65,6 +65,15 @@ use Rattle.walk.proofs.walk.one_on.Reads as one-on
 use Rattle.walk_start.proofs.start.start.Reads as start-walk
 use Rattle.exports_walk.proofs.walking.x4_walk.Reads as x4-walk
 use Rattle.exports_walk.proofs.walking.x4_walk_next.Reads as x4-next
+use Rattle.double.proofs.convert.doubled.Reads as doubled
+use Rattle.double_asking.proofs.asking.double.Reads as double
+use Rattle.double_rows.proofs.rows.double_from_row.Reads as double-from-row
+use Rattle.double_rows.proofs.rows.double_by_index.Reads as double-by-index
+use Rattle.exports_doubles.proofs.doubles.x4_double.Reads as x4-double
+use Rattle.exports_doubles.proofs.doubles.x4_index_double.Reads as x4-index-double
+use Rattle.exports_reals.proofs.reals.x4_read_double.Reads as x4-read-double
+use Rattle.exports_reals.proofs.hand.x4_as_double.Reads as x4-as-double
+use Rattle.exports_reals.proofs.hand.x4_as_double_kind.Reads as x4-as-double-kind
 use Rattle.one_answer.specs.ByHand.{NewPost, NextPost}
 use Rattle.one_answer.specs.Determined.{Determined, DeterminedWith, DeterminedPart}
 
@@ -109,6 +118,10 @@ pub record OneAnswer : Type 0 where
   pub walker-new : Determined NewPost
   -- the walker itself is lent
   pub walker-next : DeterminedWith NextPost (λ κs s. now (s .0))
+  pub doubled : Determined doubled.Post
+  pub double : Determined double.Post
+  pub double-from-row : Determined double-from-row.Post
+  pub double-by-index : Determined double-by-index.Post
   -- for host programs
   pub x4-version : Determined x4-version.Post
   pub x4-judge : DeterminedWith x4-judge.Post (λ κs s. now (s .1 .0))
@@ -142,3 +155,8 @@ pub record OneAnswer : Type 0 where
   pub x4-walk-next : DeterminedWith x4-next.Post (λ κs s. now (s .1 .0))
   pub x4-walk-next-place : DeterminedWith x4-next.Post (λ κs s. now (s .1 .1 .0))
   pub x4-walk-next-value : DeterminedWith x4-next.Post (λ κs s. now (s .1 .1 .1 .0))
+  pub x4-double : DeterminedWith x4-double.Post (λ κs s. now (s .1 .1 .1 .1 .1 .0))
+  pub x4-index-double : DeterminedWith x4-index-double.Post (λ κs s. now (s .1 .1 .1 .1 .1 .1 .0))
+  pub x4-read-double : DeterminedWith x4-read-double.Post (λ κs s. now (s .1 .0))
+  pub x4-as-double : Determined x4-as-double.Post
+  pub x4-as-double-kind : Determined x4-as-double-kind.Post

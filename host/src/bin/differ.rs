@@ -1,6 +1,6 @@
 //! Holds the library against the reference: on the sample and the sample with flags with every byte changed to every
 //! other, on a transmission with every byte of TRANS and ENDTRANS changed so, and on generated entries with their indexes and
-//! walks over their tables, transmissions, number fields and decimals.
+//! walks over their tables, transmissions, number fields and decimals, these also as doubles.
 //!
 //!     cargo run --release --bin differ -- [--seed N] [--entries N] [--files N] [--numbers N]
 
@@ -36,7 +36,9 @@ fn run() -> Result<ExitCode, String> {
         .and_then(|()| pair.files(seed, files))
         .and_then(|()| pair.entries(seed, entries))
         .and_then(|()| pair.fields(seed, numbers))
-        .and_then(|()| pair.decimals(seed, numbers));
+        .and_then(|()| pair.decimals(seed, numbers))
+        .and_then(|()| pair.double_fields(seed, numbers))
+        .and_then(|()| pair.double_decimals(seed, numbers));
     print!("{}", pair.counts);
     match outcome {
         Ok(()) => {

@@ -5,7 +5,7 @@
 
 use glockenbeacon::explain::Explanation;
 use glockenbeacon::json::{object, text};
-use glockenbeacon::tables::{file_tables, from_csv, tables, to_csv, to_json, Row, Table};
+use glockenbeacon::tables::{file_tables, from_csv, tables, to_csv, to_json, Row, Shown, Table};
 use glockenbeacon::transmission::{accession, entries_in_words, is_transmission, Place};
 use glockenbeacon::{compare, explain, index, library, NoAnswer, Reason, Refusal, Verdict};
 use std::ffi::{OsStr, OsString};
@@ -17,7 +17,7 @@ x4 reads EXFOR entries and transmissions. A file is one entry, from ENTRY to END
 TRANS, one transmission: TRANS, one or more entries, ENDTRANS.
 
   x4 judge [--json] [FILE..]       is it good, and if not, where is its first fault, and why
-  x4 tables [--json] [--digits] [FILE]
+  x4 tables [--json] [--digits] [--doubles] [FILE]
                                    every COMMON and DATA table, as comma-separated values
   x4 index [--json] [FILE]         where each subentry and its sections begin
   x4 canon [FILE]                  the canonical copy: every number but flags in its shortest spelling
@@ -61,7 +61,7 @@ Exit status: 0 if every file is good, 1 if one is refused, 2 if a file cannot be
 ";
 
 const HELP_TABLES: &str = "\
-x4 tables [--json] [--digits] [FILE]
+x4 tables [--json] [--digits] [--doubles] [FILE]
 
 Prints every table of a good entry, or of all entries of a good transmission. Each row begins with the subentry, COMMON
 or DATA, and 'heading', 'pointer', 'unit' or the number of the line; then comes a field for each column. Numbers are
@@ -73,6 +73,11 @@ heading.
 With --digits a count stands beside each value: the digits that were written, from the first that is not zero to the
 last, before and behind the point. 0.140 has 3, 0.14 has 2, 100. has 3, zero and a blank have 0. As comma-separated
 values the counts are a column behind each column, with the heading 'digits'; with --json a value is an object of both.
+
+With --doubles each number is the text of its double, the fewest digits that read back to it, plain or, where that is
+shorter, with an exponent: 0.145, 14, 1e22. The double is the value rounded once, to the nearest. A decimal whose power of
+ten is not -22 to 22, its coefficient not divisible by ten, is outside that range and still exact: 1.+23 is
+100000000000000000000000. With --json a double is a number and such a decimal a text. A blank field is empty, or null.
 ";
 
 const HELP_INDEX: &str = "\
@@ -385,10 +390,10 @@ fn tables_of(file: &OsStr, input: &[u8]) -> Result<Vec<Table>, Trouble> {
 }
 
 fn print_tables(arguments: &[OsString]) -> Done {
-    let ([json, digits], files) = options(arguments, ["--json", "--digits"])?;
-    let file = only(files)?;
+    let ([json, digits, doubles], files) = options(arguments, ["--json", "--digits", "--doubles"])?;
+    let (file, shown) = (only(files)?, Shown { digits, doubles });
     let tables = tables_of(&file, &read(&file)?)?;
-    let written = if json { to_json(&tables, digits) + "\n" } else { to_csv(&tables, digits) };
+    let written = if json { to_json(&tables, shown) + "\n" } else { to_csv(&tables, shown) };
     say(written.as_bytes())?;
     Ok(ExitCode::SUCCESS)
 }
@@ -423,7 +428,8 @@ fn canon(arguments: &[OsString]) -> Done {
 fn rows(file: &OsStr, digits: bool) -> Result<(Vec<Row>, bool), Trouble> {
     let bytes = read(file)?;
     if bytes.starts_with(b"ENTRY ") || is_transmission(&bytes) {
-        let rows = tables_of(file, &bytes)?.iter().flat_map(|table| table.rows(digits)).collect();
+        let shown = Shown { digits, doubles: false };
+        let rows = tables_of(file, &bytes)?.iter().flat_map(|table| table.rows(shown)).collect();
         return Ok((rows, true));
     }
     let text = String::from_utf8_lossy(&bytes);

@@ -3,6 +3,7 @@
 
 mod below;
 mod damage;
+mod doubles;
 mod files;
 mod flags;
 mod index;
@@ -14,6 +15,7 @@ mod workloads;
 
 pub use below::{added, any_bytes, with_below, Below, BELOW, BLANK};
 pub use damage::{damage, damaged, noise, random_bytes, Damage, CAUSES};
+pub use doubles::{decimal_in_hand, double_field, halfway};
 pub use files::{damaged_file, file_input, file_limits, transmission, Parts, FILE_CAUSES};
 pub use index::{alter_entry, alter_index, index_of};
 pub use large::{large, large_table, Shape, SHAPES};

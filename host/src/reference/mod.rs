@@ -8,8 +8,10 @@
 //! field is found by trying the shapes of fields in the paper's order of preference. A transmission (M-100) is cut
 //! behind each ENDENTRY, and every piece is judged as an entry of its own. Why it is refused (M-108) is read off the tree
 //! of the records up to the refused one. An index (M-102) is made from the tree, and asked without it, by reads that refuse
-//! one after another. A walk over a table (M-112) is begun by the tree, and goes on by its numbers alone.
+//! one after another. A walk over a table (M-112) is begun by the tree, and goes on by its numbers alone. A double (M-107)
+//! is found by dividing whole numbers.
 
+mod double;
 mod files;
 pub mod flags;
 mod index;
@@ -22,6 +24,7 @@ pub mod tree;
 mod walk;
 
 use crate::{Refusal, Verdict};
+pub use double::{as_double, double, index_double, read_double};
 pub use files::{copy_file, entry_length, judge_file};
 pub use index::{index_heading, index_passage, index_row, index_unit, index_value, make_index};
 pub use number::{read_number, write_number};

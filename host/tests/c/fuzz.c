@@ -233,6 +233,97 @@ static void value(const uint64_t *stored) {
     }
 }
 
+/* ---- doubles */
+
+static uint64_t doubles[64], double_kinds[3], in_hand[3];
+
+static uint64_t bits_of(double x) {
+    uint64_t b;
+    memcpy(&b, &x, sizeof b);
+    return b;
+}
+
+/* which of the three a decimal is */
+static uint64_t kind_due(uint64_t coefficient, int32_t power) {
+    return coefficient <= UINT64_C(9999999999) && power >= -22 && power <= 22 ? 1 : 2;
+}
+
+/* a decimal in hand: the double that C's own reader makes of its text, exactly it where it is a whole number below 2 to the
+ * 53rd; +0.0 where it is outside the simple range */
+static void decimal_in_hand(uint32_t negative, uint64_t coefficient, int32_t power) {
+    double x = x4_as_double(negative, coefficient, power);
+    uint64_t kind = x4_as_double_kind(negative, coefficient, power), whole = coefficient;
+    check(kind == kind_due(coefficient, power), "simple by its digits and its power");
+    in_hand[kind]++;
+    if (kind == 2) {
+        check(!bits_of(x), "+0.0 where it is no double");
+        return;
+    }
+    char text[64];
+    snprintf(text, sizeof text, "%s%" PRIu64 "e%" PRId32, negative && coefficient ? "-" : "", coefficient, power);
+    check(bits_of(x) == bits_of(strtod(text, NULL)), "the double of the decimal's text");
+    check((x == 0) == !coefficient && (bits_of(x) >> 52 & 0x7ff) != 0x7ff, "finite, and zero for zero alone");
+    for (int32_t i = 0; i < power && whole < UINT64_C(1) << 53; i++) {
+        whole *= 10;
+    }
+    if (power >= 0 && whole < UINT64_C(1) << 53) {
+        check((uint64_t)(negative ? -x : x) == whole, "a whole number exactly");
+    }
+}
+
+/* the place that a double is stored in, against a page, and what stands in it before */
+static Buffer real;
+
+static double *lend_double(void) {
+    if (!real.pages) {
+        real = fenced();
+    }
+    lay(&real, sizeof(double));
+    memset(real.bytes, 0xa5, real.length);
+    return (double *)(void *)real.bytes;
+}
+
+/* the word of a call that stores a double, and what stands in that place, of an answer that a call for the value has given:
+ * its refusal, its digits and its decimal */
+static void doubled(uint64_t word, uint64_t answer, const uint64_t *stored) {
+    uint32_t kind = x4_double_kind(word);
+    double x;
+    memcpy(&x, real.bytes, sizeof x);
+    if (kind != 1) {
+        check(bits_of(x) == UINT64_C(0xa5a5a5a5a5a5a5a5), "where it is no double nothing is stored");
+        x = 0;
+    }
+    check((word & UINT64_C(0xffffffffffff)) == answer, "refused as the value is");
+    doubles[x4_refusal(word)]++;
+    if (answer || !x4_is_number(stored)) {
+        check(!(word >> 48) && !bits_of(x), "no digits where it is refused or blank");
+    } else {
+        int32_t power = x4_power(stored);
+        check(x4_double_digits(word) == stored[4], "the digits of the value");
+        check(kind == kind_due(stored[2], power), "the kind that the value has");
+        check(bits_of(x) != UINT64_C(1) << 63, "never -0.0");
+        check(bits_of(x) == bits_of(x4_as_double((uint32_t)stored[1], stored[2], power)), "its decimal as a double");
+        decimal_in_hand((uint32_t)stored[1], stored[2], power);
+    }
+    double_kinds[kind]++;
+}
+
+/* any numbers as a decimal, most of them near the limits */
+static void any_decimal(void) {
+    static const uint64_t some[] = {0,
+                                    1,
+                                    10,
+                                    UINT64_C(9999999999),
+                                    UINT64_C(10000000000),
+                                    UINT64_C(1) << 53,
+                                    UINT64_MAX};
+    static const uint32_t signs[] = {0, 0, 1, 2, 0x100, 0x80000000, 0xffffffff};
+    static const int32_t powers[] = {-22, -23, 22, 23, 0, INT32_MIN, INT32_MAX};
+    uint64_t coefficient = below(3) ? bits() % UINT64_C(20000000000) >> below(35) : below(2) ? some[below(7)] : bits();
+    int32_t power = below(3) ? (int32_t)below(61) - 30 : powers[below(7)];
+    decimal_in_hand(signs[below(7)], coefficient, power);
+}
+
 static void questions(const Buffer *entry, Buffer *keyword, uint64_t verdict) {
     const uint8_t *e = entry->bytes;
     size_t n = entry->length, at = n >= RECORD ? below(n / RECORD) * RECORD : 0;
@@ -251,6 +342,7 @@ static void questions(const Buffer *entry, Buffer *keyword, uint64_t verdict) {
     if (!word) {
         value(first);
     }
+    doubled(x4_double(e, n, subentry, section, line, column, lend_double()), word, first);
     word = x4_heading(e, n, subentry, section, column, lend(3));
     part(entry, word, verdict, "\x1f\x20\x21\x23", 10);
     word = x4_unit(e, n, subentry, section, column, lend(3));
@@ -393,6 +485,7 @@ static void ask_by(const Buffer *entry, const uint32_t *t, size_t n, const Quest
         check(q->section != 1 || stored[0] == 1, "no value of COMMON is blank");
         value(stored);
     }
+    doubled(x4_index_double(e, l, t, n, q->subentry, q->section, q->line, q->column, lend_double()), words[0], stored);
 }
 
 /* by the entry's own index the answers are the full ones */
@@ -555,6 +648,7 @@ static int step(const Buffer *entry, uint32_t *walk, uint64_t stored[8], uint64_
     }
     check(*word == x4_read_number(field.bytes, 11, lend(8)) && !memcmp(lent.bytes, stored, 64), "what the field says");
     check(*word == 0 || *word == 15, "15 or none");
+    doubled(x4_read_double(field.bytes, 11, lend_double()), *word, stored);
     malformed += *word == 15;
     walked++;
     return 1;
@@ -670,6 +764,7 @@ static void fields(Buffer *field) {
     uint64_t word = x4_read_number(field->bytes, field->length, v);
     check(word == 0 || word == (field->length == 11 ? 15u : 40u), "15 or 40");
     untouched(word);
+    doubled(x4_read_double(field->bytes, field->length, lend_double()), word, v);
     if (!word) {
         check(x4_is_number(v) ? v[4] == digits_written(field) : !v[4], "the count of digits written");
         value(v);
@@ -895,6 +990,9 @@ int main(int count, char **words) {
         indexes(&entry, &index, &copy, &keyword, verdict, totals);
         walks_of(&entry, &index, &copy, verdict);
         transmissions(&entry, &copy, &again, (size_t)count - 3, words + 3);
+        for (int i = 0; i < 8; i++) {
+            any_decimal();
+        }
     }
     printf("seeds %" PRIu64 " to %" PRIu64 ": %" PRIu64 " entries accepted, ", first, first + rounds - 1, accepted);
     printf("%" PRIu64 " questions and copies, by refusal", asked);
@@ -917,6 +1015,14 @@ int main(int count, char **words) {
         }
     }
     printf(", %" PRIu64 " values, %" PRIu64 " fields malformed, %" PRIu64 " times done", walked, malformed, ended);
+    printf("; doubles by refusal");
+    for (int i = 0; i < 64; i++) {
+        if (doubles[i]) {
+            printf(" %d:%" PRIu64, i, doubles[i]);
+        }
+    }
+    printf(", %" PRIu64 " of them doubles, %" PRIu64 " outside, in hand %" PRIu64 " doubles, %" PRIu64 " outside",
+           double_kinds[1], double_kinds[2], in_hand[1], in_hand[2]);
     printf("; transmissions by refusal");
     for (int i = 0; i < 64; i++) {
         if (file_refusals[i]) {

@@ -1,10 +1,11 @@
 //! Times the library beside the reference and beside other readers of numbers: same process, same input, medians.
 //!
-//!     cargo run --release --bin bench [-- --plot FILE | --index | --walk | --peer FILE [--samples N] | --help]
+//!     cargo run --release --bin bench [-- --plot FILE | --index | --walk | --doubles | --peer FILE [--samples N] | --help]
 //!
 //! Each line has the time of one field, value or record: the median, its ratio to the library's, and the least, which
 //! says more where the machine had other work. `--plot` draws the times of judging, by the number of records, as SVG.
-//! `--index` times the index and the questions by it alone, `--walk` tables that are gone through value by value.
+//! `--index` times the index and the questions by it alone, `--walk` tables that are gone through value by value,
+//! `--doubles` fields that are read as doubles.
 //! `--peer` times the library beside a reader written by hand instead: see `beside.rs`.
 
 #![forbid(unsafe_code)]
@@ -17,7 +18,7 @@ mod ratios;
 
 use glockenbeacon::generate::{self, Random, Shape, SHAPES};
 use glockenbeacon::plot::{Line, Plot};
-use glockenbeacon::tables::{tables, to_csv};
+use glockenbeacon::tables::{tables, to_csv, Shown};
 use glockenbeacon::{boundary, library, reference, Decimal, FieldRead, Index, Value, DATA, RECORD};
 use std::ffi::CString;
 use std::hint::black_box;
@@ -358,7 +359,7 @@ fn by_index() {
     println!("  a row searched: {median:.2} ns, by the least times {least:.2} ns");
     making(&entry);
     let n = entry.len() / RECORD;
-    let written = |entry: &&Vec<u8>| tables(entry).map(|tables| to_csv(&tables, false));
+    let written = |entry: &&Vec<u8>| tables(entry).map(|tables| to_csv(&tables, Shown::default()));
     assert_eq!(written(&&entry).map(|text| text.lines().count() > rows), Ok(true));
     let times = [
         ("library::judge", timed(&[&entry], |entry| library::judge(entry)).part(n)),
@@ -463,11 +464,76 @@ fn walking() {
     }
 }
 
+/// Times fields read as doubles (M-107), beside the same as decimals, and beside Rust's and C's readers of text, by turns.
+/// The fields are simple, so that all do the same work: in all spellings, and as tables have them.
+fn doubles() {
+    type Make = fn(&mut Random) -> [u8; 11];
+    let kinds: [(&str, Make); 2] =
+        [("in all spellings", generate::spelling), ("as tables have them", generate::usual_spelling)];
+    for (kind, make) in kinds {
+        let mut random = Random::seeded(1);
+        let simple = |field: &[u8; 11]| library::read_double(field).ok()?.value.double();
+        let fields: Vec<[u8; 11]> =
+            std::iter::repeat_with(|| make(&mut random)).filter(|field| simple(field).is_some()).take(4_096).collect();
+        let texts: Vec<CString> = fields.iter().map(plain_text).collect();
+        let words: Vec<&str> = texts.iter().map(|text| text.to_str().expect("plain")).collect();
+        let numbers: Vec<Decimal> = fields.iter().filter_map(value_of).collect();
+        for ((field, text), decimal) in fields.iter().zip(&words).zip(&numbers) {
+            let due = simple(field).map(|double| double + 0.0);
+            assert_eq!(text.parse::<f64>().ok().map(|double| double + 0.0), due);
+            assert_eq!(library::as_double(*decimal).double(), simple(field));
+        }
+        let [double, number, made, parse, strtod] = by_turns(
+            fields.len(),
+            [
+                &mut || {
+                    for field in &fields {
+                        let _ = black_box(library::read_double(black_box(field)));
+                    }
+                },
+                &mut || {
+                    for field in &fields {
+                        let _ = black_box(library::read_number(black_box(field)));
+                    }
+                },
+                &mut || {
+                    for decimal in &numbers {
+                        black_box(library::as_double(*black_box(decimal)));
+                    }
+                },
+                &mut || {
+                    for text in &words {
+                        let _ = black_box(black_box(text).parse::<f64>());
+                    }
+                },
+                &mut || {
+                    for text in &texts {
+                        black_box(boundary::c_read(black_box(text)));
+                    }
+                },
+            ],
+        );
+        let rows = [
+            ("library::read_double", double),
+            ("library::read_number", number),
+            ("library::as_double, of the decimal in hand", made),
+            ("str::parse::<f64>, of the field made plain", parse),
+            ("C's strtod, of the field made plain", strtod),
+        ];
+        table(&format!("Reading a number field as a double ({} simple fields {kind})", fields.len()), &rows);
+        for (name, other) in [("read_number", number), ("str::parse::<f64>", parse), ("strtod", strtod)] {
+            let (median, least) = (double.median / other.median, double.least / other.least);
+            println!("  read_double beside {name}: {median:.2}, by the least times {least:.2}");
+        }
+    }
+}
+
 const HELP: &str = "\
 bench                              times the library beside the reference and other readers of numbers
 bench --plot FILE                  the same, and draws the times of judging as SVG
 bench --index                      times the index, the questions by it and the tables alone
 bench --walk                       times tables gone through value by value, beside judging and reading, alone
+bench --doubles                    times fields read as doubles, beside other readers, alone
 bench --peer FILE [--samples N]    times the library beside the reader in FILE, and prints ratios
 
 FILE is a module in Rust without dependencies. It is compiled with this program's sources, in target/peer, and has to
@@ -502,6 +568,7 @@ fn times(plot_file: Option<&str>) -> std::io::Result<()> {
     asking();
     by_index();
     walking();
+    doubles();
     transmissions();
     plot_file.map_or(Ok(()), |file| std::fs::write(file, plot.svg()))
 }
@@ -532,6 +599,7 @@ fn main() -> std::io::Result<()> {
         ["--plot", file] => times(Some(file)),
         ["--index"] => alone(by_index),
         ["--walk"] => alone(walking),
+        ["--doubles"] => alone(doubles),
         ["--peer", file] => beside::run(file, RUNS),
         ["--peer", file, "--samples", samples] => match samples.parse() {
             Ok(0) | Err(_) => help(),

@@ -1,0 +1,2 @@
+// A decimal as a double, where one rounding makes it one.
+pub mod convert;

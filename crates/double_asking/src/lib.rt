@@ -1,0 +1,2 @@
+// The value question as a double, in full.
+pub mod asking;

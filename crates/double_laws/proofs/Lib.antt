@@ -1,0 +1,6 @@
+pub mod FieldsRead
+pub mod OfValue
+pub mod Inside
+pub mod Copied
+pub mod Finite
+pub mod Ways

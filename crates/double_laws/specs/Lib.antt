@@ -1,0 +1,5 @@
+pub mod OfValue
+pub mod Inside
+pub mod Copied
+pub mod Finite
+pub mod Ways

@@ -1,0 +1,4 @@
+pub mod Doubles
+pub mod Powers
+pub mod Table
+pub mod Rungs
