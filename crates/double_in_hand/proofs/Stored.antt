@@ -17,8 +17,8 @@ use Rattle.paper_double.specs.Double.{doubled}
 use Rattle.paper_double_asking.specs.Ask.{doubleAsked, doubleByIndex}
 use Rattle.double_laws.proofs.FieldsRead.{Columns, ReadFrom, read-from, asked-columns, index-columns}
 use Rattle.exports_words.specs.Words.{lentAfter}
-use Rattle.exports_words.specs.Values.{bit, valueNumbers, readingStored}
-use Rattle.exports_words.proofs.Twos.{twos-back}
+use Rattle.exports_values.specs.Values.{bit, valueNumbers, readingStored}
+use Rattle.exports_values.proofs.Twos.{twos-back}
 use Rattle.exports_parts.specs.Questions.{valueStored}
 use Rattle.exports_simple.specs.Doubles.{decimalSimple}
 use Rattle.double_in_hand.specs.Stored.{ofNumbers, StoredRead, StoredAsked, StoredByIndex, StoredWalked}

@@ -19,7 +19,7 @@ use Rattle.paper_walk.specs.Walk.{startOf, givenAt}
 use Rattle.paper_double.specs.declared.types.Simple.{Simple}
 use Rattle.paper_double.specs.Double.{doubled}
 use Rattle.paper_double_asking.specs.Ask.{doubleAsked, doubleByIndex}
-use Rattle.exports_words.specs.Values.{readingStored, powerIn}
+use Rattle.exports_values.specs.Values.{readingStored, powerIn}
 use Rattle.exports_parts.specs.Questions.{valueStored}
 use Rattle.exports_places.specs.Walks.{givenStored}
 use Rattle.exports_simple.specs.Doubles.{decimalSimple}

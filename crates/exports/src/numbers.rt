@@ -6,9 +6,9 @@ ghost use Rattle.paper_number.specs.Value.{valueOf};
 ghost use Rattle.paper_number.specs.Digits.{numberRead};
 ghost use Rattle.paper_canonical.specs.Writing.{bytes, writingRefusal};
 ghost use Rattle.exports_words.specs.Words.{answerWord};
-ghost use Rattle.exports_words.specs.Values.{readingAnswer, readingStored};
+ghost use Rattle.exports_values.specs.Values.{readingAnswer, readingStored};
 use canonical::write::write_number;
-use exports_words::values::put_reading;
+use exports_values::values::put_reading;
 use number_reading::read::read_number;
 use paper_canonical::types::Written;
 

@@ -51,7 +51,7 @@ use Rattle.paper_double.specs.declared.types.Simple.the-variants.{Blank, Double
 use Rattle.paper_double.specs.Double.{isSimple, doubleOf, simpleOf, doubled, simpleSaid}
 use Rattle.paper_double_asking.specs.Ask.{asDouble, doubleAsked, doubleByIndex}
 use Rattle.exports_words.specs.Words.{answerWord, answerIn}
-use Rattle.exports_words.specs.Values.{readingAnswer}
+use Rattle.exports_values.specs.Values.{readingAnswer}
 use Rattle.exports_simple.specs.Doubles.{wordWith, doubleWord, doubleStored}
 use Rattle.exports_back.specs.DoubleClaims.{storedIn, kindIn, CallSays, DoubleBack, IndexDoubleBack}
 use Rattle.exports_back.specs.DoubleClaims.{FieldDoubleBack, simpleBy, doubleAnswerIn, DoubleWhole, IndexDoubleWhole}

@@ -28,13 +28,13 @@ use Rattle.paper_entry.specs.Answer.{answerOf, answerFor}
 use Rattle.paper_entry.specs.Verdict.{refusedWithin, accepted}
 use Rattle.paper_entry.specs.Judging.{judgeOf}
 use Rattle.exports_words.specs.Words.{answerWord, answerIn, lentAfter}
-use Rattle.exports_words.specs.Values.{bit, twos, valueNumbers, readingAnswer, readingStored, readingIn}
+use Rattle.exports_values.specs.Values.{bit, twos, valueNumbers, readingAnswer, readingStored, readingIn}
 use Rattle.exports_verdicts.specs.Verdicts.{verdictAnswer, totalsNumbers, verdictIn}
 use Rattle.paper_reasons.specs.Reason.{explain}
 use Rattle.exports_facts.proofs.FactsBack.{facts-back}
 use Rattle.exports_back.specs.Claims.{ReadingBack, VerdictBack, ExplainedBack}
 use Rattle.exports_back.proofs.Sizes.{NearRefusal, Fitting, accepting, refusing, judge-fits}
-use Rattle.exports_words.proofs.Twos.{twos-back}
+use Rattle.exports_values.proofs.Twos.{twos-back}
 
 -- ---- words
 

@@ -34,7 +34,7 @@ use Rattle.paper_questions.proofs.Records.{record-there}
 use Rattle.paper_questions.proofs.ValuePlaces.{value-field}
 use Rattle.paper_copy.specs.Call.{copied}
 use Rattle.exports_words.specs.Words.{answerWord, answerIn, lentAfter}
-use Rattle.exports_words.specs.Values.{readingAnswer, readingStored, readingIn}
+use Rattle.exports_values.specs.Values.{readingAnswer, readingStored, readingIn}
 use Rattle.exports_back.specs.QuestionClaims.{ValueBack, CopiedBack}
 use Rattle.exports_parts.specs.Questions.{valueAnswer, valueStored, valueAnswerIn}
 use Rattle.exports_back.proofs.Laws.{Fits, word-back, answer-fits, held, held-back}

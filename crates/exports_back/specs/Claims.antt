@@ -6,7 +6,7 @@ use mathlib.Core.List.{List}
 use Rattle.paper_number.specs.Digits.{numberRead}
 use Rattle.paper_entry.specs.Judging.{judgeOf}
 use Rattle.exports_words.specs.Words.{answerWord, lentAfter}
-use Rattle.exports_words.specs.Values.{readingAnswer, readingStored, readingIn}
+use Rattle.exports_values.specs.Values.{readingAnswer, readingStored, readingIn}
 use Rattle.exports_verdicts.specs.Verdicts.{verdictAnswer, totalsNumbers, verdictIn}
 use Rattle.paper_reasons.specs.Reason.{explain}
 use Rattle.exports_facts.specs.Facts.{factsNumbers, explainedIn}

@@ -22,7 +22,7 @@ use Rattle.paper_double_asking.specs.declared.types.DoubleAnswer.{DoubleAnswer}
 use Rattle.paper_double.specs.Double.{doubled, plusZero, simpleSaid}
 use Rattle.paper_double_asking.specs.Ask.{doubleAsked, doubleByIndex}
 use Rattle.exports_words.specs.Words.{answerWord, answerIn}
-use Rattle.exports_words.specs.Values.{readingAnswer, readingStored, readingIn}
+use Rattle.exports_values.specs.Values.{readingAnswer, readingStored, readingIn}
 use Rattle.exports_parts.specs.Questions.{valueAnswer, valueStored, valueAnswerIn}
 use Rattle.exports_simple.specs.Doubles.{doubleWord, fieldWord, doubleStored}
 

@@ -10,7 +10,7 @@ use Rattle.paper_walk.specs.declared.types.Given.{Given}
 use Rattle.paper_walk.specs.declared.types.Given.the-variants.{At, Done}
 use Rattle.paper_walk.specs.Walk.{startOf, stepOf, after, givenAt}
 use Rattle.exports_words.specs.Words.{answerWord, answerIn}
-use Rattle.exports_words.specs.Values.{readingIn}
+use Rattle.exports_values.specs.Values.{readingIn}
 use Rattle.exports_places.specs.Walks.{walkNumbers, walkStored, walkIn, placeNumbers, givenAnswer, givenStored}
 
 -- what is given, by a word, a place and a value: what a host does with them

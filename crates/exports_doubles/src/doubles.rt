@@ -5,7 +5,7 @@ ghost use Rattle.paper_double_asking.specs.Ask.{doubleAsked, doubleByIndex};
 ghost use Rattle.exports_simple.specs.Doubles.{doubleWord, doubleStored};
 use double_asking::asking::double;
 use double_rows::rows::double_by_index;
-use exports_simple::simple::put_answer;
+use exports_simple_words::words::put_answer;
 use paper_record::types::LineNo;
 
 // The value in a line and a column of COMMON (section 1) or DATA (section 2) of a subentry.

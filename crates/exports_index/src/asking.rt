@@ -6,10 +6,10 @@ ghost use Rattle.exports_parts.specs.Questions.{valueAnswer, valueStored, partS
 use exports_parts::parts::keyword_place;
 use exports_parts::parts::put_part;
 use exports_parts::parts::put_value;
-use index_asking::asking::heading_by_index;
-use index_asking::asking::passage_by_index;
-use index_asking::asking::unit_by_index;
 use index_asking::asking::value_by_index;
+use index_parts::parts::heading_by_index;
+use index_parts::parts::passage_by_index;
+use index_parts::parts::unit_by_index;
 use paper_record::types::LineNo;
 
 // The value in a line and a column of COMMON (section 1) or DATA (section 2) of a subentry.

@@ -20,7 +20,7 @@ use Rattle.paper_questions.specs.declared.types.ValueAnswer.{ValueAnswer}
 use Rattle.paper_questions.specs.declared.types.PartAnswer.{PartAnswer}
 use Rattle.paper_questions.specs.PartAnswers.{noPart}
 use Rattle.exports_words.specs.Words.{answerIn, lentAfter}
-use Rattle.exports_words.specs.Values.{readingAnswer, readingStored, readingIn}
+use Rattle.exports_values.specs.Values.{readingAnswer, readingStored, readingIn}
 
 -- ---- a value: the number of its question, and where that is 0 the one of its field
 

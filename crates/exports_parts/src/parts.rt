@@ -3,7 +3,7 @@ ghost use mathlib.Core.Path.{_≡_};
 ghost use Rattle.exports_words.specs.Words.{answerWord};
 ghost use Rattle.exports_parts.specs.Questions.{numberStored, partStored, valueAnswer, valueStored};
 ghost use Rattle.exports_parts.specs.Questions.{keywordPlace};
-use exports_words::values::put_reading;
+use exports_values::values::put_reading;
 use exports_words::words::answer_word;
 use paper_entry::types::Answer;
 use paper_number::types::FieldRead;

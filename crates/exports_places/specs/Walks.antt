@@ -10,7 +10,7 @@ use Rattle.paper_walk.specs.declared.types.Walk.{Walk}
 use Rattle.paper_walk.specs.declared.types.Given.{Given}
 use Rattle.paper_walk.specs.declared.types.Given.the-variants.{At, Done}
 use Rattle.exports_words.specs.Words.{lentAfter}
-use Rattle.exports_words.specs.Values.{readingAnswer, readingStored}
+use Rattle.exports_values.specs.Values.{readingAnswer, readingStored}
 
 -- ---- where a walk stands
 

@@ -3,7 +3,7 @@ ghost use mathlib.Core.Path.{_≡_};
 ghost use Rattle.exports_words.specs.Words.{answerWord};
 ghost use Rattle.exports_places.specs.Walks.{walkNumbers, walkStored, walkIn, placeNumbers, givenAnswer, givenStored};
 use entry_verdict::answer::answer_of;
-use exports_words::values::put_reading;
+use exports_values::values::put_reading;
 use exports_words::words::answer_word;
 use paper_record::types::LineNo;
 use paper_record::types::RecordNo;

@@ -4,9 +4,9 @@ ghost use mathlib.Core.Bool.{not};
 ghost use lib.Dec.{eqb};
 ghost use Rattle.paper_double.specs.Double.{simpleSaid};
 ghost use Rattle.exports_simple.specs.Doubles.{doubleIn, decimalSimple};
+use exports_hand::hand::simple_in;
 use exports_simple::simple::double_in;
 use exports_simple::simple::kind_of;
-use exports_simple::simple::simple_in;
 
 // A decimal in hand, below zero where `negative` is not 0, as a double; 0.0 where it is outside the simple range.
 #[no_mangle]

@@ -4,8 +4,8 @@ ghost use Rattle.paper_number.specs.Digits.{numberRead};
 ghost use Rattle.paper_double.specs.Double.{doubled};
 ghost use Rattle.exports_simple.specs.Doubles.{fieldWord, doubleStored};
 use double::convert::doubled;
-use exports_simple::simple::field_word_of;
 use exports_simple::simple::put_double;
+use exports_simple_words::words::field_word_of;
 use number_reading::read::read_number;
 
 // What a number field says, stored where it is a double; the word tells which of the three it is.

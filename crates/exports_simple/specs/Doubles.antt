@@ -15,7 +15,7 @@ use Rattle.paper_double.specs.declared.types.Simple.the-variants.{Blank, Double
 use Rattle.paper_double_asking.specs.declared.types.DoubleAnswer.{DoubleAnswer}
 use Rattle.paper_double.specs.Double.{doubled, simpleSaid}
 use Rattle.exports_words.specs.Words.{answerWord}
-use Rattle.exports_words.specs.Values.{readingAnswer}
+use Rattle.exports_values.specs.Values.{readingAnswer}
 
 -- the double, +0.0 where it is none
 abbrev pub doubleIn : Simple → Float

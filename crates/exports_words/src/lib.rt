@@ -1,3 +1,2 @@
-// How a call answers a host program: the word that it returns, and a number field in eight numbers.
-pub mod values;
+// How a call answers a host program: the word that it returns.
 pub mod words;

@@ -1,3 +1,2 @@
-// Questions by an index: the answers from the first row with the number of the subentry.
+// A value by an index: the answer from the first row with the number of the subentry.
 pub mod asking;
-pub mod handing;

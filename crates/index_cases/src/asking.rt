@@ -1,12 +1,12 @@
 // Lines that ask by the index in hand.
-use index_asking::asking::heading_by_index;
-use index_asking::asking::passage_by_index;
-use index_asking::asking::unit_by_index;
 use index_asking::asking::value_by_index;
-use index_asking::handing::heading_part_by_index;
-use index_asking::handing::passage_part_by_index;
-use index_asking::handing::unit_part_by_index;
 use index_finding::finding::find_row;
+use index_handing::handing::heading_part_by_index;
+use index_handing::handing::passage_part_by_index;
+use index_handing::handing::unit_part_by_index;
+use index_parts::parts::heading_by_index;
+use index_parts::parts::passage_by_index;
+use index_parts::parts::unit_by_index;
 use paper_record::types::LineNo;
 use program_answer::say_part;
 use program_answer::say_value;

@@ -1,7 +1,7 @@
 -- A heading that is found stands on a record of the entry: those of a section on the records of its range, those to
 -- the left on the record in hand, which comes next behind the third range. Assumes nothing.
 use Prim.Native.Nat.{ℕ, zero, suc, _+_, _-_, _*_, _/_, _<_, _≤_}
-use mathlib.Core.Path.{_≡_, refl, sym, _∙_, ap, subst}
+use mathlib.Core.Path.{_≡_, refl, sym, _∙_, subst}
 use mathlib.Core.Bool.{Bool, true, false, cond}
 use mathlib.Core.List.{List}
 use native.Mathlib.Omega.{arith}
@@ -20,10 +20,9 @@ use Rattle.paper_rules.specs.Parts.{bytesOf, Lent}
 use Rattle.paper_rules.specs.Ranging.{Placed, Stands}
 use Rattle.paper_rules.specs.Earlier.{Earlier, earlier, partOf, headingCount, headingsIn, equalIn, headingFound}
 use Rattle.paper_rules.specs.Earlier.{sectionTurn, nowhere, equalHeading}
-use Rattle.paper_record.specs.declared.types.RecordNo.{RecordNo}
-use Rattle.paper_reasons.specs.declared.types.Facts.the-variants.{Equal}
 use Rattle.paper_reasons.specs.Reason.{headingRecords}
-use Rattle.reasons_facts.specs.Lying.{Lying, Inside}
+use Rattle.reasons_places.specs.Inside.{Inside}
+use Rattle.reasons_facts.specs.Lying.{Lying}
 
 -- what holds of nothing and of each earlier heading holds of the one that is found
 module _ (f : List ℕ) (e : Earlier) (P : Found → Type 0) (none : P Nothing)
@@ -129,7 +128,3 @@ module _ (t : Track) (g : Ranges) (before : List ℕ) (stands : Stands t g befor
         table = lent-of (g .table) (stands .placed .table);
         few = omega arith;
       }
-
--- a place goes by the number of its record
-pub equal-at : {x y : RecordNo} (k : ℕ) → x ≡ y → Equal x k ≡ Equal y k
-equal-at k e = ap (λ (z : RecordNo). Equal z k) e

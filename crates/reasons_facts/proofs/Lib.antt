@@ -1,2 +1,1 @@
 pub mod HeadingsFound
-pub mod RoundedUp

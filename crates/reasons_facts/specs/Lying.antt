@@ -1,14 +1,10 @@
 -- What the functions of the facts are lent: between the code and the definitions, not read against the paper.
-use Prim.Native.Nat.{ℕ, _+_, _-_, _*_, _/_, _≤_}
-use mathlib.Core.Path.{_≡_}
+use Prim.Native.Nat.{ℕ, _*_, _≤_}
 use mathlib.Core.List.{List}
 use lib.ListN.{length}
-use Rattle.paper_rules.specs.declared.types.Found.{Found}
-use Rattle.paper_rules.specs.declared.types.Found.the-variants.{At}
 use Rattle.paper_rules.specs.declared.types.Ranges.{Ranges}
 use Rattle.paper_rules.specs.Limits.{MOST-RECORDS}
 use Rattle.paper_rules.specs.Parts.{Lent}
-use Rattle.paper_reasons.specs.Reason.{headingRecords}
 
 -- the heading records that are looked at lie among the bytes before the record in hand
 pub record Lying (g : Ranges) (before : List ℕ) : Type 0 where
@@ -16,8 +12,3 @@ pub record Lying (g : Ranges) (before : List ℕ) : Type 0 where
   pub common : Lent before (g .common)
   pub table : Lent before (g .table)
   pub few : length before ≤ MOST-RECORDS * 81
-
--- a heading that is found stands on a record of an entry
-pub record Inside (g : Ranges) (found : Found) : Type 0 where
-  pub place : (section column : ℕ) → found ≡ At section column
-      → (1 ≤ column) × (headingRecords g section .from .0 + (column - 1) / 6 ≤ MOST-RECORDS)

@@ -5,7 +5,7 @@ use Rattle.double.proofs.convert.doubled_by.Statement.{statement}
 use Rattle.double.proofs.convert.doubled_by.Tie as tie
 use Rattle.double.proofs.convert.doubled_by.Reads as reads
 use Rattle.double.proofs.convert.doubled_by.Lts as lts
-use Rattle.double.proofs.convert.simple_of.Reads as simple-of-reads
+use Rattle.double_simple.proofs.simple.simple_of.Reads as simple-of-reads
 
 enum-told : tie.Need-enum-told
 enum-told c = search needs

@@ -6,7 +6,7 @@ use Rattle.exports_doubles.proofs.doubles.x4_double.Tie as tie
 use Rattle.exports_doubles.proofs.doubles.x4_double.Reads as reads
 use Rattle.exports_doubles.proofs.doubles.x4_double.Lts as lts
 use Rattle.double_asking.proofs.asking.double.Reads as double-reads
-use Rattle.exports_simple.proofs.simple.put_answer.Reads as put-answer-reads
+use Rattle.exports_simple_words.proofs.words.put_answer.Reads as put-answer-reads
 
 double-requires : tie.Need-double-requires
 double-requires c κs = search needs

@@ -6,7 +6,7 @@ use Rattle.exports_doubles.proofs.doubles.x4_index_double.Tie as tie
 use Rattle.exports_doubles.proofs.doubles.x4_index_double.Reads as reads
 use Rattle.exports_doubles.proofs.doubles.x4_index_double.Lts as lts
 use Rattle.double_rows.proofs.rows.double_by_index.Reads as double-by-index-reads
-use Rattle.exports_simple.proofs.simple.put_answer.Reads as put-answer-reads
+use Rattle.exports_simple_words.proofs.words.put_answer.Reads as put-answer-reads
 
 double-by-index-requires : tie.Need-double-by-index-requires
 double-by-index-requires c κs = search needs

@@ -7,7 +7,7 @@ use Rattle.exports_reals.proofs.hand.x4_as_double.Tie as tie
 use Rattle.exports_reals.proofs.hand.x4_as_double.Reads as reads
 use Rattle.exports_reals.proofs.hand.x4_as_double.Lts as lts
 use Rattle.exports_simple.proofs.simple.double_in.Reads as double-in-reads
-use Rattle.exports_simple.proofs.simple.simple_in.Reads as simple-in-reads
+use Rattle.exports_hand.proofs.hand.simple_in.Reads as simple-in-reads
 
 simple-in-requires : tie.Need-simple-in-requires
 simple-in-requires c κs = search needs

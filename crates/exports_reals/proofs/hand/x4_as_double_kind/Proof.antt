@@ -8,7 +8,7 @@ use Rattle.exports_reals.proofs.hand.x4_as_double_kind.Tie as tie
 use Rattle.exports_reals.proofs.hand.x4_as_double_kind.Reads as reads
 use Rattle.exports_reals.proofs.hand.x4_as_double_kind.Lts as lts
 use Rattle.exports_simple.proofs.simple.kind_of.Reads as kind-of-reads
-use Rattle.exports_simple.proofs.simple.simple_in.Reads as simple-in-reads
+use Rattle.exports_hand.proofs.hand.simple_in.Reads as simple-in-reads
 
 simple-in-requires : tie.Need-simple-in-requires
 simple-in-requires c κs = search needs

@@ -8,7 +8,7 @@ use Rattle.exports_reals.proofs.reals.x4_read_double.Tie as tie
 use Rattle.exports_reals.proofs.reals.x4_read_double.Reads as reads
 use Rattle.exports_reals.proofs.reals.x4_read_double.Lts as lts
 use Rattle.double.proofs.convert.doubled.Reads as doubled-reads
-use Rattle.exports_simple.proofs.simple.field_word_of.Reads as field-word-of-reads
+use Rattle.exports_simple_words.proofs.words.field_word_of.Reads as field-word-of-reads
 use Rattle.exports_simple.proofs.simple.put_double.Reads as put-double-reads
 use Rattle.number_reading.proofs.read.read_number.Reads as read-number-reads
 

@@ -6,7 +6,7 @@ use Rattle.files_outside.proofs.outside.rule7_outside.Statement.{statem
 use Rattle.files_outside.proofs.outside.rule7_outside.Tie as tie
 use Rattle.files_outside.proofs.outside.rule7_outside.Reads as reads
 use Rattle.files_outside.proofs.outside.rule7_outside.Lts as lts
-use Rattle.files_outside.proofs.outside.trans_form.Reads as trans-form-reads
+use Rattle.files_trans.proofs.trans.trans_form.Reads as trans-form-reads
 use Rattle.record.proofs.system.count_of.Reads as count-of-reads
 use Rattle.record.proofs.system.is_count.Reads as is-count-reads
 

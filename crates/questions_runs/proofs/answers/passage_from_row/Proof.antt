@@ -13,8 +13,8 @@ use Rattle.questions_passages.proofs.passage.begun_at.Reads as begun-at-reads
 use Rattle.questions_passages.proofs.passage.ended_at.Reads as ended-at-reads
 use Rattle.questions_places.proofs.place.first_byte.Reads as first-byte-reads
 use Rattle.questions_reads.proofs.reads.read_section.Reads as read-section-reads
-use Rattle.questions_runs.proofs.answers.passage_refusal.Reads as passage-refusal-reads
-use Rattle.questions_runs.proofs.answers.texts_held.Reads as texts-held-reads
+use Rattle.questions_held.proofs.held.passage_refusal.Reads as passage-refusal-reads
+use Rattle.questions_held.proofs.held.texts_held.Reads as texts-held-reads
 
 read-section-requires : tie.Need-read-section-requires
 read-section-requires c κs = search needs

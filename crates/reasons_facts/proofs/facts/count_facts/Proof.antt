@@ -4,8 +4,8 @@ use Rattle.reasons_facts.proofs.facts.count_facts.Statement.{statement}
 use Rattle.reasons_facts.proofs.facts.count_facts.Tie as tie
 use Rattle.reasons_facts.proofs.facts.count_facts.Reads as reads
 use Rattle.reasons_facts.proofs.facts.count_facts.Lts as lts
-use Rattle.reasons_facts.proofs.facts.announced_facts.Reads as announced-facts-reads
-use Rattle.reasons_facts.proofs.facts.end_facts.Reads as end-facts-reads
+use Rattle.reasons_counts.proofs.counts.announced_facts.Reads as announced-facts-reads
+use Rattle.reasons_counts.proofs.counts.end_facts.Reads as end-facts-reads
 use Rattle.record.proofs.system.count_of.Reads as count-of-reads
 use Rattle.record.proofs.system.number_of.Reads as number-of-reads
 use Rattle.rules_roles.proofs.roles.opens_section.Reads as opens-section-reads

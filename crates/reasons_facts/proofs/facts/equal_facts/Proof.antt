@@ -8,7 +8,7 @@ use Rattle.reasons_facts.proofs.facts.equal_facts.Statement.{statement}
 use Rattle.reasons_facts.proofs.facts.equal_facts.Tie as tie
 use Rattle.reasons_facts.proofs.facts.equal_facts.Reads as reads
 use Rattle.reasons_facts.proofs.facts.equal_facts.Lts as lts
-use Rattle.reasons_facts.proofs.facts.heading_place.Reads as heading-place-reads
+use Rattle.reasons_places.proofs.places.heading_place.Reads as heading-place-reads
 use Rattle.rules_earlier.proofs.earlier.equal_heading.Reads as equal-heading-reads
 use Rattle.rules_roles.proofs.ranging.part.Reads as part-reads
 

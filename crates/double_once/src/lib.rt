@@ -1,0 +1,2 @@
+// The one operation that is rounded.
+pub mod once;

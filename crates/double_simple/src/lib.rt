@@ -1,0 +1,2 @@
+// Which decimals are doubles, and which.
+pub mod simple;

@@ -1,0 +1,2 @@
+// The exact powers of ten.
+pub mod tens;

@@ -1,0 +1,2 @@
+// A decimal in hand.
+pub mod hand;

@@ -1,0 +1,2 @@
+// A number field as a call answers it, in eight numbers.
+pub mod values;

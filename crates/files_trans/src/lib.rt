@@ -1,0 +1,2 @@
+// The fields of TRANS: the file identifier and the date.
+pub mod trans;

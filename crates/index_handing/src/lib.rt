@@ -1,0 +1,2 @@
+// The parts that questions by an index name, in place.
+pub mod handing;
