@@ -1,7 +1,7 @@
 ! The functions of the proved archives (rt staticlib) for Fortran. The numbers are document 01's; the count of digits is
 ! that of document 02, M-104, refusal 17, a flag with an exponent or one that equals no code, that of M-105,
 ! transmissions are those of M-100, reasons those of M-108, the index of subentries is that of M-102, walks are those of
-! M-112, and doubles those of M-107.
+! M-112, doubles those of M-107, and lines in the CINDA2001 layout those of M-113.
 !
 ! A call returns a word, 0 where it is answered, and then stores what it answers in an array that is lent to it:
 ! totals(4) are subentries, keywords, DATA lines, numbers; value(8) are kind (0 blank, 1 number), 1 if below zero,
@@ -14,7 +14,7 @@
 !
 ! The words of x4_double, x4_index_double and x4_read_double tell in bits 48-55 which of the three it is, blank, a double,
 ! or a decimal that is outside the simple range, and in 56-63 how many digits are written. The double is stored where there
-! is one.
+! is one. The words of the calls about lines have the number in bits 0-7, the column in 16-23 and the line in 24-47.
 module x4
   use, intrinsic :: iso_c_binding, only: c_char, c_double, c_int8_t, c_int32_t, c_int64_t, c_size_t
   implicit none
@@ -28,6 +28,8 @@ module x4
   public :: x4_walk_place, x4_begun, x4_next
   public :: x4_is_blank, x4_is_double, x4_is_decimal, x4_kind
   public :: x4_ask_double, x4_index_ask_double, x4_read_double, x4_to_double, x4_kind_of
+  public :: x4_cinda_length, x4_cinda_most, x4_cinda_fields
+  public :: x4_cinda_checked, x4_cinda_taken, x4_cinda_parts, x4_cinda_copied
 
   ! The interface that this module describes; x4_version() is the same of the archives.
   integer(c_int32_t), parameter :: x4_interface = 4
@@ -37,6 +39,9 @@ module x4
 
   ! Which of the three a value is: blank, a double, or a decimal that is outside the simple range.
   integer(c_int32_t), parameter :: x4_is_blank = 0, x4_is_double = 1, x4_is_decimal = 2
+
+  ! How many characters a line in the CINDA2001 layout has, its line feed among them, and how many lines there may be.
+  integer, parameter :: x4_cinda_length = 126, x4_cinda_most = 20000
 
   ! A refusal by its number, 0 where there is none; beside 31 why the entry or transmission is refused, else zeros. The
   ! ordinal is that of the entry in a transmission, 0 for a single entry and outside entries.
@@ -97,6 +102,27 @@ module x4
     integer(c_int64_t) :: first = 0, second = 0
     character(len=8, kind=c_char) :: characters = ' '
   end type x4_reason
+
+  ! The fields of a line in the CINDA2001 layout, or a refusal beside blanks and zeros, where refused%place is the line: 70 to
+  ! 77, or 34 no such line. Where `many` is true, A is the code MNY, and a is 0.
+  type :: x4_cinda_fields
+    type(x4_refused) :: refused
+    character(kind=c_char) :: operation = ' '
+    integer(c_int32_t) :: z = 0, a = 0
+    logical :: many = .false.
+    character(kind=c_char) :: isomer = ' '
+    character(len=15, kind=c_char) :: reaction = ' '
+    character(len=4, kind=c_char) :: quantity = ' '
+    character(len=6, kind=c_char) :: institute = ' '
+    character(kind=c_char) :: area = ' '
+    integer(c_int32_t) :: block = 0, sequence = 0
+    character(kind=c_char) :: work = ' ', reader = ' '
+    type(x4_value) :: least, greatest
+    character(kind=c_char) :: hierarchy = ' ', kind = ' '
+    character(len=22, kind=c_char) :: reference = ' '
+    integer(c_int32_t) :: year = 0, month = 0
+    character(len=40, kind=c_char) :: comment = ' '
+  end type x4_cinda_fields
 
   interface
     function x4_version() bind(c, name='x4_version') result(version)
@@ -341,6 +367,39 @@ module x4
       integer(c_int32_t), value :: power
       integer(c_int64_t) :: kind
     end function c_as_double_kind
+
+    function c_cinda_check(lines, length) bind(c, name='x4_cinda_check') result(word)
+      import :: c_char, c_int64_t, c_size_t
+      character(kind=c_char), intent(in) :: lines(*)
+      integer(c_size_t), value :: length
+      integer(c_int64_t) :: word
+    end function c_cinda_check
+
+    function c_cinda_line(lines, length, line, numbers, least, greatest) bind(c, name='x4_cinda_line') result(word)
+      import :: c_char, c_int32_t, c_int64_t, c_size_t
+      character(kind=c_char), intent(in) :: lines(*)
+      integer(c_size_t), value :: length
+      integer(c_int32_t), value :: line
+      integer(c_int64_t), intent(inout) :: numbers(14), least(8), greatest(8)
+      integer(c_int64_t) :: word
+    end function c_cinda_line
+
+    function c_cinda_pieces(lines, length, line, places) bind(c, name='x4_cinda_pieces') result(word)
+      import :: c_char, c_int32_t, c_int64_t, c_size_t
+      character(kind=c_char), intent(in) :: lines(*)
+      integer(c_size_t), value :: length
+      integer(c_int32_t), value :: line
+      integer(c_int64_t), intent(inout) :: places(12)
+      integer(c_int64_t) :: word
+    end function c_cinda_pieces
+
+    function c_cinda_back(lines, length, out, room) bind(c, name='x4_cinda_back') result(word)
+      import :: c_char, c_int64_t, c_size_t
+      character(kind=c_char), intent(in) :: lines(*)
+      character(kind=c_char), intent(inout) :: out(*)
+      integer(c_size_t), value :: length, room
+      integer(c_int64_t) :: word
+    end function c_cinda_back
   end interface
 
 contains
@@ -615,6 +674,66 @@ contains
                                                    v%power), c_int32_t)
   end function x4_kind_of
 
+  ! Checks lines in the CINDA2001 layout, 126 characters each with their line feeds: 70 to 77, or 0 where all are good. `place`
+  ! is the line.
+  function x4_cinda_checked(lines) result(r)
+    character(len=*, kind=c_char), intent(in) :: lines
+    type(x4_refused) :: r
+    r = refused_in(c_cinda_check(lines, len(lines, c_size_t)))
+  end function x4_cinda_checked
+
+  ! The fields of one of them, counted from 1. All lines are checked each time: one who goes through many checks them once, and
+  ! then asks for line 1 of lines(126*(n-1)+1:126*n).
+  function x4_cinda_taken(lines, line) result(f)
+    character(len=*, kind=c_char), intent(in) :: lines
+    integer(c_int32_t), intent(in) :: line
+    type(x4_cinda_fields) :: f
+    type(x4_part) :: p(6)
+    integer(c_int64_t) :: word, n(14), least(8), greatest(8)
+    n = 0
+    least = 0
+    greatest = 0
+    word = c_cinda_line(lines, len(lines, c_size_t), line, n, least, greatest)
+    f%refused = refused_in(word)
+    if (f%refused%number /= 0) return
+    call put_numbers(n, f)
+    f%least = value_in(word, least)
+    f%greatest = value_in(word, greatest)
+    f%refused = x4_cinda_parts(lines, line, p)
+    f%reaction = lines(p(2)%first:p(2)%last)
+    f%quantity = lines(p(3)%first:p(3)%last)
+    f%institute = lines(p(4)%first:p(4)%last)
+    f%reference = lines(p(5)%first:p(5)%last)
+    f%comment = lines(p(6)%first:p(6)%last)
+  end function x4_cinda_taken
+
+  ! A line and its texts as parts of the lines, lines(p(i)%first:p(i)%last): the line with its line feed, reaction, quantity,
+  ! institute, reference code, comment; all are empty where it is refused.
+  function x4_cinda_parts(lines, line, p) result(r)
+    character(len=*, kind=c_char), intent(in) :: lines
+    integer(c_int32_t), intent(in) :: line
+    type(x4_part), intent(out) :: p(6)
+    type(x4_refused) :: r
+    integer(c_int64_t) :: places(12)
+    integer :: i
+    places = 0
+    r = refused_in(c_cinda_pieces(lines, len(lines, c_size_t), line, places))
+    do i = 1, 6
+      p(i)%refused = r
+      p(i)%first = int(places(2*i - 1)) + 1
+      p(i)%last = p(i)%first + int(places(2*i)) - 1
+    end do
+  end function x4_cinda_parts
+
+  ! Writes lines to the front of a text that is as long or longer, each energy in its canonical field: 70 to 77, or 37 where it
+  ! is shorter.
+  function x4_cinda_copied(lines, copy) result(r)
+    character(len=*, kind=c_char), intent(in) :: lines
+    character(len=*, kind=c_char), intent(inout) :: copy
+    type(x4_refused) :: r
+    r = refused_in(c_cinda_back(lines, len(lines, c_size_t), copy, len(copy, c_size_t)))
+  end function x4_cinda_copied
+
   ! Stores the canonical copy in the front of a text that is as long as the entry or longer. Columns under FLAG and
   ! DECAY-FLAG stay as they were.
   function x4_copied(entry, copy) result(r)
@@ -692,6 +811,26 @@ contains
     v%power = int(numbers(4), c_int32_t)
     v%digits = int(numbers(5), c_int32_t)
   end function value_in
+
+  ! the numbers and the single characters of a line
+  pure subroutine put_numbers(n, f)
+    integer(c_int64_t), intent(in) :: n(14)
+    type(x4_cinda_fields), intent(inout) :: f
+    f%operation = achar(int(n(1)))
+    f%z = int(n(2), c_int32_t)
+    f%a = int(n(3), c_int32_t)
+    f%many = n(4) == 1
+    f%isomer = achar(int(n(5)))
+    f%area = achar(int(n(6)))
+    f%block = int(n(7), c_int32_t)
+    f%sequence = int(n(8), c_int32_t)
+    f%work = achar(int(n(9)))
+    f%reader = achar(int(n(10)))
+    f%hierarchy = achar(int(n(11)))
+    f%kind = achar(int(n(12)))
+    f%year = int(n(13), c_int32_t)
+    f%month = int(n(14), c_int32_t)
+  end subroutine put_numbers
 
   ! no ordinal: of a single entry the kind and the digits stand in its place
   pure function kind_in(word) result(k)

@@ -3,7 +3,7 @@
  * A slice of bytes or of numbers is a pointer and a length. Every call answers for every argument: nothing has to be
  * tested before, but a pointer must be that of so many bytes or numbers. The numbers are document 01's; the count of
  * digits is that of document 02, M-104, refusal 17 that of M-105, transmissions are those of M-100, reasons those of
- * M-108, the index is that of M-102, walks are those of M-112, and doubles those of M-107.
+ * M-108, the index is that of M-102, walks are those of M-112, doubles those of M-107, and CINDA lines those of M-113.
  *
  * A call returns a word, 0 where it is answered, and then stores what it answers in the array that is lent to it, as
  * long as its parameter says. The words of x4_double, x4_index_double and x4_read_double have more in them, as is said
@@ -248,6 +248,101 @@ uint64_t x4_read_double(const uint8_t *field, size_t length, double value[1]);
 double x4_as_double(uint32_t negative, uint64_t coefficient, int32_t power);
 uint64_t x4_as_double_kind(uint32_t negative, uint64_t coefficient, int32_t power);
 
+/* ---- lines in the CINDA2001 layout: 125 columns and a line feed, 126 bytes; 1 to 20,000 of them
+ *
+ *     bits    the word of these four calls
+ *     0-7     the number of the refusal; 0 answered
+ *     16-23   the column, from 1; 0 beside 70, 34 and 37
+ *     24-47   the line, from 1; 0 beside 70, 34 and 37
+ *
+ * and all other bits are 0. Refusals, of which 70 comes first, then the first line with a fault, its lowest number, its
+ * leftmost column:
+ *
+ *     70  length: none, not whole lines, more than 20,000 lines
+ *     71  byte 126 is not a line feed                                     column 126
+ *     72  a character that is not permitted                               that one
+ *     73  the operation is not A, D or M                                  column 1
+ *     74  target: Z and A are integers, right-adjusted with blanks in     columns 2, 5, 8
+ *         front, Z is 999 where A is MNY; the isomer is a blank or a
+ *         digit
+ *     75  the block is no capital or digit and an integer, the sequence   columns 34, 38
+ *         no integer; both are required
+ *     76  an energy that is neither blank nor a number field, of which    columns 42, 49
+ *         column 7 is the last
+ *     77  the reference date is not YYYYMM, month 01-12                   column 80
+ *
+ * Everything else is judged as characters alone. A refused call stores nothing. */
+
+/* Whether all lines are good. */
+uint64_t x4_cinda_check(const uint8_t *lines, size_t length);
+
+/* The fields of one line, which counts from 1. Its numbers and its single characters, these by their bytes:
+ *
+ *     numbers[X4_CINDA_OPERATION]  A add, D delete, M modify     numbers[X4_CINDA_WORK]       work type
+ *     numbers[X4_CINDA_Z]          Z of the target               numbers[X4_CINDA_READER]     reader code
+ *     numbers[X4_CINDA_A]          A of it; 0 where it is many   numbers[X4_CINDA_HIERARCHY]  hierarchy code
+ *     numbers[X4_CINDA_MANY]       1 where A is MNY, else 0      numbers[X4_CINDA_TYPE]       reference type
+ *     numbers[X4_CINDA_ISOMER]     a blank or a digit            numbers[X4_CINDA_YEAR]       year of the reference
+ *     numbers[X4_CINDA_AREA]       area of the block             numbers[X4_CINDA_MONTH]      month, 1 to 12
+ *     numbers[X4_CINDA_BLOCK]      number of the block
+ *     numbers[X4_CINDA_SEQUENCE]   sequence in the block
+ *
+ * The least and the greatest energy are values as x4_value has them, blank or a number, with the count of digits.
+ * Refusals: 70 to 77, as all lines are checked, then 34 no such line. So one who goes through many lines checks them once,
+ * and hands over one at a time, which is looked at alone:
+ *
+ *     if (x4_cinda_check(lines, length) == 0)
+ *         for (size_t at = 0; at < length; at += X4_CINDA_LINE)
+ *             x4_cinda_line(lines + at, X4_CINDA_LINE, 1, numbers, least, greatest); .. numbers, least, greatest ..
+ */
+uint64_t x4_cinda_line(const uint8_t *lines, size_t length, uint32_t line, uint64_t numbers[14], uint64_t least[8],
+                       uint64_t greatest[8]);
+
+/* One line and its texts as parts of the lines: first byte, from 0, and length of
+ *
+ *     places[0] the line, 126 bytes           places[4] quantity, columns 24-27      places[8] reference code, 58-79
+ *     places[2] reaction, columns 9-23        places[6] institute, columns 28-33     places[10] comment, 86-125
+ *
+ * each with its length behind it. Refusals as of x4_cinda_line. */
+uint64_t x4_cinda_pieces(const uint8_t *lines, size_t length, uint32_t line, uint64_t places[12]);
+
+/* Writes the lines to the front of a buffer that does not overlap them: each energy in its canonical field of seven columns,
+ * right-adjusted, and every other byte as it is. Bytes of the buffer behind the lines stay. Refusals: 70 to 77, then 37
+ * buffer shorter than the lines. */
+uint64_t x4_cinda_back(const uint8_t *lines, size_t length, uint8_t *out, size_t room);
+
+/* how many bytes a line has, and how many lines there may be */
+#define X4_CINDA_LINE 126
+#define X4_CINDA_MOST 20000
+
+/* the places of numbers */
+enum {
+    X4_CINDA_OPERATION,
+    X4_CINDA_Z,
+    X4_CINDA_A,
+    X4_CINDA_MANY,
+    X4_CINDA_ISOMER,
+    X4_CINDA_AREA,
+    X4_CINDA_BLOCK,
+    X4_CINDA_SEQUENCE,
+    X4_CINDA_WORK,
+    X4_CINDA_READER,
+    X4_CINDA_HIERARCHY,
+    X4_CINDA_TYPE,
+    X4_CINDA_YEAR,
+    X4_CINDA_MONTH
+};
+
+/* the places of the parts of a line; the length of each stands behind it */
+enum {
+    X4_CINDA_WHOLE = 0,
+    X4_CINDA_REACTION = 2,
+    X4_CINDA_QUANTITY = 4,
+    X4_CINDA_INSTITUTE = 6,
+    X4_CINDA_REFERENCE = 8,
+    X4_CINDA_COMMENT = 10
+};
+
 /* ---- the word that a call returns */
 
 /* 0 where the call is answered */
@@ -258,6 +353,10 @@ static inline uint32_t x4_entry_refusal(uint64_t word) { return (uint32_t)(word 
 static inline uint32_t x4_entry_column(uint64_t word) { return (uint32_t)(word >> 16 & 0xff); }
 static inline uint32_t x4_entry_record(uint64_t word) { return (uint32_t)(word >> 24 & 0xffffff); }
 static inline uint32_t x4_entry_ordinal(uint64_t word) { return (uint32_t)(word >> 48); }
+
+/* of a refused call about lines, with 71 to 77 */
+static inline uint32_t x4_cinda_column(uint64_t word) { return (uint32_t)(word >> 16 & 0xff); }
+static inline uint32_t x4_cinda_at_line(uint64_t word) { return (uint32_t)(word >> 24 & 0xffffff); }
 
 /* of the words of x4_double, x4_index_double and x4_read_double alone: 0 blank or refused, 1 a double, 2 a decimal outside
  * the simple range; 0 to 10 digits */

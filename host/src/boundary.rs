@@ -6,6 +6,8 @@
 //! of the tests, `stack` is too.
 
 #[cfg(proved)]
+use crate::cinda::{Line, LinesRefusal, Pieces};
+#[cfg(proved)]
 use crate::walk::{Given, Walk};
 #[cfg(proved)]
 use crate::{words, Decimal, Explained, FieldRead, NoAnswer, Part, Verdict};
@@ -142,6 +144,17 @@ extern "C" {
     fn x4_read_double(field: *const u8, length: usize, value: *mut [f64; 1]) -> u64;
     fn x4_as_double(negative: u32, coefficient: u64, power: i32) -> f64;
     fn x4_as_double_kind(negative: u32, coefficient: u64, power: i32) -> u64;
+    fn x4_cinda_check(lines: *const u8, length: usize) -> u64;
+    fn x4_cinda_line(
+        lines: *const u8,
+        length: usize,
+        line: u32,
+        numbers: *mut [u64; 14],
+        least: *mut [u64; 8],
+        greatest: *mut [u64; 8],
+    ) -> u64;
+    fn x4_cinda_pieces(lines: *const u8, length: usize, line: u32, places: *mut [u64; 12]) -> u64;
+    fn x4_cinda_back(lines: *const u8, length: usize, out: *mut u8, room: usize) -> u64;
 }
 
 /// The version of the archives' interface, which is to be [`words::VERSION`].
@@ -403,6 +416,40 @@ pub fn as_double(negative: u32, coefficient: u64, power: i32) -> f64 {
 pub fn as_double_kind(negative: u32, coefficient: u64, power: i32) -> u64 {
     // SAFETY: it takes numbers alone.
     unsafe { x4_as_double_kind(negative, coefficient, power) }
+}
+
+/// Checks lines in the CINDA2001 layout.
+#[cfg(proved)]
+pub fn cinda_check(lines: &[u8]) -> Result<(), LinesRefusal> {
+    // SAFETY: the pointer and the length are those of one slice, which is only read.
+    words::lines_answered(unsafe { x4_cinda_check(lines.as_ptr(), lines.len()) })
+}
+
+/// The numbers and characters of a line.
+#[cfg(proved)]
+pub fn cinda_line(lines: &[u8], line: u32) -> Result<Line, LinesRefusal> {
+    let (mut numbers, mut least, mut greatest) = ([0; 14], [0; 8], [0; 8]);
+    let (first, length) = (lines.as_ptr(), lines.len());
+    // SAFETY: the pointer and the length are those of one slice, which is only read; the arrays are this call's own.
+    let word = unsafe { x4_cinda_line(first, length, line, &mut numbers, &mut least, &mut greatest) };
+    words::lines_answered(word).map(|()| words::line(numbers, least, greatest))
+}
+
+/// A line and its texts, as parts of all lines.
+#[cfg(proved)]
+pub fn cinda_pieces(lines: &[u8], line: u32) -> Result<Pieces, LinesRefusal> {
+    let mut places = [0; 12];
+    // SAFETY: the pointer and the length are those of one slice, which is only read; the array is this call's own.
+    let word = unsafe { x4_cinda_pieces(lines.as_ptr(), lines.len(), line, &mut places) };
+    words::lines_answered(word).map(|()| words::pieces(places))
+}
+
+/// Lines written back, into the front of a buffer.
+#[cfg(proved)]
+pub fn cinda_back(lines: &[u8], buffer: &mut [u8]) -> Result<(), LinesRefusal> {
+    let (first, room) = (buffer.as_mut_ptr(), buffer.len());
+    // SAFETY: the lines are only read, and nobody else has the buffer while it is written.
+    words::lines_answered(unsafe { x4_cinda_back(lines.as_ptr(), lines.len(), first, room) })
 }
 
 /// What C's own reader makes of a text: for comparisons of speed.
@@ -935,6 +982,102 @@ mod tests {
             // SAFETY: the pointer and the length are those of one slice, which is only read.
             let word = unsafe { x4_read_number(field.as_ptr(), field.len(), &mut value) };
             assert!(word == number && untouched(&value), "{field:?}");
+        }
+    }
+
+    /// The words of the four calls about lines, and what stands in their arrays, between numbers that are to stay, and in a buffer
+    /// of so many bytes, between bytes that are to stay.
+    fn lines_asked(lines: &[u8], line: u32, room: usize) -> ([u64; 4], [Vec<u64>; 4], Vec<u8>) {
+        let (first, length) = (lines.as_ptr(), lines.len());
+        let (mut numbers, mut least, mut greatest, mut places) =
+            ([BEFORE; 16], [BEFORE; 10], [BEFORE; 10], [BEFORE; 14]);
+        let mut out = vec![b'#'; room + 16];
+        // SAFETY: pointers and lengths are those of slices, the lines are only read; the arrays are this function's own, and
+        // each has one number more on either side.
+        let words = unsafe {
+            let [numbers, least, greatest, places] =
+                [&mut numbers[1..], &mut least[1..], &mut greatest[1..], &mut places[1..]].map(<[u64]>::as_mut_ptr);
+            [
+                x4_cinda_check(first, length),
+                x4_cinda_line(first, length, line, numbers.cast(), least.cast(), greatest.cast()),
+                x4_cinda_pieces(first, length, line, places.cast()),
+                x4_cinda_back(first, length, out[8..].as_mut_ptr(), room),
+            ]
+        };
+        let left = [&numbers[..], &least, &greatest, &places];
+        assert!(left.iter().all(|left| left[0] == BEFORE && left[left.len() - 1] == BEFORE), "beside an array");
+        assert!(out[..8].iter().chain(&out[8 + room..]).all(|&byte| byte == b'#'), "beside the buffer");
+        (words, left.map(|left| left[1..left.len() - 1].to_vec()), out[8..8 + room].to_vec())
+    }
+
+    /// What the four calls store of the sample, and how the wrappers take it apart.
+    #[test]
+    fn lines_are_stored() {
+        let sample = include_bytes!("../data/sample.cinda");
+        let (words, [numbers, least, greatest, places], out) = lines_asked(sample, 1, sample.len() + 5);
+        assert_eq!(words, [0; 4]);
+        assert_eq!(numbers, [65, 92, 235, 0, 32, 76, 198, 1, 69, 32, 50, 74, 1994, 5]);
+        assert_eq!(least, [1, 0, 1, 6, 2, 0, 0, 0]);
+        assert_eq!(greatest, [1, 0, 14, 0, 2, 0, 0, 0]);
+        assert_eq!(places, [0, 126, 8, 15, 23, 4, 27, 6, 57, 22, 85, 40]);
+        assert!(out[..48].ends_with(b"   1.+6") && out.ends_with(b"#####"), "the buffer");
+        let (_, [numbers, least, greatest, places], _) = lines_asked(sample, 4, 0);
+        assert_eq!(numbers, [68, 999, 0, 1, 32, 86, 123, 99, 82, 65, 53, 67, 1970, 6], "many nuclei");
+        assert_eq!((least, greatest), (vec![1, 0, 1, 3, 4, 0, 0, 0], vec![1, 0, 1, 100, 1, 0, 0, 0]));
+        assert_eq!(places, [378, 126, 386, 15, 401, 4, 405, 6, 435, 22, 463, 40]);
+        let (_, [_, least, greatest, _], _) = lines_asked(sample, 2, 0);
+        assert_eq!(
+            (least[..5].to_vec(), greatest[..5].to_vec()),
+            (vec![1, 0, 25, u64::MAX - 2, 2], vec![1, 0, 14, 6, 3])
+        );
+        assert_eq!(lines_asked(sample, 3, 0).1[1], [0; 8], "a blank energy");
+        for line in 1..=5 {
+            let (_, [numbers, least, greatest, places], _) = lines_asked(sample, line, 0);
+            let taken = cinda_line(sample, line).expect("a good line");
+            let stored = words::line_stored(&taken);
+            assert_eq!((&stored.0[..], &stored.1[..], &stored.2[..]), (&numbers[..], &least[..], &greatest[..]));
+            assert_eq!(words::pieces_stored(&cinda_pieces(sample, line).expect("a good line"))[..], places[..]);
+        }
+        assert_eq!(cinda_check(sample), Ok(()));
+    }
+
+    /// Refused, nothing is stored: 70 to 77 by all four, then 34 by two and 37 by one.
+    #[test]
+    fn refused_lines_store_nothing() {
+        let sample = include_bytes!("../data/sample.cinda");
+        let with = |line: usize, column: usize, text: &str| {
+            let mut lines = sample.to_vec();
+            let first = 126 * (line - 1) + column - 1;
+            lines[first..first + text.len()].copy_from_slice(text.as_bytes());
+            lines
+        };
+        let word = |number: u64, line: u64, column: u64| number + (column << 16) + (line << 24);
+        for (lines, refused) in [
+            (Vec::new(), 70),
+            (sample[..125].to_vec(), 70),
+            (sample[1..].to_vec(), 70),
+            (with(5, 126, "\r"), word(71, 5, 126)),
+            (with(2, 125, "#"), word(72, 2, 125)),
+            (with(3, 1, "B"), word(73, 3, 1)),
+            (with(1, 2, "92 "), word(74, 1, 2)),
+            (with(1, 5, "CMP"), word(74, 1, 5)),
+            (with(1, 8, "M"), word(74, 1, 8)),
+            (with(4, 34, "    "), word(75, 4, 34)),
+            (with(4, 38, "1 "), word(75, 4, 38)),
+            (with(2, 42, "    NDG"), word(76, 2, 42)),
+            (with(2, 49, "    NDG"), word(76, 2, 49)),
+            (with(5, 80, "198113"), word(77, 5, 80)),
+        ] {
+            for (line, room) in [(1, 0), (0, lines.len()), (9, lines.len() + 7)] {
+                let (words, left, out) = lines_asked(&lines, line, room);
+                assert_eq!(words, [refused; 4], "line {line}, {room} bytes");
+                assert!(left.iter().all(|left| untouched(left)) && out.iter().all(|&byte| byte == b'#'));
+            }
+        }
+        for line in [0, 6, 1 << 24, u32::MAX] {
+            let (words, left, out) = lines_asked(sample, line, sample.len() - 1);
+            assert_eq!(words, [0, 34, 34, 37], "line {line}");
+            assert!(left.iter().all(|left| untouched(left)) && out.iter().all(|&byte| byte == b'#'));
         }
     }
 }

@@ -2,6 +2,7 @@
 //!
 //! Each case has a seed of its own, which a difference names, so that the case can be made again.
 
+use crate::cinda::{Line, LinesRefusal, Pieces, LINE};
 use crate::generate::{self, Kind, Random, Sheet, BELOW, CAUSES};
 use crate::library::DoubleCalls;
 use crate::reference::record::permitted;
@@ -129,6 +130,22 @@ pub trait Implementation {
     fn as_double(&self, decimal: Decimal) -> Simple {
         reference::as_double(decimal)
     }
+    /// The verdict on lines.
+    fn cinda_check(&self, lines: &[u8]) -> Result<(), LinesRefusal> {
+        reference::cinda_check(lines)
+    }
+    /// A line taken apart.
+    fn cinda_line(&self, lines: &[u8], line: u32) -> Result<Line, LinesRefusal> {
+        reference::cinda_line(lines, line)
+    }
+    /// A line and its texts.
+    fn cinda_pieces(&self, lines: &[u8], line: u32) -> Result<Pieces, LinesRefusal> {
+        reference::cinda_pieces(lines, line)
+    }
+    /// Lines written back.
+    fn cinda_back(&self, lines: &[u8], buffer: &mut [u8]) -> Result<(), LinesRefusal> {
+        reference::cinda_back(lines, buffer)
+    }
     /// What a program of another language is given for a double: its bits, and the word. By default what follows from the
     /// answers above.
     fn double_calls(&self, calls: DoubleCalls) -> (u64, u64) {
@@ -251,6 +268,18 @@ impl Implementation for Library {
     fn as_double(&self, decimal: Decimal) -> Simple {
         library::as_double(decimal)
     }
+    fn cinda_check(&self, lines: &[u8]) -> Result<(), LinesRefusal> {
+        library::cinda_check(lines)
+    }
+    fn cinda_line(&self, lines: &[u8], line: u32) -> Result<Line, LinesRefusal> {
+        library::cinda_line(lines, line)
+    }
+    fn cinda_pieces(&self, lines: &[u8], line: u32) -> Result<Pieces, LinesRefusal> {
+        library::cinda_pieces(lines, line)
+    }
+    fn cinda_back(&self, lines: &[u8], buffer: &mut [u8]) -> Result<(), LinesRefusal> {
+        library::cinda_back(lines, buffer)
+    }
     fn double_calls(&self, calls: DoubleCalls) -> (u64, u64) {
         let (double, word) = library::double_calls(calls);
         (double.to_bits(), word)
@@ -300,6 +329,10 @@ impl Tally {
     }
 
     fn add<T>(&mut self, answer: &Result<T, NoAnswer>) {
+        self.count(answer.as_ref().err().map_or(0, |refused| refused.number));
+    }
+
+    fn add_lines<T>(&mut self, answer: &Result<T, LinesRefusal>) {
         self.count(answer.as_ref().err().map_or(0, |refused| refused.number));
     }
 }
@@ -355,6 +388,12 @@ pub struct Counts {
     pub double_fields: Tally,
     /// Which of the three was given by all of these and to decimals in hand: blanks, doubles, decimals outside.
     pub simple: [u64; 3],
+    /// Verdicts on lines (M-113).
+    pub lines: Tally,
+    /// Lines taken apart, each asked for twice: its numbers, and its parts.
+    pub lines_apart: Tally,
+    /// Lines written back.
+    pub lines_back: Tally,
 }
 
 impl fmt::Display for Counts {
@@ -381,6 +420,9 @@ impl fmt::Display for Counts {
             ("questions for doubles", &self.doubles),
             ("questions for doubles by an index", &self.doubles_by_index),
             ("number fields read as doubles", &self.double_fields),
+            ("verdicts on lines", &self.lines),
+            ("lines taken apart", &self.lines_apart),
+            ("lines written back", &self.lines_back),
         ];
         for (name, Tally(tally)) in groups {
             writeln!(f, "{name}: {}", tally.values().sum::<u64>())?;
@@ -695,6 +737,92 @@ impl<'i> Pair<'i> {
             asked.map_err(|words| Difference { seed, words: format!("{decimal:?}: {words}"), input: Vec::new() })?;
             self.counts.simple[one.kind() as usize] += 1;
         }
+        Ok(())
+    }
+
+    /// Asks both about so many strings of lines, good and damaged.
+    pub fn lines(&mut self, seed: u64, count: u64) -> Result<(), Difference> {
+        (seed..seed + count).try_for_each(|seed| {
+            let random = &mut Random::seeded(seed ^ 113);
+            let lines = generate::cinda_input(random);
+            self.lines_of(random, &lines).map_err(|words| Difference { seed, words, input: lines })
+        })
+    }
+
+    /// Asks both about lines at the limits of their number.
+    pub fn line_limits(&mut self) -> Result<(), Difference> {
+        generate::cinda_limits().into_iter().try_for_each(|lines| {
+            self.lines_of(&mut Random::seeded(113), &lines).map_err(|words| Difference {
+                seed: 113,
+                words,
+                input: lines,
+            })
+        })
+    }
+
+    /// Asks both to check lines with one byte changed, for every byte and all of these values, and to write back what is good.
+    pub fn line_bytes(&mut self, lines: &[u8], values: &[u8]) -> Result<(), Difference> {
+        let mut changed = lines.to_vec();
+        for place in 0..lines.len() {
+            for &value in values {
+                changed[place] = value;
+                let asked = self.lines_judged(&changed).and_then(|good| match good {
+                    true => self.lines_back_in(&changed, changed.len()),
+                    false => Ok(()),
+                });
+                let asked = asked.and_then(|()| self.line_asked(&changed, (place / LINE) as u32 + 1));
+                asked.map_err(|words| Difference { seed: place as u64, words, input: changed.clone() })?;
+            }
+            changed[place] = lines[place];
+        }
+        Ok(())
+    }
+
+    /// Both verdicts; whether the lines are good.
+    fn lines_judged(&mut self, lines: &[u8]) -> Result<bool, String> {
+        let (one, other) = (self.one.cinda_check(lines), self.other.cinda_check(lines));
+        same("cinda_check", &one, &other)?;
+        self.counts.lines.add_lines(&one);
+        Ok(one.is_ok())
+    }
+
+    /// A verdict, some lines taken apart, and a copy in a buffer that may be too short.
+    fn lines_of(&mut self, random: &mut Random, lines: &[u8]) -> Result<(), String> {
+        self.lines_judged(lines)?;
+        let count = (lines.len() / LINE) as u32;
+        for line in [1, count, count.wrapping_add(1), 0, 1 + random.below(count as usize + 1) as u32] {
+            self.line_asked(lines, line)?;
+        }
+        self.line_asked(lines, random.one(&[2, 20_000, 20_001, 1 << 31, u32::MAX]))?;
+        let room = match random.below(4) {
+            0 => lines.len().saturating_sub(1),
+            1 => lines.len() + random.below(300),
+            2 => random.below(lines.len() + 1),
+            _ => lines.len(),
+        };
+        self.lines_back_in(lines, room)
+    }
+
+    fn line_asked(&mut self, lines: &[u8], line: u32) -> Result<(), String> {
+        let (one, other) = (self.one.cinda_line(lines, line), self.other.cinda_line(lines, line));
+        same(&format!("cinda_line {line}"), &one, &other)?;
+        self.counts.lines_apart.add_lines(&one);
+        let (one, other) = (self.one.cinda_pieces(lines, line), self.other.cinda_pieces(lines, line));
+        same(&format!("cinda_pieces {line}"), &one, &other)?;
+        self.counts.lines_apart.add_lines(&one);
+        Ok(())
+    }
+
+    /// A copy in a buffer of so many bytes, all of which are compared.
+    fn lines_back_in(&mut self, lines: &[u8], room: usize) -> Result<(), String> {
+        let (mut first, mut second) = (vec![b'#'; room], vec![b'#'; room]);
+        let (one, other) = (self.one.cinda_back(lines, &mut first), self.other.cinda_back(lines, &mut second));
+        same(&format!("cinda_back in {room} bytes"), &one, &other)?;
+        let text = |bytes: &[u8]| String::from_utf8_lossy(bytes).into_owned();
+        if first != second {
+            same(&format!("cinda_back in {room} bytes: the buffer"), &text(&first), &text(&second))?;
+        }
+        self.counts.lines_back.add_lines(&one);
         Ok(())
     }
 

@@ -127,7 +127,6 @@ fn explain_behind(entry: &[u8], refusal: &Refusal, reason: Reason, before: usize
 /// There is none where the refusal names no record of the entry.
 pub fn shown(entry: &[u8], refusal: &Refusal) -> Option<String> {
     let record = entry.get((refusal.record as usize).checked_sub(1)? * RECORD..)?.get(..RECORD)?;
-    let text: String = record[..80].iter().map(|&byte| printable(byte)).collect();
     let width = match refusal.number {
         2 | 3 | 11 => 1,
         5 => 8,
@@ -135,11 +134,15 @@ pub fn shown(entry: &[u8], refusal: &Refusal) -> Option<String> {
         10 => 10,
         _ => 11,
     };
-    let number = refusal.record.to_string();
-    let margin = " ".repeat(number.len());
-    let before = " ".repeat(refusal.column as usize - 1);
-    let text = text.trim_end();
-    Some(format!("  {number} | {text}\n  {margin} | {before}^{}\n", "~".repeat(width - 1)))
+    Some(marked(&record[..80], refusal.record, refusal.column as usize, width))
+}
+
+/// A line with its number, and a mark under so many columns.
+pub(crate) fn marked(line: &[u8], number: u32, column: usize, width: usize) -> String {
+    let text: String = line.iter().map(|&byte| printable(byte)).collect();
+    let margin = " ".repeat(number.to_string().len());
+    let before = " ".repeat(column - 1);
+    format!("  {number} | {}\n  {margin} | {before}^{}\n", text.trim_end(), "~".repeat(width - 1))
 }
 
 /// A byte as one character of a line.
@@ -152,12 +155,24 @@ fn printable(byte: u8) -> char {
 }
 
 /// Bytes between quotation marks.
-fn quoted(bytes: &[u8]) -> String {
+pub(crate) fn quoted(bytes: &[u8]) -> String {
     if !bytes.is_empty() && blank(bytes) {
         return "blanks".into();
     }
     let text: String = bytes.iter().map(|&byte| printable(byte)).collect();
     format!("'{text}'")
+}
+
+/// One byte in words.
+pub(crate) fn named(byte: u8) -> String {
+    match byte {
+        b'\n' => "a line feed".into(),
+        b'\r' => "a carriage return".into(),
+        b'\t' => "a tab".into(),
+        b' ' => "a blank".into(),
+        _ if byte.is_ascii_graphic() => format!("'{}'", char::from(byte)),
+        _ => format!("byte {byte}"),
+    }
 }
 
 /// Identifiers one of which is due.
@@ -171,6 +186,9 @@ fn unused(table: &Table, cell: &Cell) -> String {
     let columns = counted(table.columns, "column", "columns");
     format!("blanks, as the table has {columns} and this would be column {}", cell.column)
 }
+
+/// The characters that are permitted.
+pub(crate) const PERMITTED: &str = "a blank, a letter, a digit or one of + - . ) ( * / = ' , % < > : ; ! ? &";
 
 /// The form of a date.
 const DATE: &str = "3 blanks and a date YYYYMMDD, month 01-12, day 01-31";
@@ -217,7 +235,7 @@ impl<'t, 'a> Case<'t, 'a> {
     fn characters(&self, number: u32) -> (String, String) {
         let expected = match number {
             2 => "a line feed in byte 81",
-            _ => "a blank, a letter, a digit or one of + - . ) ( * / = ' , % < > : ; ! ? &",
+            _ => PERMITTED,
         };
         (expected.into(), self.character())
     }
@@ -228,15 +246,7 @@ impl<'t, 'a> Case<'t, 'a> {
     }
 
     fn character(&self) -> String {
-        let byte = self.record().0[self.column - 1];
-        match byte {
-            b'\n' => "a line feed".into(),
-            b'\r' => "a carriage return".into(),
-            b'\t' => "a tab".into(),
-            b' ' => "a blank".into(),
-            _ if byte.is_ascii_graphic() => format!("'{}'", char::from(byte)),
-            _ => format!("byte {byte}"),
-        }
+        named(self.record().0[self.column - 1])
     }
 
     /// The subentry that the record lies in or opens.
@@ -549,18 +559,23 @@ fn note(seen: &[u8], refusal: &Refusal, before: usize) -> Option<String> {
 /// The first line that is not 80 columns long, with so many before the first. Where the bytes are cut off behind a
 /// record, the last line may go on.
 fn odd_line(bytes: &[u8], cut: bool, before: usize) -> Option<String> {
+    odd_line_of("record", RECORD - 1, bytes, cut, before)
+}
+
+/// The same of lines with another number of columns, and another name.
+pub(crate) fn odd_line_of(name: &str, columns: usize, bytes: &[u8], cut: bool, before: usize) -> Option<String> {
     if bytes.is_empty() {
         return None;
     }
     let lines = bytes.strip_suffix(b"\n").unwrap_or(bytes).split(|&byte| byte == b'\n');
-    let (number, line) = lines.enumerate().find(|(_, line)| line.len() != RECORD - 1)?;
-    let ending = match (line.get(RECORD - 1..), cut) {
-        (Some(b"\r"), true) => "has a carriage return in column 81".into(),
+    let (number, line) = lines.enumerate().find(|(_, line)| line.len() != columns)?;
+    let ending = match (line.get(columns..), cut) {
+        (Some(b"\r"), true) => format!("has a carriage return in column {}", columns + 1),
         (Some(b"\r"), false) => "ends with a carriage return".into(),
-        (Some(_), true) => "has more than 80 columns".into(),
+        (Some(_), true) => format!("has more than {columns} columns"),
         _ => format!("has {}", counted(line.len(), "column", "columns")),
     };
-    Some(format!("line {} {ending}; a record has 80 columns and a line feed", before + number + 1))
+    Some(format!("line {} {ending}; a {name} has {columns} columns and a line feed", before + number + 1))
 }
 
 /// The records below a refused one of an entry or a transmission, which its refusal does not depend on (M-111), if

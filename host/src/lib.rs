@@ -1,14 +1,15 @@
 //! Reads EXFOR entries, from ENTRY to ENDENTRY: judges them and says why, answers questions about their tables and
 //! passages, with an index beside the entry where there are many, goes through a table value by value, reads and writes
 //! number fields, gives values as doubles, and copies entries canonically. A whole transmission, from TRANS to ENDTRANS,
-//! is judged, taken apart into its entries and copied.
+//! is judged, taken apart into its entries and copied. Lines in the CINDA2001 layout are checked, taken apart and written
+//! back.
 //!
-//! "The paper" is document 01, `Build requirements and exact rules`, with eight requests of document 02: M-104, the
+//! "The paper" is document 01, `Build requirements and exact rules`, with nine requests of document 02: M-104, the
 //! count of digits, M-101, headings that may repeat, M-105, a number under FLAG equals a code, M-100, whole
-//! transmissions, M-108, the reason of a refusal, M-102, an index of subentries, M-112, values in order, and M-107, values
-//! as doubles. Its numbers are kept: a refusal here has the number that the paper gives it, records, lines and columns
-//! count from 1, and an accepted entry has the paper's four totals. Programs call [`library`]; [`reference`] is a second
-//! implementation, written from the paper alone, which the tests hold against the first.
+//! transmissions, M-108, the reason of a refusal, M-102, an index of subentries, M-112, values in order, M-107, values as
+//! doubles, and M-113, CINDA lines. Its numbers are kept: a refusal here has the number that the paper gives it, records,
+//! lines and columns count from 1, and an accepted entry has the paper's four totals. Programs call [`library`];
+//! [`reference`] is a second implementation, written from the paper alone, which the tests hold against the first.
 //!
 //! ```
 //! use glockenbeacon::{library, Reason, Value, Verdict, DATA};
@@ -44,6 +45,7 @@
 pub mod answers;
 #[allow(unsafe_code)]
 pub mod boundary;
+pub mod cinda;
 pub mod compare;
 pub mod decimal;
 pub mod differ;

@@ -3,6 +3,7 @@
 
 #[cfg(proved)]
 use crate::boundary as archives_or_reference;
+use crate::cinda::{Line, LinesRefusal, Pieces};
 pub use crate::double::{DoubleRead, Simple};
 pub use crate::index::{Index, Row};
 #[cfg(not(proved))]
@@ -13,7 +14,7 @@ pub use crate::walk::{Placed, Values};
 use crate::{Decimal, Explained, FieldRead, NoAnswer, Part, Value, Verdict};
 
 /// Every call, in the order of this module.
-pub const CALLS: [&str; 25] = [
+pub const CALLS: [&str; 29] = [
     "judge",
     "value",
     "heading",
@@ -39,6 +40,10 @@ pub const CALLS: [&str; 25] = [
     "index_double",
     "read_double",
     "as_double",
+    "cinda_check",
+    "cinda_line",
+    "cinda_pieces",
+    "cinda_back",
 ];
 
 /// The calls that the archives of proved functions answer in this build.
@@ -50,7 +55,7 @@ pub fn proved() -> &'static [&'static str] {
 }
 
 /// The paths of the archives that are linked, if they are.
-pub fn archives() -> Option<[String; 9]> {
+pub fn archives() -> Option<[String; 10]> {
     let folder = option_env!("X4_LINKED").filter(|_| cfg!(proved))?;
     let crates = [
         "exports",
@@ -62,6 +67,7 @@ pub fn archives() -> Option<[String; 9]> {
         "exports_walk",
         "exports_doubles",
         "exports_reals",
+        "exports_cinda",
     ];
     Some(crates.map(|name| format!("{folder}/libx4_{name}.a")))
 }
@@ -333,4 +339,26 @@ pub fn double_calls(calls: DoubleCalls) -> (f64, u64) {
         };
         crate::words::double_calls(answer)
     }
+}
+
+/// Checks lines in the CINDA2001 layout (M-113), up to 20,000 of 126 bytes each: 70 to 77, named with the line and the column.
+pub fn cinda_check(lines: &[u8]) -> Result<(), LinesRefusal> {
+    archives_or_reference::cinda_check(lines)
+}
+
+/// The numbers and characters of a line, counted from 1: 70 to 77, as all lines are checked, then 34. One who asks for every
+/// line hands over one at a time, as [`crate::cinda::Lines`] does.
+pub fn cinda_line(lines: &[u8], line: u32) -> Result<Line, LinesRefusal> {
+    archives_or_reference::cinda_line(lines, line)
+}
+
+/// A line and its five texts, as parts of all lines: refused as [`cinda_line`] is.
+pub fn cinda_pieces(lines: &[u8], line: u32) -> Result<Pieces, LinesRefusal> {
+    archives_or_reference::cinda_pieces(lines, line)
+}
+
+/// Writes lines to the front of a buffer, each energy in its canonical field and every other byte as it was: 70 to 77, then 37.
+/// Refused, it stores nothing.
+pub fn cinda_back(lines: &[u8], buffer: &mut [u8]) -> Result<(), LinesRefusal> {
+    archives_or_reference::cinda_back(lines, buffer)
 }

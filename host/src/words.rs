@@ -11,6 +11,9 @@
 //! | 48-55 | of a double: 0 blank or refused, 1 a double, 2 a decimal outside the simple range |
 //! | 56-63 | of a double: how many digits are written in the field |
 //!
+//! Of a call about lines (M-113) the word has its refusal in bits 0-7, the column in 16-23 and the line in 24-47; all other
+//! bits are 0.
+//!
 //! A value is kind (0 blank, 1 number), whether it is below zero, coefficient, power of ten in two's complement, the
 //! count of digits written, and three zeros; a part is first byte, length and pointer; the totals are subentries,
 //! keywords, lines and numbers; the place of a walk's next value is 1, line and column, or three zeros where none is left.
@@ -25,6 +28,7 @@
 //! | 5 | pointer, 0 | |
 //! | 6 | 0, 0 | the expected characters stand beside them, which are eight blanks else |
 
+use crate::cinda::{Line, LinesRefusal, Mass, Piece, Pieces};
 use crate::walk::Given;
 use crate::{
     Decimal, DoubleRead, Explained, FieldRead, NoAnswer, Part, Reason, Refusal, Simple, Totals, Value, Verdict,
@@ -122,6 +126,88 @@ pub fn explained(word: u64, totals: [u64; 4], facts: [u64; 3], characters: [u8; 
     Explained { verdict: verdict(word, totals), reason: reason(facts, characters) }
 }
 
+/// Answered, or why not, where the call is about lines (M-113).
+pub fn lines_answered(word: u64) -> Result<(), LinesRefusal> {
+    let [number, column, line] = [word & 0xff, word >> 16 & 0xff, word >> 24 & 0xff_ffff].map(|room| room as u32);
+    match number {
+        0 => Ok(()),
+        _ => Err(LinesRefusal { number, line, column }),
+    }
+}
+
+/// The word of such an answer.
+pub fn lines_word(answer: Result<(), LinesRefusal>) -> u64 {
+    match answer {
+        Ok(()) => 0,
+        Err(LinesRefusal { number, line, column }) => {
+            u64::from(number) | u64::from(column) << 16 | u64::from(line) << 24
+        }
+    }
+}
+
+/// What the three arrays of a line say: numbers and characters, the least energy, the greatest.
+pub fn line(numbers: [u64; 14], least: [u64; 8], greatest: [u64; 8]) -> Line {
+    let number = |place: usize| numbers[place] as u32;
+    let byte = |place: usize| numbers[place] as u8;
+    Line {
+        operation: byte(0),
+        z: number(1),
+        mass: if numbers[3] == 1 { Mass::Many } else { Mass::Number(number(2)) },
+        isomer: byte(4),
+        area: byte(5),
+        block: number(6),
+        sequence: number(7),
+        work: byte(8),
+        reader: byte(9),
+        least: value(least),
+        greatest: value(greatest),
+        hierarchy: byte(10),
+        kind: byte(11),
+        year: number(12),
+        month: number(13),
+    }
+}
+
+/// The three arrays of a line, as they are stored.
+pub fn line_stored(line: &Line) -> ([u64; 14], [u64; 8], [u64; 8]) {
+    let (a, many) = match line.mass {
+        Mass::Number(a) => (a, 0),
+        Mass::Many => (0, 1),
+    };
+    let [operation, isomer, area, work] = [line.operation, line.isomer, line.area, line.work].map(u64::from);
+    let [reader, hierarchy, kind] = [line.reader, line.hierarchy, line.kind].map(u64::from);
+    let [z, a, block, sequence] = [line.z, a, line.block, line.sequence].map(u64::from);
+    let [year, month] = [line.year, line.month].map(u64::from);
+    let numbers = [operation, z, a, many, isomer, area, block, sequence, work, reader, hierarchy, kind, year, month];
+    (numbers, value_stored(line.least), value_stored(line.greatest))
+}
+
+/// The array of a value, as it is stored.
+pub fn value_stored(FieldRead { value, digits }: FieldRead) -> [u64; 8] {
+    match value {
+        Value::Blank => [0; 8],
+        Value::Number(Decimal { negative, coefficient, power }) => {
+            [1, negative.into(), coefficient, i64::from(power) as u64, digits.into(), 0, 0, 0]
+        }
+    }
+}
+
+/// What the array of a line's parts says: first byte and length of the line and of its five texts.
+pub fn pieces(places: [u64; 12]) -> Pieces {
+    let piece = |at: usize| Piece { offset: places[2 * at] as usize, length: places[2 * at + 1] as usize };
+    let [whole, reaction, quantity, institute, reference, comment] = [0, 1, 2, 3, 4, 5].map(piece);
+    Pieces { whole, reaction, quantity, institute, reference, comment }
+}
+
+/// The array of a line's parts, as it is stored.
+pub fn pieces_stored(pieces: &Pieces) -> [u64; 12] {
+    let all = pieces.all();
+    std::array::from_fn(|at| match at % 2 {
+        0 => all[at / 2].offset as u64,
+        _ => all[at / 2].length as u64,
+    })
+}
+
 #[cfg(test)]
 mod tests {
     use super::*;
@@ -196,5 +282,46 @@ mod tests {
         assert_eq!((none, word), (0.0, 31 + (17 << 8) + (81 << 16) + (20_001 << 24)));
         assert_eq!((answered(word), double(word, 7.0)), (Err(refused), Err(refused)));
         assert_eq!(double_calls(Err(NoAnswer::numbered(15))), (0.0, 15));
+    }
+
+    /// Of lines: the word, a line's three arrays and its parts, both ways.
+    #[test]
+    fn lines_are_where_the_table_says() {
+        let refusal = LinesRefusal { number: 76, line: 20_000, column: 126 };
+        let word = 76 + (126 << 16) + (20_000 << 24);
+        assert_eq!((lines_answered(word), lines_word(Err(refusal))), (Err(refusal), word));
+        assert_eq!((lines_answered(0), lines_word(Ok(()))), (Ok(()), 0));
+        let number = |negative, coefficient, power, digits| {
+            let value = Value::Number(Decimal { negative, coefficient, power });
+            FieldRead { value, digits }
+        };
+        let one = Line {
+            operation: b'A',
+            z: 92,
+            mass: Mass::Number(235),
+            isomer: b' ',
+            area: b'L',
+            block: 198,
+            sequence: 1,
+            work: b'E',
+            reader: b'R',
+            least: number(true, 25, -3, 2),
+            greatest: FieldRead::BLANK,
+            hierarchy: b'1',
+            kind: b'J',
+            year: 1994,
+            month: 5,
+        };
+        let numbers = [65, 92, 235, 0, 32, 76, 198, 1, 69, 82, 49, 74, 1994, 5];
+        let least = [1, 1, 25, u64::MAX - 2, 2, 0, 0, 0];
+        assert_eq!(line_stored(&one), (numbers, least, [0; 8]));
+        assert_eq!(line(numbers, least, [0; 8]), one);
+        let many = Line { mass: Mass::Many, z: 999, least: number(false, 1, 6, 2), ..one };
+        let numbers = [65, 999, 0, 1, 32, 76, 198, 1, 69, 82, 49, 74, 1994, 5];
+        assert_eq!(line_stored(&many), (numbers, [1, 0, 1, 6, 2, 0, 0, 0], [0; 8]));
+        assert_eq!(line(numbers, [1, 0, 1, 6, 2, 0, 0, 0], [0; 8]), many);
+        let places = [126, 126, 134, 15, 149, 4, 153, 6, 183, 22, 211, 40];
+        assert_eq!(pieces_stored(&pieces(places)), places);
+        assert_eq!(pieces(places).comment, Piece { offset: 211, length: 40 });
     }
 }

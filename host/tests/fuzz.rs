@@ -65,5 +65,9 @@ fn mutated_entries_are_answered() {
     for refusal in [" 0:", " 1:", " 2:", " 3:", " 4:", " 5:", " 7:", " 8:"] {
         assert!(files.contains(refusal), "transmissions of every kind occur: {words}");
     }
+    let lines = words.split("lines by refusal").nth(1).and_then(|rest| rest.split(';').next()).unwrap_or_default();
+    for refusal in [" 0:", " 34:", " 37:", " 70:", " 71:", " 72:", " 73:", " 74:", " 75:", " 76:", " 77:"] {
+        assert!(lines.contains(refusal), "every answer about lines occurs: {words}");
+    }
     say(words.trim_end());
 }

@@ -787,3 +787,211 @@ fn help_and_wrong_arguments() {
         assert!(output.status.code() == Some(2) && complained(&output).starts_with("x4: "), "{wrong:?}");
     }
 }
+
+/// The sample of lines, with these changes: line, column, text.
+fn lines(changes: &[(usize, usize, &str)]) -> Vec<u8> {
+    let mut lines = include_bytes!("../data/sample.cinda").to_vec();
+    for (line, column, text) in changes {
+        let first = 126 * (line - 1) + column - 1;
+        lines[first..first + text.len()].copy_from_slice(text.as_bytes());
+    }
+    lines
+}
+
+#[test]
+fn lines_are_judged() {
+    let output = run(&["cinda", "judge"], &lines(&[]));
+    assert_eq!((printed(&output).as_str(), output.status.code()), ("0 0 0 5\ngood: 5 lines\n", Some(0)));
+    assert_eq!(printed(&run(&["cinda", "judge", "-"], &lines(&[])[..126])), "0 0 0 1\ngood: 1 line\n");
+    let output = run(&["cinda", "judge"], &lines(&[(2, 42, "    NDG")]));
+    let words = "\
+76 2 42 0
+refusal 76, line 2, column 42: the energy is neither a number nor blank
+  2 | A 92238 N,G            CS  USALASL001 2ER    NDG 1.40E71JNSE,20,1              196411Other. GRPH
+    |                                          ^~~~~~~
+  expected: the least energy: blanks, or a number: blanks, a sign or none, digits with one point; then blanks, or an \
+exponent that ends the field: a sign and digits, or E and digits
+  found:    '    NDG'
+  note:     the manual's codes for an energy are not taken here
+";
+    assert_eq!((printed(&output).as_str(), output.status.code()), (words, Some(1)));
+    let json = "{\"file\":\"-\",\"accepted\":true,\"refusal\":0,\"line\":0,\"column\":0,\"lines\":5}\n";
+    assert_eq!(printed(&run(&["cinda", "judge", "--json"], &lines(&[]))), json);
+    let json = "{\"file\":\"-\",\"accepted\":false,\"refusal\":73,\"line\":3,\"column\":1,\"lines\":0,\"meaning\":\"the \
+                operation is not A, D or M\",\"expected\":\"the operation: A, D or M\",\"found\":\"'B'\",\"note\":null}\n";
+    assert_eq!(printed(&run(&["cinda", "judge", "--json"], &lines(&[(3, 1, "B")]))), json);
+    let (good, bad) = (file("good.cinda", &lines(&[])), file("bad.cinda", &lines(&[(5, 80, "198113")])));
+    let output = run(&["cinda", "judge", &good, &bad], b"");
+    let words = format!("{good}: 0 0 0 5\n{bad}: 77 5 80 0, the reference date is not YYYYMM, month 01-12\n");
+    assert_eq!((printed(&output), output.status.code()), (words, Some(1)));
+    let output = run(&["cinda", "judge", &good, "no such file"], b"");
+    assert!(output.status.code() == Some(2) && complained(&output).starts_with("x4: no such file: "));
+}
+
+/// Each refusal of lines: what was expected, what was found, and what is noted.
+#[test]
+fn every_refusal_of_lines_is_explained() {
+    let length = "1 to 20,000 lines of 126 bytes each, 125 columns and a line feed";
+    let line = lines(&[])[..126].to_vec();
+    let permitted = "a blank, a letter, a digit or one of + - . ) ( * / = ' , % < > : ; ! ? &";
+    let z = "Z of the target: blanks, then digits up to column 4";
+    let a = "A of the target: blanks, then digits up to column 7; or MNY";
+    let block = "the block: a capital or digit, then a number: blanks, then digits up to column 37";
+    let date = "the reference date: YYYYMM, month 01-12";
+    let left_out = "the manual's reader files may leave this out; here it is required";
+    let no_date = "the manual may leave out the date or its month; here both are required";
+    let cases: Vec<(Vec<u8>, &str, &str, &str)> = vec![
+        (Vec::new(), length, "no bytes", ""),
+        (line.repeat(20_001), length, "2520126 bytes: 20001 lines", ""),
+        (line[..125].to_vec(), length, "125 bytes: 0 lines and 125 bytes", "the last line has no line feed"),
+        (lines(&[])[..251].to_vec(), length, "251 bytes: 1 line and 125 bytes", "the last line has no line feed"),
+        (
+            [&line[..], b"A 92235\n"].concat(),
+            length,
+            "134 bytes: 1 line and 8 bytes",
+            "line 2 has 7 columns; a line has 125 columns and a line feed",
+        ),
+        (
+            [&line[..125], b"\r\n"].concat(),
+            length,
+            "127 bytes: 1 line and 1 byte",
+            "line 1 ends with a carriage return; a line has 125 columns and a line feed",
+        ),
+        (
+            b"CINDA EXCHANGE\n".to_vec(),
+            length,
+            "15 bytes: 0 lines and 15 bytes",
+            "the header record of an exchange file is no line",
+        ),
+        (
+            lines(&[(3, 126, "\r")]),
+            "a line feed in byte 126",
+            "a carriage return",
+            "line 3 has a carriage return in column 126; a line has 125 columns and a line feed",
+        ),
+        (lines(&[(3, 100, "#")]), permitted, "'#'", ""),
+        (
+            lines(&[(2, 7, "\n")]),
+            permitted,
+            "a line feed",
+            "line 2 has 6 columns; a line has 125 columns and a line feed",
+        ),
+        (lines(&[(3, 1, "B")]), "the operation: A, D or M", "'B'", ""),
+        (lines(&[(1, 2, "92 ")]), z, "'92 '", ""),
+        (lines(&[(1, 2, "   ")]), z, "blanks", "a blank is no integer; A of a natural element is 0"),
+        (lines(&[(4, 2, " 99")]), "Z of the target: 999, as columns 5-7 hold MNY", "' 99'", ""),
+        (lines(&[(1, 5, "   ")]), a, "blanks", "a blank is no integer; A of a natural element is 0"),
+        (
+            lines(&[(1, 5, "H2O")]),
+            a,
+            "'H2O'",
+            "the manual's codes of compounds and of fission products are not taken here",
+        ),
+        (lines(&[(1, 8, "M")]), "the isomeric state: a blank or a digit", "'M'", ""),
+        (lines(&[(1, 34, "l198")]), block, "'l198'", ""),
+        (lines(&[(1, 34, "    ")]), block, "blanks", left_out),
+        (lines(&[(1, 38, "1 ")]), "the sequence: blanks, then digits up to column 39", "'1 '", ""),
+        (lines(&[(1, 38, "  ")]), "the sequence: blanks, then digits up to column 39", "blanks", left_out),
+        (lines(&[(5, 80, "198113")]), date, "'198113'", ""),
+        (lines(&[(5, 80, "1981  ")]), date, "'1981  '", no_date),
+        (lines(&[(5, 80, "      ")]), date, "blanks", no_date),
+    ];
+    for (lines, expected, found, note) in cases {
+        let output = run(&["cinda", "judge"], &lines);
+        let words = printed(&output);
+        let note = if note.is_empty() { String::new() } else { format!("  note:     {note}\n") };
+        let due = format!("  expected: {expected}\n  found:    {found}\n{note}");
+        assert!(words.ends_with(&due) && output.status.code() == Some(1), "{words}\n{due}");
+    }
+    let bare = printed(&run(&["cinda", "judge"], &lines(&[(2, 49, "     +6")])));
+    assert!(
+        bare.ends_with("note:     the manual's exponent alone is not taken here; a number has a point\n"),
+        "{bare}"
+    );
+}
+
+#[test]
+fn lines_are_printed_as_a_table() {
+    let csv = "\
+line,operation,z,a,isomer,reaction,quantity,institute,area,block,sequence,work,reader,least,greatest,hierarchy,type,\
+reference,year,month,comment
+1,A,92,235,,\"N,F\",CS,USAORL,L,198,1,E,,1000000,14,2,J,\"PR/C,49,2549\",1994,5,Name+ TBL
+2,A,92,238,,\"N,G\",CS,USALAS,L,1,2,E,R,0.025,14000000,1,J,\"NSE,20,1\",1964,11,Other. GRPH
+3,M,26,0,,\"P,X+N\",DAE,GERKFK,3,7,12,T,,,14000000,3,R,KFK-1000,1970,12,\"NDG, SEE TEXT\"
+4,D,999,MNY,,\"N,TOT\",EVL,AUSIIA,V,123,99,R,A,1000,1E100,5,C,\"70HELSINK,1,23\",1970,6,\"Systematics, 'many nuclei' \
+(A>100)\"
+5,A,95,242,1,\"N,F\",NU,UK HAR,2,9,1,E,,0,,6,4,EXFOR20999.002,1981,1, 27 PTS.
+";
+    let output = run(&["cinda", "table"], &lines(&[]));
+    assert_eq!((printed(&output).as_str(), output.status.code()), (csv, Some(0)));
+    let both = printed(&run(&["cinda", "table", "--digits", "--doubles"], &lines(&[])));
+    assert!(both.contains(",least,least digits,greatest,greatest digits,hierarchy,"), "{both}");
+    assert!(both.contains(",E,R,0.025,2,1.4e7,3,1,J,") && both.contains(",R,A,1e3,4,1E100,1,5,C,"), "{both}");
+    assert!(both.contains(",T,,,0,1.4e7,2,3,R,"), "a blank has no digits: {both}");
+    let json = printed(&run(&["cinda", "table", "--json"], &lines(&[])));
+    assert!(json.starts_with("[{\"line\":1,\"operation\":\"A\",\"z\":92,\"a\":235,\"isomer\":\"\","), "{json}");
+    assert!(
+        json.contains("\"least\":null,\"greatest\":\"14000000\"") && json.contains("\"z\":999,\"a\":\"MNY\""),
+        "{json}"
+    );
+    let json = printed(&run(&["cinda", "table", "--json", "--doubles", "--digits"], &lines(&[])));
+    assert!(
+        json.contains("\"least\":{\"value\":1e3,\"digits\":4},\"greatest\":{\"value\":\"1E100\",\"digits\":1}"),
+        "{json}"
+    );
+    let refused = run(&["cinda", "table"], &lines(&[(2, 1, "B")]));
+    assert_eq!((printed(&refused).as_str(), refused.status.code()), ("", Some(1)));
+    assert!(complained(&refused).starts_with("x4: standard input: refusal 73, line 2, column 1: "));
+}
+
+#[test]
+fn lines_are_copied() {
+    let changes = [
+        (1, 42, "   1.+6"),
+        (2, 42, "   .025  14.+6"),
+        (3, 49, "  14.+6"),
+        (4, 42, "   1.+3 10.+99"),
+        (5, 42, "     0."),
+    ];
+    let due = lines(&changes);
+    let output = run(&["cinda", "copy"], &lines(&[]));
+    assert_eq!((output.stdout == due, output.status.code()), (true, Some(0)));
+    assert_eq!(run(&["cinda", "copy"], &due).stdout, due, "its own copy");
+    let (from, to) = (file("from.cinda", &lines(&[])), file("to.cinda", b"as it was"));
+    let kept = run(&["cinda", "copy", "-o", &to, &from], b"");
+    assert!(kept.status.code() == Some(2) && complained(&kept).contains("(--force writes over it)"));
+    assert_eq!(std::fs::read(&to).unwrap(), b"as it was");
+    std::fs::remove_file(&to).unwrap();
+    assert_eq!(run(&["cinda", "copy", &from, "-o", &to], b"").status.code(), Some(0));
+    assert!(std::fs::read(&to).unwrap() == due);
+    std::fs::write(&to, [&due[..], b"more"].concat()).unwrap();
+    assert_eq!(run(&["cinda", "copy", "-o", &to, "--force", &from], b"").status.code(), Some(0));
+    assert!(std::fs::read(&to).unwrap() == due);
+    // onto itself
+    assert_eq!(run(&["cinda", "copy", "--force", "-o", &from, &from], b"").status.code(), Some(0));
+    assert!(std::fs::read(&from).unwrap() == due);
+    // refused, no file is made
+    let none = file("none.cinda", b"");
+    std::fs::remove_file(&none).unwrap();
+    let refused = run(&["cinda", "copy", "-o", &none], &lines(&[(1, 126, "\r")]));
+    assert!(refused.status.code() == Some(1) && !std::path::Path::new(&none).exists());
+    for wrong in [
+        &["cinda"][..],
+        &["cinda", "jugde"],
+        &["cinda", "judge", "--digits"],
+        &["cinda", "table", "--force"],
+        &["cinda", "copy", "-o"],
+        &["cinda", "copy", "--force"],
+        &["cinda", "copy", "a", "b"],
+        &["cinda", "table", "a", "b"],
+    ] {
+        let output = run(wrong, &lines(&[]));
+        assert!(output.status.code() == Some(2) && complained(&output).starts_with("x4: "), "{wrong:?}");
+    }
+    for page in [&["help", "cinda"][..], &["cinda", "--help"], &["cinda", "judge", "--help"]] {
+        assert!(printed(&run(page, b"")).starts_with("x4 cinda judge [--json] [FILE..]\n"), "{page:?}");
+    }
+    assert!(
+        printed(&run(&["help"], b"")).contains("\n  x4 cinda judge|table|copy ..     lines in the CINDA2001 layout")
+    );
+}

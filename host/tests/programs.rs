@@ -2,6 +2,7 @@
 //! compared with the proved functions at every check of the crates, and here with an implementation that shares nothing
 //! with these.
 
+use glockenbeacon::cinda::{Line, LinesRefusal, Mass, Piece};
 use glockenbeacon::{reference, Decimal, DoubleRead, FieldRead, NoAnswer, Part, Simple, Value, RECORD};
 use std::fmt::Write;
 use std::path::Path;
@@ -392,4 +393,69 @@ fn an_entry_is_explained_as_stored() {
     assert!(entry.len() <= 809 * RECORD);
     let (numbers, line) = case_explained(b'!', &entry);
     same_lines("why", format!("{}\n{}", numbers.trim_start(), below(line)).as_bytes());
+}
+
+/// The three numbers of an answer about lines.
+fn place<T>(answer: &Result<T, LinesRefusal>) -> String {
+    let [number, line, column] = answer.as_ref().err().map_or([0; 3], LinesRefusal::numbers);
+    format!("{number} {line} {column}")
+}
+
+/// An energy and its digits; a blank has none.
+fn energy(read: FieldRead) -> String {
+    match read.value {
+        Value::Blank => " blank 0".to_string(),
+        Value::Number(value) => format!(" number {} {}", decimal(value, " "), read.digits),
+    }
+}
+
+/// A line taken apart; a refused one is blanks and zeros.
+fn apart(line: &Result<Line, LinesRefusal>) -> String {
+    let Ok(line) = line else { return format!(" [{:7}] 0 0 0 0 0 mass 0 blank 0 blank 0", "") };
+    let characters = [line.operation, line.isomer, line.area, line.work, line.reader, line.hierarchy, line.kind];
+    let mass = match line.mass {
+        Mass::Number(mass) => format!("mass {mass}"),
+        Mass::Many => "many".to_string(),
+    };
+    let numbers = format!("{} {} {} {} {}", line.z, line.block, line.sequence, line.year, line.month);
+    format!(
+        " [{}] {numbers} {mass}{}{}",
+        characters.map(char::from).iter().collect::<String>(),
+        energy(line.least),
+        energy(line.greatest)
+    )
+}
+
+/// A case is a title, so many bytes of lines, and a line feed.
+#[test]
+fn lines_are_answered_as_stored() {
+    let (input, mut said) = (stored("cinda_cases", "stdin"), Vec::new());
+    let mut rest = &input[..];
+    while let Some(end) = rest.iter().position(|&byte| byte == b'\n') {
+        let (title, behind) = (&rest[..end], &rest[end + 1..]);
+        let number =
+            |from: usize, past: usize| String::from_utf8_lossy(&title[from..past]).parse::<usize>().expect("a number");
+        let length = if title[0] == b'#' { 0 } else { number(0, 4) };
+        let lines = &behind[..length];
+        rest = &behind[length + 1..];
+        if title[0] == b'#' {
+            continue;
+        }
+        let n = number(5, 14) as u32;
+        let (line, pieces) = (reference::cinda_line(lines, n), reference::cinda_pieces(lines, n));
+        let nth = b"wrqict".iter().position(|&letter| letter == title[20]).expect("a part");
+        let piece = pieces.map_or(Piece { offset: 0, length: 0 }, |pieces| pieces.all()[nth]);
+        let mut buffer = vec![b'~'; number(15, 19)];
+        let back = reference::cinda_back(lines, &mut buffer);
+        said.extend(title);
+        said.extend(
+            format!("\ncheck {}\nline {}{}", place(&reference::cinda_check(lines)), place(&line), apart(&line)).bytes(),
+        );
+        said.extend(format!("\npart {} {} {} [", place(&pieces), piece.offset, piece.length).bytes());
+        said.extend(piece.of(lines));
+        said.extend(format!("]\nback {} [", place(&back)).bytes());
+        said.extend(&buffer);
+        said.extend(b"]\n");
+    }
+    same_lines("cinda_cases", &said);
 }

@@ -13,8 +13,9 @@ fn writing_takes_little_stack() {
 #[cfg(all(proved, any(target_arch = "x86_64", target_arch = "aarch64")))]
 mod measured {
     use crate::common::{sample, say, transmission, wide};
+    use glockenbeacon::cinda::LinesRefusal;
     use glockenbeacon::generate::{self, Random};
-    use glockenbeacon::{reference, Decimal, FieldRead, NoAnswer, Value};
+    use glockenbeacon::{reference, words, Decimal, FieldRead, NoAnswer, Value};
     use std::arch::asm;
     use std::collections::BTreeSet;
 
@@ -49,6 +50,10 @@ mod measured {
         fn x4_read_double();
         fn x4_as_double();
         fn x4_as_double_kind();
+        fn x4_cinda_check();
+        fn x4_cinda_line();
+        fn x4_cinda_pieces();
+        fn x4_cinda_back();
     }
 
     type Function = unsafe extern "C" fn();
@@ -458,6 +463,48 @@ mod measured {
             assert!(due.iter().all(|told| said.contains(told)), "{said:?}, and {due:?} are due");
         }
         [full, by_index, read, hand, hand_kind].iter().for_each(Measured::say);
+    }
+
+    /// The four calls about lines: good and damaged ones, at the limits and generated. Each answer is the reference's.
+    #[test]
+    fn lines_are_measured() {
+        let mut check = Measured::new("x4_cinda_check", x4_cinda_check);
+        let mut apart = Measured::new("x4_cinda_line", x4_cinda_line);
+        let mut pieces = Measured::new("x4_cinda_pieces", x4_cinda_pieces);
+        let mut back = Measured::new("x4_cinda_back", x4_cinda_back);
+        let (mut numbers, mut least, mut greatest, mut places) = ([0u64; 14], [0u64; 8], [0u64; 8], [0u64; 12]);
+        let mut said = vec![BTreeSet::new(); 4];
+        let mut note = |call: usize, word: u64, due: Result<(), LinesRefusal>| {
+            assert_eq!(word, words::lines_word(due));
+            said[call].insert(word & 0xff);
+        };
+        let generated = (0..300).map(|seed| generate::cinda_input(&mut Random::seeded(seed)));
+        let some = [Vec::new(), include_bytes!("../data/sample.cinda").to_vec()];
+        for lines in some.into_iter().chain(generated) {
+            let [first, length] = bytes(&lines);
+            note(0, check.call([first, length]), reference::cinda_check(&lines));
+            for line in [0, 1, 2, lines.len() as u32 / 126] {
+                let lent = [lent(&mut numbers), lent(&mut least), lent(&mut greatest), lent(&mut places)];
+                let word = apart.call([first, length, line.into(), lent[0], lent[1], lent[2]]);
+                note(1, word, reference::cinda_line(&lines, line).map(drop));
+                let word = pieces.call([first, length, line.into(), lent[3]]);
+                note(2, word, reference::cinda_pieces(&lines, line).map(drop));
+            }
+            for room in [lines.len(), lines.len().saturating_sub(1)] {
+                let mut buffer = vec![b'#'; room];
+                let due = reference::cinda_back(&lines, &mut buffer.clone());
+                note(3, back.call([first, length, lent(&mut buffer), room as u64]), due);
+            }
+        }
+        let faults = || (70..=77).chain([0]);
+        let due: [BTreeSet<u64>; 4] = [
+            faults().collect(),
+            faults().chain([34]).collect(),
+            faults().chain([34]).collect(),
+            faults().chain([37]).collect(),
+        ];
+        assert_eq!(said, due);
+        [check, apart, pieces, back].iter().for_each(Measured::say);
     }
 
     /// What stands in the place of a double before, which none of these values is.

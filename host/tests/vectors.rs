@@ -1,11 +1,13 @@
-//! Verdicts, reasons, answers, indexes, walks, doubles, copies, entries of transmissions and counts of digits that others worked
-//! out from the papers, where their tables are beside the project: in `../shared/vectors/02`. The library and the reference are
+//! Verdicts, reasons, answers, indexes, walks, doubles, copies, entries of transmissions, counts of digits and CINDA lines that
+//! others worked out from the papers, where their tables are beside the project: in `../shared/vectors/02`. The library and the reference are
 //! held against them.
 
 mod common;
 
 use common::{copied, say, sha256, BOTH};
+use glockenbeacon::cinda::{Line, LinesRefusal, Mass, Pieces, LINE};
 use glockenbeacon::differ::Implementation;
+use glockenbeacon::json;
 use glockenbeacon::library::DoubleCalls;
 use glockenbeacon::{
     library, reference, words, Decimal, DoubleRead, Explained, FieldRead, NoAnswer, Part, Simple, Value,
@@ -613,4 +615,155 @@ fn doubles_that_others_answered() {
 fn questions_that_others_answered() {
     same_answers("r101", |file| !flagged("r101", file));
     same_answers("r105", |_| true);
+}
+
+/// The three numbers of an answer about lines, as a table has them.
+fn lines_told<T>(answer: &Result<T, LinesRefusal>) -> [String; 3] {
+    answer.as_ref().err().map_or([0; 3], |refusal| refusal.numbers()).map(|number| number.to_string())
+}
+
+/// The lines of the request's page: their verdicts, and the copies of the good ones.
+#[test]
+fn lines_written_by_hand() {
+    let Some(rows) = table("codes/cinda.tsv") else { return };
+    let mut good = 0;
+    for row in &rows {
+        let line = bytes(&row[0]);
+        for by in BOTH {
+            let mut copy = vec![b'#'; LINE];
+            let answer = by.cinda_back(&line, &mut copy);
+            assert_eq!(
+                (lines_told(&answer), lines_told(&by.cinda_check(&line))),
+                (row[1..4].to_vec().try_into().unwrap(), lines_told(&answer)),
+                "{row:?}"
+            );
+            let due = if answer.is_ok() { bytes(&row[4]) } else { vec![b'#'; LINE] };
+            assert_eq!(copy, due, "{row:?}");
+        }
+        good += usize::from(row[1] == "0");
+    }
+    say(&format!("codes/cinda.tsv: {} lines, {good} of them good", rows.len()));
+}
+
+/// A file of lines, read once for all rows about it.
+fn each_file(rows: &[Vec<String>], each: impl Fn(&[u8], &[String])) {
+    for group in rows.chunk_by(|one, next| one[0] == next[0]) {
+        let lines = entry("codes/cinda", &group[0][0]);
+        group.iter().for_each(|row| each(&lines, row));
+    }
+}
+
+#[test]
+fn lines_that_others_judged() {
+    let Some(rows) = table("codes/cinda/judge.tsv") else { return };
+    each_file(&rows, |lines, row| {
+        BOTH.iter().for_each(|by| assert_eq!(lines_told(&by.cinda_check(lines)), row[1..4], "{row:?}"))
+    });
+    let counts = by_number(&rows, 1, &["0", "70", "71", "72", "73", "74", "75", "76", "77"]);
+    say(&format!("codes/cinda/judge.tsv: {} files, by number{counts}", rows.len()));
+}
+
+/// A line as the table has it: its fields as an object, energies as sign, coefficient and power, or none.
+fn line_object(lines: &[u8], line: &Line, pieces: &Pieces) -> String {
+    let letter = |byte: u8| json::text(&char::from(byte).to_string());
+    let number = |number: u32| number.to_string();
+    let part = |piece: glockenbeacon::cinda::Piece| json::text(&String::from_utf8_lossy(piece.of(lines)));
+    let energy = |read: FieldRead| match read.value {
+        Value::Blank => "null".to_string(),
+        Value::Number(Decimal { negative, coefficient, power }) => {
+            format!("[{},{coefficient},{power}]", u32::from(negative))
+        }
+    };
+    let mass = match line.mass {
+        Mass::Number(a) => a.to_string(),
+        Mass::Many => "null".into(),
+    };
+    json::object(&[
+        ("operation", letter(line.operation)),
+        ("z", number(line.z)),
+        ("mass", mass),
+        ("isomer", letter(line.isomer)),
+        ("reaction", part(pieces.reaction)),
+        ("quantity", part(pieces.quantity)),
+        ("institute", part(pieces.institute)),
+        ("area", letter(line.area)),
+        ("block", number(line.block)),
+        ("sequence", number(line.sequence)),
+        ("work", letter(line.work)),
+        ("reader", letter(line.reader)),
+        ("least", energy(line.least)),
+        ("greatest", energy(line.greatest)),
+        ("hierarchy", letter(line.hierarchy)),
+        ("kind", letter(line.kind)),
+        ("reference", part(pieces.reference)),
+        ("year", number(line.year)),
+        ("month", number(line.month)),
+        ("comment", part(pieces.comment)),
+    ])
+}
+
+#[test]
+fn lines_that_others_took_apart() {
+    let Some(rows) = table("codes/cinda/lines.tsv") else { return };
+    each_file(&rows, |lines, row| {
+        let asked = row[1].parse().expect("a number");
+        for by in BOTH {
+            let (line, pieces) = (by.cinda_line(lines, asked), by.cinda_pieces(lines, asked));
+            assert_eq!(lines_told(&line), row[2..5], "{row:?}");
+            assert_eq!(lines_told(&pieces), row[2..5], "{row:?}");
+            if let (Ok(line), Ok(pieces)) = (line, pieces) {
+                assert_eq!(line_object(lines, &line, &pieces), row[5], "{row:?}");
+                assert_eq!((pieces.whole.offset, pieces.whole.length), (LINE * (asked as usize - 1), LINE));
+            }
+        }
+    });
+    let counts = by_number(&rows, 2, &["0", "34", "70", "71", "72", "73", "74", "75", "76", "77"]);
+    say(&format!("codes/cinda/lines.tsv: {} questions, by number{counts}", rows.len()));
+}
+
+/// Copies in buffers of some lengths, all bytes of which have a hash.
+#[test]
+fn lines_that_others_wrote_back() {
+    let Some(rows) = table("codes/cinda/copies.tsv") else { return };
+    each_file(&rows, |lines, row| {
+        let room: usize = row[1].parse().expect("a number");
+        let made = BOTH.map(|by| {
+            let mut out = vec![b'#'; room];
+            assert_eq!(lines_told(&by.cinda_back(lines, &mut out)), row[2..5], "{row:?}");
+            out
+        });
+        assert!(made[0] == made[1], "{row:?}");
+        assert_eq!(sha256(&made[0]), row[5], "{row:?}");
+    });
+    let counts = by_number(&rows, 2, &["0", "37", "70", "71", "72", "73", "74", "75", "76", "77"]);
+    say(&format!("codes/cinda/copies.tsv: {} copies, by number{counts}", rows.len()));
+}
+
+/// Energy fields: what each says, and its canonical field; a malformed one is its own row's bytes.
+#[test]
+fn energies_that_others_read() {
+    let Some(rows) = table("codes/cinda/fields.tsv") else { return };
+    let made = bytes(&table("codes/cinda.tsv").expect("the lines beside it")[0][0]);
+    for row in &rows {
+        let field = bytes(&row[0]);
+        for (first, by) in [41, 48].into_iter().flat_map(|first| BOTH.map(|by| (first, by))) {
+            let mut line = made.clone();
+            line[first..first + 7].copy_from_slice(&field);
+            let mut copy = vec![b'#'; LINE];
+            let (taken, copied) = (by.cinda_line(&line, 1), by.cinda_back(&line, &mut copy));
+            if row[1] == "76" {
+                assert!(taken.is_err() && copied.is_err(), "{row:?}");
+                let due = match field.iter().position(|byte| !reference::record::permitted(*byte)) {
+                    Some(column) => [72, 1, first + column + 1],
+                    None => [76, 1, first + 1],
+                };
+                assert_eq!(lines_told(&taken), due.map(|number| number.to_string()), "{row:?}");
+                continue;
+            }
+            let read = taken.map(|line| if first == 41 { line.least } else { line.greatest }).expect("a good line");
+            assert_eq!(told(Ok(read))[..4], row[1..5], "{row:?}");
+            assert_eq!(copy[first..first + 7], bytes(&row[5]), "{row:?}");
+        }
+    }
+    say(&format!("codes/cinda/fields.tsv: {} fields{}", rows.len(), by_number(&rows, 1, &["blank", "number", "76"])));
 }

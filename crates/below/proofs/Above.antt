@@ -11,8 +11,8 @@ use lib.Seq.{length-take-le}
 use Rattle.laws.specs.Blocks.{blockAt}
 use Rattle.laws.proofs.Search.{either}
 use Rattle.paper_rules.specs.Limits.{MOST-RECORDS}
-use Rattle.paper_rules.proofs.EitherWay.{no}
-use Rattle.paper_rules.proofs.FaultSaid.{some-found}
+use Rattle.laws.proofs.EitherWay.{no}
+use Rattle.paper_faults.proofs.FaultSaid.{some-found}
 use Rattle.paper_entry.specs.declared.types.Verdict.{Verdict}
 use Rattle.paper_entry.specs.Verdict.{refused, isDone, lengthGood}
 use Rattle.paper_entry.specs.Judging.{judgeOf}

@@ -14,8 +14,8 @@ use Rattle.laws.specs.Blocks.{blockAt}
 use Rattle.laws.proofs.Booleans.{and-left}
 use Rattle.paper_rules.specs.State.{Context}
 use Rattle.paper_rules.specs.Limits.{MOST-RECORDS}
-use Rattle.paper_rules.specs.Fault.{Finding}
-use Rattle.paper_rules.specs.Order.{Nothing}
+use Rattle.paper_faults.specs.Fault.{Finding}
+use Rattle.paper_faults.specs.Least.{Nothing}
 use Rattle.paper_entry.specs.Verdict.{lengthGood}
 use Rattle.paper_entry.specs.Contexts.{behind, contextAt}
 use Rattle.entry_walk.specs.First.{foundIn, NothingBefore}

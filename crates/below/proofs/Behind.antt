@@ -14,19 +14,20 @@ use Rattle.paper_record.specs.Columns.{hasLineFeed}
 use Rattle.paper_record.specs.Fields.{fieldsOf}
 use Rattle.paper_record.specs.Class.{isPermitted, notPermitted}
 use Rattle.paper_record.specs.Identifier.{identifierOf}
-use Rattle.paper_rules.specs.declared.types.Fault.the-variants.{At}
-use Rattle.paper_rules.specs.Fault.{leftmost, Finding, finding, firstFault}
+use Rattle.paper_faults.specs.declared.types.Fault.the-variants.{At}
+use Rattle.paper_faults.specs.Fault.{leftmost, Finding, finding, firstFault}
 use Rattle.paper_rules.specs.Roles.{NOT-DUE}
-use Rattle.paper_rules.proofs.Leftmost.{leftmost-where}
+use Rattle.paper_faults.proofs.Leftmost.{leftmost-where}
 use Rattle.paper_rules.specs.declared.types.Phase.{Phase}
 use Rattle.paper_rules.specs.declared.types.Phase.the-variants.{Start, Opened, InSubentry, InBib, AfterBib, InCommon}
 use Rattle.paper_rules.specs.declared.types.Phase.the-variants.{AfterCommon, InData, AfterData, Between, Done}
 use Rattle.paper_rules.specs.declared.types.Track.{Track}
 use Rattle.paper_rules.specs.State.{Context}
 use Rattle.paper_rules.specs.Role.{roleIn}
-use Rattle.paper_rules.proofs.EitherWay.{no}
+use Rattle.laws.proofs.EitherWay.{no}
 use Rattle.paper_rules.specs.Every.{rule2, rule3, rule4}
-use Rattle.paper_rules.specs.Order.{faultOf, Least, Nothing}
+use Rattle.paper_rules.specs.Order.{faultOf}
+use Rattle.paper_faults.specs.Least.{Least, Nothing}
 use Rattle.paper_rules.proofs.Least.{fault-least}
 use Rattle.paper_entry.specs.Verdict.{isDone}
 use Rattle.paper_entry.specs.Judging.{roleOf}

@@ -12,8 +12,8 @@ use lib.ListN.{length, getD, replicate}
 use Rattle.laws.specs.Blocks.{blockAt}
 use Rattle.laws.proofs.Table.{at}
 use Rattle.paper_rules.specs.State.{Context}
-use Rattle.paper_rules.specs.Fault.{Finding}
-use Rattle.paper_rules.specs.Order.{noFinding, Least}
+use Rattle.paper_faults.specs.Fault.{Finding}
+use Rattle.paper_faults.specs.Least.{noFinding, Least}
 use Rattle.paper_entry.specs.declared.types.Verdict.{Verdict}
 use Rattle.paper_entry.specs.Verdict.{refused}
 use Rattle.paper_entry.specs.Judging.{judgeOf}

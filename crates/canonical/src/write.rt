@@ -10,7 +10,7 @@ use canonical_store::store::put_field;
 use paper_canonical::types::Written;
 
 // The canonical field of a value in a buffer of at most 19 columns.
-fn write_columns(negative: bool, coefficient: u64, power: i32, out: &mut [u8]) -> Written
+pub fn write_columns(negative: bool, coefficient: u64, power: i32, out: &mut [u8]) -> Written
     requires { ⌜ length (now out) ≤ 19 ⌝ }
     ensures { λ r. ⌜ r ≡ answered (now (out .entry)) (valueOf negative coefficient power) ⌝ }
     ensures { λ r. ⌜ now (out .exit) ≡ storedField (now (out .entry)) (valueOf negative coefficient power) ⌝ }

@@ -1,6 +1,8 @@
-// The class of each byte, and the first column of a record that is not permitted.
+// The class of each byte, and the first column that is not permitted.
 ghost use mathlib.Core.Path.{_≡_};
-ghost use Rattle.paper_record.specs.Class.{classOf, classTable, ClassesLent, permittedTo};
+ghost use Prim.Native.Nat.{_≤_};
+ghost use lib.ListN.{length};
+ghost use Rattle.paper_record.specs.Class.{classOf, classTable, ClassesLent, permittedIn, permittedTo};
 ghost use Rattle.paper_record.specs.Columns.{Whole};
 
 // 0 not permitted, 1 blank, 2 digit, 3 capital, 4 small, 5 special; beside each the byte.
@@ -278,18 +280,27 @@ pub fn class_of(t: &[u8; 256], b: u8) -> u8
     t[b as usize]
 }
 
+// How many of the first `w` columns of a part stand before the first that is not permitted, or `w`.
+pub fn permitted_in(t: &[u8; 256], part: &[u8], w: usize) -> usize
+    requires { ⌜ ClassesLent (now t) ⌝ }
+    requires { ⌜ w ≤ length (now part) ⌝ }
+    ensures { λ r. ⌜ r ≡ permittedIn w (now (part .entry)) ⌝ }
+{
+    let mut i = 0;
+    while i < w {
+        if class_of(t, part[i]) == 0 {
+            return i;
+        }
+        i += 1;
+    }
+    w
+}
+
 // How many columns of a record stand before the first that is not permitted, or 80.
 pub fn permitted_to(t: &[u8; 256], rec: &[u8]) -> usize
     requires { ⌜ ClassesLent (now t) ⌝ }
     requires { ⌜ Whole (now rec) ⌝ }
     ensures { λ r. ⌜ r ≡ permittedTo (now (rec .entry)) ⌝ }
 {
-    let mut i = 0;
-    while i < 80 {
-        if class_of(t, rec[i]) == 0 {
-            return i;
-        }
-        i += 1;
-    }
-    80
+    permitted_in(t, rec, 80)
 }

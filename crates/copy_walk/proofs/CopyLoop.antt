@@ -30,7 +30,7 @@ use Rattle.paper_copy.specs.Copy.{copyRecord, copyOf}
 use Rattle.paper_copy.specs.Call.{copiedInto}
 use Rattle.paper_copy.specs.Storing.{Room}
 use Rattle.paper_copy.proofs.Demand.{passed, copy-long}
-use Rattle.paper_copy.proofs.Pasted.{paste-more}
+use Rattle.laws.proofs.Pasted.{paste-more}
 use Rattle.paper_copy.proofs.RecordCopied.{record-copied}
 use Rattle.paper_copy.proofs.CopiedBlocks.{copied-block}
 

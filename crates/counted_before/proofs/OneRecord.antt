@@ -17,7 +17,7 @@ use Rattle.paper_rules.specs.declared.types.Track.{Track}
 use Rattle.paper_rules.specs.State.{withTotals, withBib, counted}
 use Rattle.paper_rules.specs.Roles.{TEXT, isSystem, opensSubentry, opensSection, isHeading, isUnit, isValue}
 use Rattle.paper_rules.specs.Counts.{countN1}
-use Rattle.paper_rules.proofs.EitherWay.{either-way, no}
+use Rattle.laws.proofs.EitherWay.{either-way, no}
 use Rattle.paper_entry.specs.Counted.{trackAfter, afterSystem, afterInside}
 use Rattle.paper_entry.specs.Tally.{oneKeyword, oneMet, textRead}
 use Rattle.counted_before.specs.Before.{isBib}

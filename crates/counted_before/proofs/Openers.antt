@@ -17,7 +17,7 @@ use Rattle.paper_rules.specs.State.{HEADINGS, UNITS}
 use Rattle.paper_rules.specs.Roles.{COMMON-HEADING, COMMON-UNIT, COMMON-VALUE, DATA-HEADING, DATA-UNIT, DATA-VALUE}
 use Rattle.paper_rules.specs.Roles.{NOT-DUE, opensSubentry, opensSection}
 use Rattle.paper_rules.specs.Role.{tableRole, allRead, dataRole, roleIn}
-use Rattle.paper_rules.proofs.EitherWay.{either-way, no}
+use Rattle.laws.proofs.EitherWay.{either-way, no}
 use Rattle.paper_rules.proofs.RolePlaces.{inBib, inTable, text-in-bib}
 use Rattle.paper_entry.specs.Due.{phaseAfter}
 use Rattle.paper_entry.specs.Next.{contextAfter}

@@ -15,7 +15,7 @@ use Rattle.laws.proofs.Booleans.{differ, and-left, and-right, and-both}
 use Rattle.paper_record.specs.Fields.{fieldAt}
 use Rattle.paper_rules.specs.State.{Context, used}
 use Rattle.paper_rules.specs.Roles.{isValue}
-use Rattle.paper_rules.proofs.SomeColumns.{used-few}
+use Rattle.paper_rules.proofs.FewUsed.{used-few}
 use Rattle.paper_rules.specs.Flags.{headingOver, flagColumn}
 use Rattle.rules_plain.specs.Flags.{FlagHeading}
 use Rattle.rules_plain.proofs.FlagFields.{heading-exactly}

@@ -34,7 +34,7 @@ use Rattle.paper_entry.specs.Due.{leadsToBib, leadsToCommon, leadsToData, phase
 use Rattle.paper_entry.specs.Counted.{trackAfter, afterInside}
 use Rattle.paper_entry.specs.Tally.{unitsRead, valuesRead}
 use Rattle.paper_entry.specs.Ranging.{rangeAfter, commonAfter, rangesAfter}
-use Rattle.paper_rules.proofs.EitherWay.{either-way, no}
+use Rattle.laws.proofs.EitherWay.{either-way, no}
 use Rattle.paper_entry.proofs.Leads.{bib-led, table-led}
 use Rattle.paper_rules.proofs.RolePlaces.{inBib, inTable, isText, text-in-bib, heading-in-table}
 

@@ -13,9 +13,9 @@ use Rattle.paper_record.specs.Fields.{fieldsOf}
 use Rattle.paper_record.specs.declared.types.RecordNo.{RecordNo}
 use Rattle.paper_rules.specs.declared.types.Phase.the-variants.{Start}
 use Rattle.paper_rules.specs.declared.types.Range.{Range}
-use Rattle.paper_rules.specs.declared.types.Fault.{Fault}
-use Rattle.paper_rules.specs.declared.types.Fault.the-variants.{Fine, At}
-use Rattle.paper_rules.specs.Fault.{FaultAnswer, faultAnswer}
+use Rattle.paper_faults.specs.declared.types.Fault.{Fault}
+use Rattle.paper_faults.specs.declared.types.Fault.the-variants.{Fine, At}
+use Rattle.paper_faults.specs.Fault.{FaultAnswer, faultAnswer}
 use Rattle.paper_rules.specs.State.{Context, startTrack}
 use Rattle.paper_rules.specs.Limits.{MOST-RECORDS}
 use Rattle.paper_rules.specs.Ranging.{seenOf, Stands}

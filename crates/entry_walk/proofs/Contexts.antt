@@ -13,7 +13,7 @@ use Rattle.paper_record.specs.Word.{blankTo}
 use Rattle.paper_rules.specs.declared.types.Track.{Track}
 use Rattle.paper_rules.specs.State.{startContext}
 use Rattle.paper_rules.specs.Roles.{TEXT, isSystem, opensSubentry, isHeading, isUnit, isValue}
-use Rattle.paper_rules.proofs.EitherWay.{either-way}
+use Rattle.laws.proofs.EitherWay.{either-way}
 use Rattle.paper_entry.specs.Counted.{trackAfter, afterSystem, afterInside}
 use Rattle.paper_entry.specs.Tally.{textRead}
 use Rattle.paper_entry.specs.Next.{contextAfter}

@@ -1,13 +1,11 @@
 -- The verdict on an entry is the first in the order: the judge goes from the context before one record to that before
 -- the next as long as nothing is found, and hands out the least that is found on a record.
 -- Assumes nothing.
-use Prim.Native.Nat.{ℕ, zero, suc, _+_, _/_, _<_, _≤_}
+use Prim.Native.Nat.{ℕ, zero, suc, _+_, _/_, _<_}
 use mathlib.Core.Path.{_≡_, refl, subst}
 use mathlib.Core.Bool.{Bool, true, false, cond}
 use mathlib.Core.List.{List}
 use native.Mathlib.Omega.{arith}
-use borrow.Author.Tests.{leb-true, leb-false}
-use lib.Dec.{leb}
 use lib.ListN.{length}
 use Rattle.laws.specs.Turns.{Turn, after, run}
 use Rattle.laws.specs.Walk.{walk}
@@ -15,11 +13,13 @@ use Rattle.laws.specs.Blocks.{blocks, blockAt}
 use Rattle.laws.proofs.Blocks.{run-walk}
 use Rattle.paper_record.specs.Places.{recordOf}
 use Rattle.paper_record.specs.Fields.{fieldsOf}
-use Rattle.paper_rules.specs.declared.types.Fault.{Fault}
-use Rattle.paper_rules.specs.declared.types.Fault.the-variants.{Fine, At}
+use Rattle.paper_faults.specs.declared.types.Fault.{Fault}
+use Rattle.paper_faults.specs.declared.types.Fault.the-variants.{Fine, At}
 use Rattle.paper_rules.specs.State.{Context, startContext}
-use Rattle.paper_rules.specs.Order.{faultOf, Least, Nothing}
+use Rattle.paper_rules.specs.Order.{faultOf}
+use Rattle.paper_faults.specs.Least.{Least, Nothing}
 use Rattle.paper_rules.proofs.Least.{fault-least, fault-none}
+use Rattle.paper_faults.proofs.First.{nothing-next}
 use Rattle.paper_entry.specs.declared.types.Verdict.{Verdict}
 use Rattle.paper_entry.specs.Verdict.{refused, accepted, isDone, lengthGood}
 use Rattle.paper_entry.specs.Judging.{roleOf, onFault, turnAs, turnOf, endOf, judgeOf}
@@ -41,16 +41,6 @@ module _ (c : Context) (r : List ℕ) where
   least-in n k e = fault-least (c .track) (c .seen) (roleOf c r) (fieldsOf r) r n k e
 
 -- ---- record by record
-
-nothing-next : (s : List ℕ) (i : ℕ) → NothingBefore s i → Nothing (foundAt s i) → NothingBefore s (i + 1)
-nothing-next s i h here j l = by-test (leb i j) refl
-  where
-    by-test : (b : Bool) → leb i j ≡ b → Nothing (foundAt s j)
-    by-test true e =
-        let m : i ≤ j = leb-true i j e in
-        let z : i ≡ j = omega arith in
-        subst (λ (x : ℕ). Nothing (foundAt s x)) z here
-    by-test false e = let m : j < i = leb-false i j e in h j m
 
 module _ (s : List ℕ) (good : lengthGood (length s) ≡ true) where
   abbrev turnAt : Context → ℕ → Turn Context Verdict
@@ -78,7 +68,7 @@ module _ (s : List ℕ) (good : lengthGood (length s) ≡ true) where
           (onFault (recordOf (contextAt s i .track .records)) x (behind (contextAt s i) (blockAt 81 s i)))
           (λ c. run turnAt endOf c (i + 1) m))
       by-fault Fine e =
-          rw (context-next s i) at (next (nothing-next s i h (nothing-in (contextAt s i) (blockAt 81 s i) e)))
+          rw (context-next s i) at (next (nothing-next (foundAt s) i h (nothing-in (contextAt s i) (blockAt 81 s i) e)))
       by-fault (At n k) e =
           rw (records-at s i)
           (by-record i n k

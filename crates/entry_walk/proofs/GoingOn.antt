@@ -12,8 +12,8 @@ use Rattle.laws.specs.Copies.{Passing}
 use Rattle.paper_number.specs.Reading.{readField}
 use Rattle.paper_record.specs.Places.{recordOf}
 use Rattle.paper_record.specs.Fields.{fieldsOf}
-use Rattle.paper_rules.specs.declared.types.Fault.{Fault}
-use Rattle.paper_rules.specs.declared.types.Fault.the-variants.{Fine, At}
+use Rattle.paper_faults.specs.declared.types.Fault.{Fault}
+use Rattle.paper_faults.specs.declared.types.Fault.the-variants.{Fine, At}
 use Rattle.paper_rules.specs.State.{Context, used}
 use Rattle.paper_rules.specs.Roles.{COMMON-VALUE, DATA-VALUE, isValue}
 use Rattle.paper_rules.specs.Values.{optional, valuesFor}
@@ -67,7 +67,7 @@ out-refused c i r v e z = by-fault (faultOf (c .track) (c .seen) (roleOf c r) (f
     by-fault (At n k) q h =
         let w : refused n (recordOf (c .track .records)) k ≡ v = cc in
         let m : n ≡ v .refusal = ap (λ (x : Verdict). x .refusal) w in
-        let b = fault-bounds (c .track) (c .seen) (roleOf c r) (fieldsOf r) r n k q .from-two in
+        let b = fault-bounds (c .track) (c .seen) (roleOf c r) (fieldsOf r) r n k q .above in
         omega arith
 
 module _ (c : Context) (r t : List ℕ)

@@ -14,8 +14,9 @@ use lib.ListN.{length}
 use Rattle.laws.specs.Blocks.{blockAt}
 use Rattle.paper_record.specs.Fields.{fieldsOf}
 use Rattle.paper_rules.specs.State.{Context}
-use Rattle.paper_rules.specs.Fault.{Finding}
-use Rattle.paper_rules.specs.Order.{findings, Least, Nothing}
+use Rattle.paper_faults.specs.Fault.{Finding}
+use Rattle.paper_rules.specs.Order.{findings}
+use Rattle.paper_faults.specs.Least.{Least, Nothing}
 use Rattle.paper_entry.specs.declared.types.Verdict.{Verdict}
 use Rattle.paper_entry.specs.Verdict.{refused, accepted, isDone, lengthGood}
 use Rattle.paper_entry.specs.Judging.{roleOf, judgeOf}

@@ -23,11 +23,11 @@ use Rattle.paper_number.proofs.DigitLaws.{digits-most}
 use Rattle.paper_record.specs.declared.types.LineNo.{LineNo}
 use Rattle.paper_record.specs.Places.{recordOf, placeOf}
 use Rattle.paper_record.specs.Fields.{fieldsOf}
-use Rattle.paper_rules.specs.declared.types.Fault.{Fault}
-use Rattle.paper_rules.specs.declared.types.Fault.the-variants.{Fine, At}
+use Rattle.paper_faults.specs.declared.types.Fault.{Fault}
+use Rattle.paper_faults.specs.declared.types.Fault.the-variants.{Fine, At}
 use Rattle.paper_rules.specs.State.{Context, startContext}
 use Rattle.paper_rules.specs.Order.{faultOf}
-use Rattle.paper_rules.proofs.EitherWay.{either-way}
+use Rattle.laws.proofs.EitherWay.{either-way}
 use Rattle.paper_entry.specs.declared.types.Answer.{Answer}
 use Rattle.paper_entry.specs.declared.types.Verdict.{Verdict}
 use Rattle.paper_entry.specs.Verdict.{refused, accepted, isDone, lengthGood}

@@ -21,7 +21,7 @@ use Rattle.paper_number.specs.Digits.{digitCount, numberRead}
 use Rattle.paper_number.proofs.DigitLaws.{digits-unsaid}
 use Rattle.paper_record.specs.declared.types.RecordNo.{RecordNo}
 use Rattle.paper_rules.specs.declared.types.Totals.{Totals}
-use Rattle.paper_rules.proofs.EitherWay.{either-way}
+use Rattle.laws.proofs.EitherWay.{either-way}
 use Rattle.paper_entry.specs.declared.types.Answer.{Answer}
 use Rattle.paper_entry.specs.declared.types.Verdict.{Verdict}
 use Rattle.paper_entry.specs.Answer.{answerOf, answerFor}

@@ -4,7 +4,7 @@ use Prim.Native.Nat.{ℕ, _<_, _≤_}
 use mathlib.Core.Path.{_≡_}
 use mathlib.Core.List.{List}
 use native.Mathlib.Omega.{arith}
-use Rattle.paper_rules.specs.declared.types.Fault.the-variants.{At}
+use Rattle.paper_faults.specs.declared.types.Fault.the-variants.{At}
 use Rattle.paper_rules.specs.declared.types.Track.{Track}
 use Rattle.paper_rules.specs.State.{Seen}
 use Rattle.paper_rules.specs.Order.{faultOf}
@@ -20,6 +20,6 @@ pub near-fault : (t : Track) (s : Seen) (role : ℕ) (fs : List (List ℕ)) (r :
     → faultOf t s role fs r ≡ At n k → Near n k
 near-fault t s role fs r n k e =
     let b = fault-bounds t s role fs r n k e in
-    let low = b .from-two in
+    let low = b .above in
     let high = b .to-last in
     record { some = omega arith; number = omega arith; column = b .to-column }

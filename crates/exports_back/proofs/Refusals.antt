@@ -6,7 +6,7 @@ use mathlib.Core.List.{List, [], _∷_, _++_}
 use native.Mathlib.Omega.{arith}
 use Rattle.laws.specs.Walk.{All}
 use Rattle.paper_record.specs.declared.types.RecordNo.{RecordNo}
-use Rattle.paper_rules.proofs.EitherWay.{either-way}
+use Rattle.laws.proofs.EitherWay.{either-way}
 use Rattle.paper_entry.specs.Judging.{judgeOf}
 use Rattle.paper_entry.specs.Answer.{Refusal, firstOf}
 use Rattle.paper_questions.specs.declared.types.Row.{Row}

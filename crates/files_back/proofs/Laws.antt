@@ -6,7 +6,7 @@ use mathlib.Core.List.{List}
 use native.Mathlib.Omega.{arith}
 use lib.Dec.{ltb}
 use lib.ListN.{length}
-use Rattle.paper_rules.proofs.EitherWay.{either-way}
+use Rattle.laws.proofs.EitherWay.{either-way}
 use Rattle.paper_entry.specs.Answer.{isRefused}
 use Rattle.exports_back.proofs.Laws.{word-back, beside-fits, fitting-back}
 use Rattle.paper_files.specs.File.{judgeFile}

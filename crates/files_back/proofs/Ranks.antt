@@ -19,7 +19,7 @@ use Rattle.paper_rules.specs.declared.types.Phase.the-variants.{AfterCommon, In
 use Rattle.paper_rules.specs.declared.types.Track.{Track}
 use Rattle.paper_rules.specs.State.{HEADINGS, UNITS}
 use Rattle.paper_rules.specs.Role.{only, either, allRead, bibRole, tableRole, dataRole, nextRole, roleIn}
-use Rattle.paper_rules.proofs.EitherWay.{either-way, no}
+use Rattle.laws.proofs.EitherWay.{either-way, no}
 use Rattle.paper_entry.specs.Verdict.{isDone}
 use Rattle.paper_entry.specs.Due.{leadsToBib, leadsToCommon, leadsToData, phaseAfter}
 

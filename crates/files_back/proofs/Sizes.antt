@@ -18,15 +18,15 @@ use Rattle.laws.proofs.Booleans.{and-right}
 use Rattle.paper_record.specs.Places.{recordOf}
 use Rattle.paper_record.specs.Fields.{fieldsOf}
 use Rattle.paper_record.specs.Identifier.{TRANS}
-use Rattle.paper_rules.specs.declared.types.Fault.{Fault}
-use Rattle.paper_rules.specs.declared.types.Fault.the-variants.{Fine, At}
-use Rattle.paper_rules.specs.Fault.{Finding, firstFault}
+use Rattle.paper_faults.specs.declared.types.Fault.{Fault}
+use Rattle.paper_faults.specs.declared.types.Fault.the-variants.{Fine, At}
+use Rattle.paper_faults.specs.Fault.{Finding, firstFault}
 use Rattle.paper_rules.specs.State.{Context}
-use Rattle.paper_rules.proofs.EitherWay.{either-way}
+use Rattle.laws.proofs.EitherWay.{either-way}
 use Rattle.paper_rules.specs.Order.{faultOf}
 use Rattle.paper_rules.specs.Rising.{FaultBounds}
 use Rattle.paper_rules.proofs.Rising.{findings-rise}
-use Rattle.paper_rules.proofs.Least.{first-least, first-bounds}
+use Rattle.paper_faults.proofs.Least.{first-least, first-bounds}
 use Rattle.paper_rules.proofs.DueRecords.{fine-due}
 use Rattle.paper_entry.specs.Verdict.{refused, refusedWithin, isDone}
 use Rattle.paper_entry.specs.Next.{contextAfter}
@@ -64,10 +64,10 @@ fault-bounds f r n k = by-test (eqb (fileRole f r) OF-ENTRY)
     by-test : (b : Bool) → firstFault (cond b inside outside) ≡ At n k → FaultBounds n k
     by-test true e =
         let s = findings-rise (f .entry .track) (f .entry .seen) (roleOf (f .entry) r) (fieldsOf r) r in
-        first-bounds inside s n k (first-least 1 inside s n k e)
+        first-bounds 1 inside s n k (first-least 1 inside s n k e)
     by-test false e =
         let s = outside-rises (f .entries) (fileRole f r) (fieldsOf r) r in
-        first-bounds outside s n k (first-least 1 outside s n k e)
+        first-bounds 1 outside s n k (first-least 1 outside s n k e)
 
 -- ---- behind a record without fault
 
@@ -144,7 +144,7 @@ fits f m z o n k h x =
   where
     bounds : FaultBounds n k ⊎ ((n ≡ 16) × (k ≡ 0)) → (0 < n) × (n < 2 ^ 8) × (k < 2 ^ 8)
     bounds (inl b) =
-        let p = b .from-two in
+        let p = b .above in
         let q = b .to-last in
         let r = b .to-column in
         (omega arith, omega arith, omega arith)

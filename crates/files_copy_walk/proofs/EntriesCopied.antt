@@ -14,7 +14,7 @@ use Rattle.paper_copy.specs.Copy.{copyOf}
 use Rattle.paper_copy.specs.Call.{copiedInto}
 use Rattle.paper_copy.specs.Storing.{Room}
 use Rattle.paper_copy.proofs.Demand.{passed, copy-long}
-use Rattle.paper_copy.proofs.Pasted.{paste-more, paste-lent}
+use Rattle.laws.proofs.Pasted.{paste-more, paste-lent}
 use Rattle.paper_files.specs.Parts.{entryRecords, entryLength}
 use Rattle.paper_files.proofs.PlainParts.{length-by}
 use Rattle.files_entries.proofs.AcceptedBegins.{accepted-records, accepted-whole}

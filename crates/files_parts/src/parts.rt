@@ -3,7 +3,7 @@ ghost use mathlib.Core.Path.{_≡_};
 ghost use Prim.Native.Nat.{_+_, _*_, _≤_, _<_};
 ghost use lib.ListN.{length};
 ghost use Rattle.paper_record.specs.Identifier.{NamesLent};
-ghost use Rattle.paper_entry.specs.Part.{Behind};
+ghost use Rattle.laws.specs.Part.{Behind};
 ghost use Rattle.paper_files.specs.Parts.{few, namedAt, endOf, recordsOf, entryRecords, entryLength, entryFirst};
 ghost use Rattle.paper_files.specs.Parts.{entryFrom};
 use columns::fields::field;

@@ -14,7 +14,7 @@ use Rattle.laws.specs.Blocks.{blockAt, joined}
 use Rattle.paper_record.specs.Fields.{fieldAt}
 use Rattle.paper_record.specs.Identifier.{ENTRY, identifierOf}
 use Rattle.paper_rules.specs.Limits.{MOST-RECORDS}
-use Rattle.paper_rules.proofs.EitherWay.{either-way}
+use Rattle.laws.proofs.EitherWay.{either-way}
 use Rattle.paper_entry.specs.Judging.{Accepted}
 use Rattle.paper_files.specs.File.{nameOf}
 use Rattle.paper_files.specs.Parts.{recordsOf, entryRecords, entryLength}

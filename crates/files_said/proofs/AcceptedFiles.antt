@@ -7,7 +7,7 @@ use native.Mathlib.Omega.{arith}
 use lib.ListN.{length}
 use Rattle.paper_record.specs.Fields.{fieldsOf}
 use Rattle.paper_rules.specs.Limits.{MOST-RECORDS}
-use Rattle.paper_rules.proofs.Least.{first-bounds}
+use Rattle.paper_faults.proofs.Least.{first-bounds}
 use Rattle.paper_entry.specs.declared.types.Verdict.{Verdict}
 use Rattle.paper_entry.specs.Verdict.{accepted}
 use Rattle.below.proofs.Below.{from-two}
@@ -25,8 +25,8 @@ use Rattle.files_said.proofs.Says.{file-says}
 -- what is found on a record that belongs to no entry is 2 at least
 outside-low : (entries role : ℕ) (r : List ℕ) (n k : ℕ) → FoundOutside entries role r n k → 2 ≤ n
 outside-low entries role r n k l =
-    first-bounds (outsideFindings entries role (fieldsOf r) r) (outside-rises entries role (fieldsOf r) r) n k l
-    .from-two
+    first-bounds 1 (outsideFindings entries role (fieldsOf r) r) (outside-rises entries role (fieldsOf r) r) n k l
+    .above
 
 -- so the verdict 0 is said of a whole file alone
 whole-alone : (s : List ℕ) (v : Verdict) → FileSaid s v → v .refusal ≡ 0 → (es : List (List ℕ)) × FileOf s es

@@ -11,14 +11,14 @@ use lib.ListN.{length, drop, length-append, length-drop}
 use Rattle.laws.specs.Blocks.{joined}
 use Rattle.paper_record.specs.Fields.{fieldsOf}
 use Rattle.paper_record.specs.Identifier.{ENTRY, TRANS, ENDTRANS}
-use Rattle.paper_rules.specs.declared.types.Fault.the-variants.{At}
+use Rattle.paper_faults.specs.declared.types.Fault.the-variants.{At}
 use Rattle.paper_rules.specs.Roles.{NOT-DUE}
-use Rattle.paper_rules.specs.Fault.{Finding, firstFault}
+use Rattle.paper_faults.specs.Fault.{Finding, firstFault}
 use Rattle.paper_rules.specs.State.{startContext}
 use Rattle.paper_rules.specs.Limits.{MOST-RECORDS}
 use Rattle.paper_rules.specs.Role.{only, roleIn}
-use Rattle.paper_rules.specs.Order.{Least}
-use Rattle.paper_rules.proofs.FaultSaid.{least-first}
+use Rattle.paper_faults.specs.Least.{Least}
+use Rattle.paper_faults.proofs.FaultSaid.{least-first}
 use Rattle.paper_entry.specs.declared.types.Verdict.{Verdict}
 use Rattle.paper_entry.specs.Verdict.{refused, refusedWithin, accepted, isDone}
 use Rattle.paper_entry.specs.Judging.{judgeOf, roleOf, Accepted}

@@ -11,7 +11,7 @@ use Rattle.laws.specs.Blocks.{blockAt}
 use Rattle.laws.proofs.Search.{either}
 use Rattle.paper_record.specs.Identifier.{ENTRY}
 use Rattle.paper_rules.specs.Limits.{MOST-RECORDS}
-use Rattle.paper_rules.proofs.EitherWay.{no}
+use Rattle.laws.proofs.EitherWay.{no}
 use Rattle.paper_entry.specs.declared.types.Verdict.{Verdict}
 use Rattle.paper_entry.specs.Verdict.{refused, isDone}
 use Rattle.paper_entry.specs.Judging.{judgeOf, Accepted}

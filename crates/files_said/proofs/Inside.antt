@@ -14,13 +14,14 @@ use Rattle.laws.specs.Blocks.{blockAt}
 use Rattle.laws.proofs.Blocks.{next-block}
 use Rattle.paper_record.specs.Fields.{fieldsOf}
 use Rattle.paper_record.specs.Identifier.{ENTRY, ENDTRANS}
-use Rattle.paper_rules.specs.declared.types.Fault.the-variants.{Fine, At}
-use Rattle.paper_rules.specs.Fault.{firstFault}
+use Rattle.paper_faults.specs.declared.types.Fault.the-variants.{Fine, At}
+use Rattle.paper_faults.specs.Fault.{firstFault}
 use Rattle.paper_rules.specs.declared.types.Totals.{Totals}
 use Rattle.paper_rules.specs.State.{Context, startContext}
 use Rattle.paper_rules.specs.Limits.{MOST-RECORDS}
-use Rattle.paper_rules.proofs.EitherWay.{no}
-use Rattle.paper_rules.specs.Order.{faultOf, Nothing, Least}
+use Rattle.laws.proofs.EitherWay.{no}
+use Rattle.paper_rules.specs.Order.{faultOf}
+use Rattle.paper_faults.specs.Least.{Nothing, Least}
 use Rattle.paper_rules.proofs.FaultSaid.{nothing-fine, least-fault}
 use Rattle.paper_entry.specs.Verdict.{isDone, refusedWithin}
 use Rattle.paper_entry.specs.Judging.{roleOf}

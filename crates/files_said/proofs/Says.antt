@@ -14,14 +14,14 @@ use Rattle.laws.specs.Blocks.{joined}
 use Rattle.laws.proofs.Listing.{all-append, joined-one}
 use Rattle.paper_record.specs.Fields.{fieldsOf}
 use Rattle.paper_record.specs.Identifier.{ENTRY, TRANS, ENDTRANS}
-use Rattle.paper_rules.specs.declared.types.Fault.{Fault}
-use Rattle.paper_rules.specs.declared.types.Fault.the-variants.{Fine, At}
-use Rattle.paper_rules.specs.Fault.{firstFault}
+use Rattle.paper_faults.specs.declared.types.Fault.{Fault}
+use Rattle.paper_faults.specs.declared.types.Fault.the-variants.{Fine, At}
+use Rattle.paper_faults.specs.Fault.{firstFault}
 use Rattle.paper_rules.specs.Role.{only}
 use Rattle.paper_rules.specs.Every.{rule4}
-use Rattle.paper_rules.specs.Order.{Nothing}
-use Rattle.paper_rules.proofs.Least.{first-least}
-use Rattle.paper_rules.proofs.FaultSaid.{first-nothing}
+use Rattle.paper_faults.specs.Least.{Nothing}
+use Rattle.paper_faults.proofs.Least.{first-least}
+use Rattle.paper_faults.proofs.FaultSaid.{first-nothing}
 use Rattle.paper_entry.specs.Judging.{Accepted}
 use Rattle.below.proofs.Behind.{behind-end}
 use Rattle.paper_files.specs.Outside.{outsideFindings}

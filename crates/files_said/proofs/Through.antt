@@ -20,9 +20,10 @@ use Rattle.paper_rules.specs.declared.types.Totals.{Totals}
 use Rattle.paper_rules.specs.State.{Context, startContext, noTotals}
 use Rattle.paper_rules.specs.Limits.{MOST-RECORDS}
 use Rattle.paper_rules.specs.Role.{only, roleIn}
-use Rattle.paper_rules.specs.Order.{Nothing}
+use Rattle.paper_faults.specs.Least.{Nothing}
 use Rattle.paper_rules.proofs.DueRecords.{fine-due}
-use Rattle.paper_rules.proofs.FaultSaid.{nothing-fine, nothing-first}
+use Rattle.paper_rules.proofs.FaultSaid.{nothing-fine}
+use Rattle.paper_faults.proofs.FaultSaid.{nothing-first}
 use Rattle.paper_entry.specs.declared.types.Verdict.{Verdict}
 use Rattle.paper_entry.specs.Verdict.{accepted, isDone}
 use Rattle.paper_entry.specs.Judging.{judgeOf, roleOf, Accepted}

@@ -12,14 +12,14 @@ use Rattle.laws.proofs.Booleans.{and-none}
 use Rattle.paper_record.specs.Places.{recordOf}
 use Rattle.paper_record.specs.Fields.{fieldsOf}
 use Rattle.paper_record.specs.Identifier.{ENTRY, TRANS, ENDTRANS}
-use Rattle.paper_rules.specs.declared.types.Fault.the-variants.{Fine, At}
+use Rattle.paper_faults.specs.declared.types.Fault.the-variants.{Fine, At}
 use Rattle.paper_rules.specs.Roles.{NOT-DUE}
-use Rattle.paper_rules.specs.Fault.{firstFault}
+use Rattle.paper_faults.specs.Fault.{firstFault}
 use Rattle.paper_rules.specs.declared.types.Totals.{Totals}
 use Rattle.paper_rules.specs.State.{Context, startContext}
 use Rattle.paper_rules.specs.Limits.{MOST-RECORDS}
 use Rattle.paper_rules.specs.Role.{only}
-use Rattle.paper_rules.proofs.EitherWay.{either-way}
+use Rattle.laws.proofs.EitherWay.{either-way}
 use Rattle.paper_entry.specs.Verdict.{refusedWithin}
 use Rattle.paper_entry.specs.Contexts.{behind}
 use Rattle.entry_walk.specs.First.{foundIn}

@@ -12,7 +12,7 @@ use Rattle.paper_record.specs.Fields.{fieldsOf}
 use Rattle.paper_record.specs.Identifier.{ENTRY, TRANS, ENDTRANS}
 use Rattle.paper_rules.specs.Limits.{MOST-RECORDS}
 use Rattle.paper_rules.specs.Role.{only}
-use Rattle.paper_rules.specs.Order.{Least}
+use Rattle.paper_faults.specs.Least.{Least}
 use Rattle.paper_entry.specs.declared.types.Verdict.{Verdict}
 use Rattle.paper_entry.specs.Verdict.{refused, refusedWithin, accepted}
 use Rattle.paper_entry.specs.Judging.{judgeOf, Accepted}

@@ -28,13 +28,13 @@ use Rattle.paper_record.specs.Plain.{CapitalOrDigit, CountSays}
 use Rattle.paper_record.proofs.PlainColumns.{blank-exactly}
 use Rattle.paper_record.proofs.PlainDigits.{count-exactly, date-exactly, mark-exactly}
 use Rattle.paper_rules.specs.Roles.{NOT-DUE}
-use Rattle.paper_rules.specs.Fault.{Finding}
-use Rattle.paper_rules.proofs.EitherWay.{no}
+use Rattle.paper_faults.specs.Fault.{Finding}
+use Rattle.laws.proofs.EitherWay.{no}
 use Rattle.paper_rules.specs.Every.{rule2, rule3, rule4}
 use Rattle.paper_rules.specs.Counts.{countN1}
-use Rattle.paper_rules.specs.Order.{noFinding}
-use Rattle.paper_rules.proofs.NoColumns.{when-none, none-when, whens-none, where-none, none-where}
-use Rattle.paper_rules.proofs.Least.{Empty}
+use Rattle.paper_faults.specs.Least.{noFinding}
+use Rattle.paper_faults.proofs.NoColumns.{when-none, none-when, whens-none, where-none, none-where}
+use Rattle.paper_faults.proofs.Least.{Empty}
 use Rattle.paper_files.specs.Outside.{noMark, marksIn, isTransN1, transForm, rule7Outside, rule8Outside}
 use Rattle.paper_files.specs.Outside.{outsideFindings}
 use Rattle.files_shape.specs.Shape.{GoodOutside}

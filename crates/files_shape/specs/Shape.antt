@@ -14,7 +14,7 @@ use Rattle.paper_record.specs.Fields.{fieldsOf}
 use Rattle.paper_record.specs.Identifier.{TRANS, ENDTRANS}
 use Rattle.paper_rules.specs.declared.types.Totals.{Totals}
 use Rattle.paper_rules.specs.State.{noTotals}
-use Rattle.paper_rules.specs.Order.{Nothing}
+use Rattle.paper_faults.specs.Least.{Nothing}
 use Rattle.paper_entry.specs.Judging.{judgeOf, Accepted}
 use Rattle.paper_files.specs.Outside.{outsideFindings}
 use Rattle.paper_files.specs.File.{MOST-IN-FILE, nameOf, added}

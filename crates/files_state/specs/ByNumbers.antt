@@ -8,10 +8,10 @@ use lib.Dec.{eqb}
 use lib.ListN.{take, drop}
 use Rattle.paper_record.specs.Columns.{Whole}
 use Rattle.paper_record.specs.Fields.{fieldsOf}
-use Rattle.paper_rules.specs.declared.types.Fault.{Fault}
-use Rattle.paper_rules.specs.declared.types.Fault.the-variants.{Fine, At}
+use Rattle.paper_faults.specs.declared.types.Fault.{Fault}
+use Rattle.paper_faults.specs.declared.types.Fault.the-variants.{Fine, At}
 use Rattle.paper_rules.specs.Roles.{Role}
-use Rattle.paper_rules.specs.Fault.{Record}
+use Rattle.paper_rules.specs.Record.{Record}
 use Rattle.paper_rules.specs.declared.types.Totals.{Totals}
 use Rattle.paper_rules.specs.State.{noTotals}
 use Rattle.paper_rules.specs.Ranging.{Stands, Bounded}

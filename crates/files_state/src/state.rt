@@ -5,9 +5,9 @@ ghost use Rattle.paper_files.specs.File.{added, MOST-IN-FILE};
 ghost use Rattle.files_state.specs.ByNumbers.{startState, stateAt, behindState, stateOn, Room, Addable};
 use entry_step::step::Judge;
 use entry_verdict::verdict::is_done;
+use paper_faults::types::Fault;
 use paper_files::types::Stage;
 use paper_record::types::Index;
-use paper_rules::types::Fault;
 use paper_rules::types::Totals;
 
 // The records before the one in hand, from the file's start; the entries that have ended, and what they come to; the

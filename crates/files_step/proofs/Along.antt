@@ -16,8 +16,8 @@ use Rattle.laws.proofs.Turns.{Run, run-all, run-next, run-out, run-done}
 use Rattle.paper_record.specs.Columns.{Whole}
 use Rattle.paper_record.specs.Places.{recordOf}
 use Rattle.paper_record.specs.declared.types.RecordNo.{RecordNo}
-use Rattle.paper_rules.specs.declared.types.Fault.{Fault}
-use Rattle.paper_rules.specs.declared.types.Fault.the-variants.{Fine, At}
+use Rattle.paper_faults.specs.declared.types.Fault.{Fault}
+use Rattle.paper_faults.specs.declared.types.Fault.the-variants.{Fine, At}
 use Rattle.paper_entry.specs.declared.types.Verdict.{Verdict}
 use Rattle.paper_entry.specs.Verdict.{refusedWithin}
 use Rattle.paper_entry.proofs.Lengths.{whole-up-to}

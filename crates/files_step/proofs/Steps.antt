@@ -4,10 +4,10 @@ use Prim.Native.Nat.{ℕ, _<_}
 use mathlib.Core.Path.{_≡_, refl, sym, _∙_}
 use mathlib.Core.List.{List}
 use borrow.Author.Tests.{ne-eqb}
-use Rattle.paper_rules.specs.declared.types.Fault.{Fault}
-use Rattle.paper_rules.specs.declared.types.Fault.the-variants.{Fine, At}
+use Rattle.paper_faults.specs.declared.types.Fault.{Fault}
+use Rattle.paper_faults.specs.declared.types.Fault.the-variants.{Fine, At}
 use Rattle.paper_rules.specs.Roles.{Role}
-use Rattle.paper_rules.specs.Fault.{firstFault}
+use Rattle.paper_faults.specs.Fault.{firstFault}
 use Rattle.paper_rules.specs.Limits.{MOST-RECORDS}
 use Rattle.paper_rules.specs.Order.{faultOf}
 use Rattle.entry_step.specs.ByRanges.{contextOf as entryOf, stepFor as entryStep, stepAs, stepOf}

@@ -6,8 +6,8 @@ use lib.ListN.{length}
 use Rattle.laws.specs.Turns.{Turn}
 use Rattle.laws.specs.Blocks.{blockAt}
 use Rattle.laws.proofs.Turns.{Run}
-use Rattle.paper_rules.specs.declared.types.Fault.{Fault}
-use Rattle.paper_rules.specs.declared.types.Fault.the-variants.{Fine, At}
+use Rattle.paper_faults.specs.declared.types.Fault.{Fault}
+use Rattle.paper_faults.specs.declared.types.Fault.the-variants.{Fine, At}
 use Rattle.paper_entry.specs.declared.types.Verdict.{Verdict}
 use Rattle.entry_step.proofs.Stepping.{Stood}
 use Rattle.paper_files.specs.File.{FileContext, MOST-IN-FILE, fileFault, fileTurn, fileEnd, judgeFile}

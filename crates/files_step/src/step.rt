@@ -19,8 +19,8 @@ use files_roles::role::role_of;
 use files_roles::role::stage_after;
 use files_state::state::File;
 use files_state::state::FileStep;
+use paper_faults::types::Fault;
 use paper_record::types::Index;
-use paper_rules::types::Fault;
 use record_names::identifier::Names;
 use rules_state::state::MOST_RECORDS;
 

@@ -1,7 +1,7 @@
 // The form of the record TRANS.
 ghost use mathlib.Core.Path.{_≡_};
 ghost use Prim.Native.Nat.{ℕ, _+_, _≤_};
-ghost use Rattle.paper_rules.specs.Fault.{leftmost};
+ghost use Rattle.paper_faults.specs.Fault.{leftmost};
 ghost use Rattle.paper_files.specs.Outside.{marksIn, isTransN1, transForm};
 use record::system::is_capital_or_digit;
 use record::system::is_date;

@@ -12,10 +12,10 @@ use Rattle.laws.specs.Walk.{All}
 use Rattle.laws.proofs.Search.{either}
 use Rattle.paper_record.specs.Fields.{fieldAt, fieldsOf}
 use Rattle.paper_rules.specs.State.{Context, used}
-use Rattle.paper_rules.specs.Fault.{fieldColumn}
+use Rattle.paper_rules.specs.Record.{fieldColumn}
 use Rattle.paper_rules.specs.Earlier.{headingAt}
 use Rattle.paper_rules.specs.Flags.{columnOver, flagFault, flagFaultAt, rule17}
-use Rattle.paper_rules.proofs.NoColumns.{where-none, none-where}
+use Rattle.paper_faults.proofs.NoColumns.{where-none, none-where}
 use Rattle.rules_plain.specs.Places.{cell}
 use Rattle.rules_plain.proofs.Rows.{cell-here, cell-there}
 use Rattle.good.specs.Parts.{Record}

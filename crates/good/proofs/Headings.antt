@@ -21,11 +21,11 @@ use Rattle.paper_record.specs.Faults.{pointerFault, headingFault}
 use Rattle.paper_record.proofs.PlainColumns.{blank-exactly, word-exactly, pointer-exactly}
 use Rattle.paper_rules.specs.State.{Context, used}
 use Rattle.paper_rules.specs.Roles.{DATA-HEADING, NOT-DUE, isHeading}
-use Rattle.paper_rules.specs.Fault.{fieldColumn, pointerColumn}
+use Rattle.paper_rules.specs.Record.{fieldColumn, pointerColumn}
 use Rattle.paper_rules.specs.Repeats.{headingRepeated}
 use Rattle.paper_rules.specs.Headings.{rule11Heading, rule12Heading, rule13}
 use Rattle.paper_rules.specs.Pointers.{pointersFor, pointerLost, lostAt, rule14}
-use Rattle.paper_rules.proofs.NoColumns.{where-none, none-where}
+use Rattle.paper_faults.proofs.NoColumns.{where-none, none-where}
 use Rattle.paper_rules.proofs.ByKind.{clean-heading}
 use Rattle.rules_plain.specs.Places.{Long}
 use Rattle.good.specs.Parts.{Record}

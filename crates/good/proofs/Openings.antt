@@ -26,7 +26,7 @@ use Rattle.paper_entry.specs.Next.{contextAfter}
 use Rattle.paper_entry.specs.Due.{phaseAfter}
 use Rattle.paper_entry.specs.Counted.{trackAfter, afterSystem}
 use Rattle.paper_entry.specs.Parts.{seenAfter, partAfter, bibChange}
-use Rattle.paper_rules.proofs.NoColumns.{when-none, none-when}
+use Rattle.paper_faults.proofs.NoColumns.{when-none, none-when}
 use Rattle.good.specs.Parts.{Record}
 use Rattle.good.specs.Marks.{Marked, nameOf, CountIs}
 use Rattle.good.specs.Subentries.{OpensSubentry, ownNumber}

@@ -18,7 +18,7 @@ use Rattle.paper_rules.specs.State.{Context}
 use Rattle.paper_rules.specs.Roles.{NOT-DUE}
 use Rattle.paper_rules.specs.Every.{rule2, rule3, rule4, rule5, rule6, expectedIdentification, expectedSequence}
 use Rattle.paper_rules.specs.Clean.{CleanEvery, Clean}
-use Rattle.paper_rules.proofs.NoColumns.{when-none, where-none, none-where}
+use Rattle.paper_faults.proofs.NoColumns.{when-none, where-none, none-where}
 use Rattle.paper_rules.proofs.Clean.{fine-clean, clean-fine}
 use Rattle.paper_entry.specs.Next.{contextAfter}
 use Rattle.paper_entry.specs.Judging.{roleOf, turnOf}

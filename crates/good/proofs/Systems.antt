@@ -17,7 +17,7 @@ use Rattle.paper_rules.specs.Roles.{NOT-DUE, isSystem, opensSubentry, opensSect
 use Rattle.paper_rules.specs.System.{FREE, COUNT, formN1, formN2, inForm, rule7, rule9}
 use Rattle.paper_rules.specs.Counts.{countN1, countN2, limitN1, limitN2, meets, announcedFault, trueCount}
 use Rattle.paper_rules.specs.Counts.{keywordsTrue, countTrue, rule8}
-use Rattle.paper_rules.proofs.NoColumns.{when-none, whens-none}
+use Rattle.paper_faults.proofs.NoColumns.{when-none, whens-none}
 use Rattle.paper_rules.proofs.ByKind.{clean-system}
 use Rattle.good.specs.Parts.{Record}
 use Rattle.good.specs.Marks.{Marked, CountIs}

@@ -25,7 +25,7 @@ use Rattle.paper_rules.specs.Every.{expectedIdentification, expectedSequence}
 use Rattle.paper_rules.specs.Text.{keywordFault, rule10, pointerRepeated, rule11Text}
 use Rattle.paper_entry.specs.Next.{contextAfter}
 use Rattle.paper_entry.specs.Parts.{seenAfter, partAfter, underChange}
-use Rattle.paper_rules.proofs.NoColumns.{when-none, none-when}
+use Rattle.paper_faults.proofs.NoColumns.{when-none, none-when}
 use Rattle.paper_rules.proofs.ByKind.{clean-text}
 use Rattle.rules_plain.specs.Places.{bibPlace, pointersIn, Long}
 use Rattle.rules_plain.proofs.Lists.{places-joined, pointers-joined}

@@ -17,9 +17,9 @@ use Rattle.paper_record.specs.Faults.{isUnitWord, unitFault}
 use Rattle.paper_record.proofs.PlainColumns.{blank-exactly, unit-exactly}
 use Rattle.paper_rules.specs.State.{Context, used}
 use Rattle.paper_rules.specs.Roles.{NOT-DUE, isUnit as unitRole}
-use Rattle.paper_rules.specs.Fault.{fieldColumn}
+use Rattle.paper_rules.specs.Record.{fieldColumn}
 use Rattle.paper_rules.specs.Headings.{rule12Unit}
-use Rattle.paper_rules.proofs.NoColumns.{where-none, none-where}
+use Rattle.paper_faults.proofs.NoColumns.{where-none, none-where}
 use Rattle.paper_rules.proofs.ByKind.{clean-unit}
 use Rattle.rules_plain.specs.Places.{cell}
 use Rattle.good.specs.Parts.{Record}

@@ -24,11 +24,12 @@ use Rattle.paper_record.proofs.PlainValues.{value-exactly, unused-exactly}
 use Rattle.paper_rules.specs.declared.types.Table.{Table}
 use Rattle.paper_rules.specs.State.{Context, used}
 use Rattle.paper_rules.specs.Roles.{NOT-DUE, isValue}
-use Rattle.paper_rules.specs.Fault.{when, columnsWhere, fieldColumn}
+use Rattle.paper_faults.specs.Fault.{when, columnsWhere}
+use Rattle.paper_rules.specs.Record.{fieldColumn}
 use Rattle.paper_rules.proofs.BlankFields.{blank-form}
 use Rattle.paper_rules.specs.Flags.{rule17}
 use Rattle.paper_rules.specs.Values.{optional, blankFields, lineBlank, rule15, valuesFor}
-use Rattle.paper_rules.proofs.NoColumns.{when-none, append-none, where-none, none-where}
+use Rattle.paper_faults.proofs.NoColumns.{when-none, append-none, where-none, none-where}
 use Rattle.paper_rules.proofs.ByKind.{clean-value}
 use Rattle.good.specs.Parts.{Record}
 use Rattle.good.specs.Marks.{Following}

@@ -1,6 +1,6 @@
 // The parts that a question by an index names, each in its place in the caller's entry; a refused one is empty.
 ghost use mathlib.Core.Path.{_≡_};
-ghost use Rattle.paper_entry.specs.Part.{Behind};
+ghost use Rattle.laws.specs.Part.{Behind};
 ghost use Rattle.paper_questions.specs.PartAnswers.{bytesIn};
 ghost use Rattle.paper_index.specs.ByIndex.{headingByIndex, unitByIndex, passageByIndex};
 use index_parts::parts::heading_by_index;

@@ -24,7 +24,7 @@ use Rattle.paper_rules.specs.Roles.{TEXT, NOT-DUE, isSystem, opensSubentry, isH
 use Rattle.paper_rules.specs.Role.{bibRole, allRead, tableRole, dataRole, roleIn}
 use Rattle.paper_rules.specs.System.{numberDue}
 use Rattle.paper_rules.proofs.DueRecords.{fine-due, fine-number}
-use Rattle.paper_rules.proofs.EitherWay.{either-way}
+use Rattle.laws.proofs.EitherWay.{either-way}
 use Rattle.paper_entry.specs.Due.{phaseAfter}
 use Rattle.paper_entry.specs.Tally.{textRead}
 use Rattle.paper_entry.specs.Counted.{afterSystem, afterInside, trackAfter}

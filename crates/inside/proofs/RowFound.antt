@@ -25,7 +25,7 @@ use Rattle.paper_rules.specs.declared.types.Track.{Track}
 use Rattle.paper_rules.specs.State.{Context, HEADINGS, UNITS}
 use Rattle.paper_rules.specs.Roles.{opensSubentry}
 use Rattle.paper_rules.specs.Role.{bibRole, allRead, tableRole, dataRole, roleIn}
-use Rattle.paper_rules.proofs.EitherWay.{either-way}
+use Rattle.laws.proofs.EitherWay.{either-way}
 use Rattle.paper_entry.specs.Due.{phaseAfter}
 use Rattle.paper_entry.specs.Judging.{Accepted}
 use Rattle.paper_entry.specs.Contexts.{contextAt, roleAt}

@@ -18,14 +18,14 @@ use Rattle.paper_record.specs.Fields.{fieldsOf}
 use Rattle.paper_record.specs.Text.{isBlank}
 use Rattle.paper_record.specs.Word.{blankTo, equalTo, isWord, pointerOf}
 use Rattle.paper_record.specs.Faults.{badPointer}
-use Rattle.paper_rules.specs.declared.types.Fault.the-variants.{Fine}
+use Rattle.paper_faults.specs.declared.types.Fault.the-variants.{Fine}
 use Rattle.paper_rules.specs.declared.types.Track.{Track}
 use Rattle.paper_rules.specs.State.{Seen}
 use Rattle.paper_rules.specs.Roles.{TEXT}
 use Rattle.paper_rules.specs.Text.{placeInPart, placesOf, pointersOf, keywordFault, rule10, pointerRepeated, rule11Text}
 use Rattle.paper_rules.specs.Order.{faultOf}
 use Rattle.paper_rules.specs.Clean.{Clean}
-use Rattle.paper_rules.proofs.NoColumns.{when-none}
+use Rattle.paper_faults.proofs.NoColumns.{when-none}
 use Rattle.paper_rules.proofs.Clean.{fine-clean}
 use Rattle.paper_entry.specs.Judging.{Accepted}
 use Rattle.entry_walk.proofs.GoingOn.{go-fine}

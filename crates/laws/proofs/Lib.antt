@@ -11,3 +11,6 @@ pub mod Promise
 pub mod Booleans
 pub mod Counting
 pub mod Listing
+pub mod EitherWay
+pub mod PartPlace
+pub mod Pasted

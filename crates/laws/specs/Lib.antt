@@ -5,3 +5,4 @@ pub mod Table
 pub mod Walk
 pub mod Blocks
 pub mod Copies
+pub mod Part

@@ -99,7 +99,8 @@ fn form_at(place: u8) -> Form
     Form::Malformed
 }
 
-fn form_of_columns(kinds: &[u8; 256], nexts: &[u8; 88], s: &[u8]) -> Form
+// What form the columns have, however many they are.
+pub fn form_of_columns(kinds: &[u8; 256], nexts: &[u8; 88], s: &[u8]) -> Form
     requires { ⌜ Tables (now kinds) (now nexts) ⌝ }
     ensures { λ r. ⌜ r ≡ formOf (readField (now (s .entry))) ⌝ }
 {

@@ -41,17 +41,25 @@ fn digits_spelt(x: Spelt) -> u8
     0
 }
 
-// What a field of eleven columns says.
+// What a field of at most eleven columns says.
+pub fn read_narrow(s: &[u8]) -> Reading
+    requires { ⌜ length (now s) ≤ 11 ⌝ }
+    ensures { λ r. ⌜ r ≡ readField (now (s .entry)) ⌝ }
+{
+    let x = spelt_in(s);
+    reading_of(x)
+}
+
+// The same of eleven columns.
 pub fn read_field(field: [u8; 11]) -> Reading
     ensures { λ r. ⌜ r ≡ readField field ⌝ }
     ensures { λ r. ⌜ answer r ≡ answer (readField field) ⌝ }
 {
-    let x = spelt_in(&field);
-    reading_of(x)
+    read_narrow(&field)
 }
 
 // What a field of at most eleven columns says, and how many digits are written in it.
-fn read_columns(s: &[u8]) -> FieldRead
+pub fn read_columns(s: &[u8]) -> FieldRead
     requires { ⌜ length (now s) ≤ 11 ⌝ }
     ensures { λ r. ⌜ r ≡ fieldRead (now (s .entry)) ⌝ }
 {

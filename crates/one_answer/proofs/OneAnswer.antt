@@ -3,7 +3,7 @@
 -- Assumes nothing.
 use mathlib.Core.Path.{_≡_, _∙_, ap}
 use Rattle.laws.proofs.Promise.{one-answer}
-use Rattle.paper_entry.proofs.PartPlace.{one-place}
+use Rattle.laws.proofs.PartPlace.{one-place}
 use Rattle.walker.specs.declared.walker.Walker.{Walker}
 use Rattle.one_answer.specs.OneAnswer.{OneAnswer}
 
@@ -91,4 +91,15 @@ one-answers =
       x4-read-double = λ κs a x y s t p q. (one-answer (p .0) (q .0), one-answer (p .1) (q .1));
       x4-as-double = λ κs a x y s t p q. one-answer p q;
       x4-as-double-kind = λ κs a x y s t p q. one-answer p q;
+      check-lines = λ κs a x y s t p q. one-answer p q;
+      line = λ κs a x y s t p q. one-answer p q;
+      piece = λ κs a x y s t p q. one-answer p q;
+      piece-part = λ κs a x y s t p q. (one-place (p .0) (q .0), one-answer (p .1) (q .1));
+      write-back = λ κs a x y s t p q. (one-answer (p .0) (q .0), one-answer (p .1) (q .1));
+      x4-cinda-check = λ κs a x y s t p q. one-answer p q;
+      x4-cinda-line = λ κs a x y s t p q. (one-answer (p .0) (q .0), one-answer (p .1 .0) (q .1 .0));
+      x4-cinda-line-least = λ κs a x y s t p q. (one-answer (p .0) (q .0), one-answer (p .1 .1 .0) (q .1 .1 .0));
+      x4-cinda-line-greatest = λ κs a x y s t p q. (one-answer (p .0) (q .0), one-answer (p .1 .1 .1) (q .1 .1 .1));
+      x4-cinda-pieces = λ κs a x y s t p q. (one-answer (p .0) (q .0), one-answer (p .1) (q .1));
+      x4-cinda-back = λ κs a x y s t p q. (one-answer (p .0) (q .0), one-answer (p .1) (q .1));
     }

@@ -74,6 +74,15 @@ use Rattle.exports_doubles.proofs.doubles.x4_index_double.Reads as x4-index-dou
 use Rattle.exports_reals.proofs.reals.x4_read_double.Reads as x4-read-double
 use Rattle.exports_reals.proofs.hand.x4_as_double.Reads as x4-as-double
 use Rattle.exports_reals.proofs.hand.x4_as_double_kind.Reads as x4-as-double-kind
+use Rattle.cinda_check.proofs.check.check.Reads as check-lines
+use Rattle.cinda.proofs.ask.line.Reads as line
+use Rattle.cinda.proofs.ask.piece.Reads as piece
+use Rattle.cinda.proofs.ask.piece_part.Reads as piece-part
+use Rattle.cinda.proofs.back.write_back.Reads as write-back
+use Rattle.exports_cinda.proofs.lines.x4_cinda_check.Reads as x4-cinda-check
+use Rattle.exports_cinda.proofs.lines.x4_cinda_line.Reads as x4-line
+use Rattle.exports_cinda.proofs.lines.x4_cinda_pieces.Reads as x4-cinda-pieces
+use Rattle.exports_cinda.proofs.lines.x4_cinda_back.Reads as x4-cinda-back
 use Rattle.one_answer.specs.ByHand.{NewPost, NextPost}
 use Rattle.one_answer.specs.Determined.{Determined, DeterminedWith, DeterminedPart}
 
@@ -122,6 +131,12 @@ pub record OneAnswer : Type 0 where
   pub double : Determined double.Post
   pub double-from-row : Determined double-from-row.Post
   pub double-by-index : Determined double-by-index.Post
+  -- the library, lines
+  pub check-lines : Determined check-lines.Post
+  pub line : Determined line.Post
+  pub piece : Determined piece.Post
+  pub piece-part : DeterminedPart piece-part.Post
+  pub write-back : DeterminedWith write-back.Post (λ κs s. now (s .1 .0))
   -- for host programs
   pub x4-version : Determined x4-version.Post
   pub x4-judge : DeterminedWith x4-judge.Post (λ κs s. now (s .1 .0))
@@ -160,3 +175,10 @@ pub record OneAnswer : Type 0 where
   pub x4-read-double : DeterminedWith x4-read-double.Post (λ κs s. now (s .1 .0))
   pub x4-as-double : Determined x4-as-double.Post
   pub x4-as-double-kind : Determined x4-as-double-kind.Post
+  pub x4-cinda-check : Determined x4-cinda-check.Post
+  -- three arrays are lent: numbers, least and greatest energy
+  pub x4-cinda-line : DeterminedWith x4-line.Post (λ κs s. now (s .1 .1 .0))
+  pub x4-cinda-line-least : DeterminedWith x4-line.Post (λ κs s. now (s .1 .1 .1 .0))
+  pub x4-cinda-line-greatest : DeterminedWith x4-line.Post (λ κs s. now (s .1 .1 .1 .1 .0))
+  pub x4-cinda-pieces : DeterminedWith x4-cinda-pieces.Post (λ κs s. now (s .1 .1 .0))
+  pub x4-cinda-back : DeterminedWith x4-cinda-back.Post (λ κs s. now (s .1 .0))

@@ -20,7 +20,7 @@ use Rattle.paper_record.specs.Class.{isPermitted}
 use Rattle.paper_record.specs.Fields.{fieldAt, fieldsOf}
 use Rattle.paper_record.specs.Identifier.{identifierOf}
 use Rattle.paper_record.proofs.ReadColumns.{field-of}
-use Rattle.paper_rules.specs.declared.types.Fault.the-variants.{Fine}
+use Rattle.paper_faults.specs.declared.types.Fault.the-variants.{Fine}
 use Rattle.paper_rules.specs.State.{Context, used}
 use Rattle.paper_rules.specs.Roles.{isValue}
 use Rattle.paper_rules.specs.Role.{roleIn}

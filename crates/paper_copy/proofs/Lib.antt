@@ -7,5 +7,4 @@ pub mod Answered
 pub mod Made
 pub mod RecordCopied
 pub mod Replaced
-pub mod Pasted
 pub mod WholeRecords

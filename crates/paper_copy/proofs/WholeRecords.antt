@@ -12,7 +12,7 @@ use Rattle.paper_copy.proofs.Replaced.{each-of, length-mask, mask-at, l
 use Rattle.paper_canonical.proofs.Laws.{canonical-length}
 use Rattle.paper_record.specs.Fields.{fieldAt}
 use Rattle.paper_copy.specs.CopyField.{copyField}
-use Rattle.paper_copy.proofs.Pasted.{paste-more}
+use Rattle.laws.proofs.Pasted.{paste-more}
 
 abbrev Eleven : Bool → List ℕ → Type 0
 Eleven m f = length f ≡ 11

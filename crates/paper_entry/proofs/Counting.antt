@@ -16,7 +16,7 @@ use Rattle.paper_rules.specs.State.{counted, rowEnds}
 use Rattle.paper_rules.specs.Ranging.{Bounded}
 use Rattle.paper_rules.specs.Roles.{TEXT, DATA-VALUE, isSystem, opensSubentry, isHeading, isUnit, isValue}
 use Rattle.paper_rules.specs.Values.{valuesFor}
-use Rattle.paper_rules.proofs.EitherWay.{either-way}
+use Rattle.laws.proofs.EitherWay.{either-way}
 use Rattle.paper_rules.proofs.ReadValues.{numbers-few}
 use Rattle.paper_entry.specs.Tally.{headingsRead, unitsRead, valuesRead, linesRead, textRead}
 use Rattle.paper_entry.specs.Claims.{SubentriesCounted}

@@ -8,7 +8,7 @@ use Rattle.paper_record.specs.Identifier.{ENDSUBENT}
 use Rattle.paper_rules.specs.declared.types.Phase.the-variants.{Opened, InSubentry, InBib, AfterBib, InCommon}
 use Rattle.paper_rules.specs.declared.types.Phase.the-variants.{AfterCommon, InData, AfterData, Between, Done}
 use Rattle.paper_entry.specs.Due.{leadsToBib, leadsToCommon, leadsToData, phaseAfter}
-use Rattle.paper_rules.proofs.EitherWay.{no}
+use Rattle.laws.proofs.EitherWay.{no}
 use Rattle.paper_rules.proofs.RolePlaces.{inBib, inTable}
 
 -- the phase after a record is that of BIB, or of a table, only where the record leads there

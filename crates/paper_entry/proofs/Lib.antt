@@ -1,6 +1,5 @@
 pub mod Counting
 pub mod Lengths
 pub mod Leads
-pub mod PartPlace
 pub mod Answers
 pub mod Firsts

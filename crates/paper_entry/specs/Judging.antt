@@ -14,10 +14,10 @@ use Rattle.paper_record.specs.Places.{recordOf}
 use Rattle.paper_record.specs.Fields.{fieldsOf}
 use Rattle.paper_record.specs.Identifier.{identifierOf}
 use Rattle.paper_record.specs.declared.types.RecordNo.{RecordNo}
-use Rattle.paper_rules.specs.declared.types.Fault.{Fault}
-use Rattle.paper_rules.specs.declared.types.Fault.the-variants.{Fine, At}
+use Rattle.paper_faults.specs.declared.types.Fault.{Fault}
+use Rattle.paper_faults.specs.declared.types.Fault.the-variants.{Fine, At}
 use Rattle.paper_rules.specs.State.{Context, startContext}
-use Rattle.paper_rules.specs.Fault.{faultAnswer}
+use Rattle.paper_faults.specs.Fault.{faultAnswer}
 use Rattle.paper_rules.specs.Role.{roleIn}
 use Rattle.paper_rules.specs.Order.{faultOf}
 use Rattle.paper_entry.specs.declared.types.Verdict.{Verdict}

@@ -8,5 +8,4 @@ pub mod Verdict
 pub mod Judging
 pub mod Contexts
 pub mod Answer
-pub mod Part
 pub mod Ranging

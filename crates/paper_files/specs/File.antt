@@ -22,10 +22,11 @@ use Rattle.paper_record.specs.declared.types.Index.{Index}
 use Rattle.paper_record.specs.declared.types.RecordNo.{RecordNo}
 use Rattle.paper_record.specs.Fields.{fieldsOf}
 use Rattle.paper_record.specs.Identifier.{Identifier, ENTRY, TRANS, ENDTRANS, OTHER, identifierOf}
-use Rattle.paper_rules.specs.declared.types.Fault.{Fault}
-use Rattle.paper_rules.specs.declared.types.Fault.the-variants.{Fine, At}
+use Rattle.paper_faults.specs.declared.types.Fault.{Fault}
+use Rattle.paper_faults.specs.declared.types.Fault.the-variants.{Fine, At}
 use Rattle.paper_rules.specs.Roles.{Role, NOT-DUE}
-use Rattle.paper_rules.specs.Fault.{Record, Finding, firstFault}
+use Rattle.paper_rules.specs.Record.{Record}
+use Rattle.paper_faults.specs.Fault.{Finding, firstFault}
 use Rattle.paper_rules.specs.declared.types.Totals.{Totals}
 use Rattle.paper_rules.specs.State.{Context, startContext, noTotals}
 use Rattle.paper_rules.specs.Limits.{MOST-RECORDS}

@@ -16,9 +16,10 @@ use Rattle.paper_record.specs.Fields.{n1, n2}
 use Rattle.paper_record.specs.Word.{blankTo}
 use Rattle.paper_record.specs.Identifier.{TRANS, ENDTRANS}
 use Rattle.paper_record.specs.System.{countOf, isCount, isDate}
-use Rattle.paper_rules.specs.declared.types.Fault.{Fault}
+use Rattle.paper_faults.specs.declared.types.Fault.{Fault}
 use Rattle.paper_rules.specs.Roles.{Role}
-use Rattle.paper_rules.specs.Fault.{Record, Fields, Columns, on, when, Finding, finding, firstFault}
+use Rattle.paper_rules.specs.Record.{Record, Fields}
+use Rattle.paper_faults.specs.Fault.{Columns, on, when, Finding, finding, firstFault}
 use Rattle.paper_rules.specs.Every.{rule2, rule3, rule4}
 use Rattle.paper_rules.specs.Counts.{countN1}
 

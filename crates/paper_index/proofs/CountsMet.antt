@@ -6,7 +6,7 @@ use mathlib.Core.Bool.{Bool, true, false, not, _&&_}
 use mathlib.Core.List.{_++_}
 use lib.Dec.{eqb}
 use Rattle.paper_rules.specs.Counts.{limitN1, limitN2, meets, announcedFault}
-use Rattle.paper_rules.specs.Fault.{when, leftmost}
+use Rattle.paper_faults.specs.Fault.{when, leftmost}
 
 pub counts-met : (identifier a b : ℕ)
     → eqb (leftmost (announcedFault identifier a b)) 0

@@ -8,7 +8,7 @@ use Rattle.laws.proofs.Booleans.{differ}
 use Rattle.paper_rules.specs.declared.types.Track.{Track}
 use Rattle.paper_rules.specs.declared.types.Ranges.{Ranges}
 use Rattle.paper_rules.specs.State.{Seen}
-use Rattle.paper_rules.specs.Fault.{Fields, Record}
+use Rattle.paper_rules.specs.Record.{Fields, Record}
 use Rattle.paper_reasons.specs.declared.types.Reason.{Reason}
 use Rattle.paper_reasons.specs.Reason.{nothing, hasReason, reasonFor}
 

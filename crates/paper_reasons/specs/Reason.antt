@@ -24,7 +24,7 @@ use Rattle.paper_rules.specs.declared.types.Found.{Found}
 use Rattle.paper_rules.specs.declared.types.Found.the-variants as Found
 use Rattle.paper_rules.specs.State.{Seen}
 use Rattle.paper_rules.specs.Roles.{Role, opensSection}
-use Rattle.paper_rules.specs.Fault.{Fields, Record, fieldColumn}
+use Rattle.paper_rules.specs.Record.{Fields, Record, fieldColumn}
 use Rattle.paper_rules.specs.Every.{expectedIdentification, expectedSequence}
 use Rattle.paper_rules.specs.Counts.{countN1, countN2, limitN1, limitN2, trueCount}
 use Rattle.paper_rules.specs.Earlier.{earlier, equalHeading}

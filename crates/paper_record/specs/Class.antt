@@ -54,10 +54,16 @@ classTable = listOf classOf 0 256
 pub record ClassesLent (t : List ℕ) : Type 0 where
   pub same : t ≡ classTable
 
--- ---- refusal 3: the first of columns 1 to 80 that is not permitted
+-- ---- the first column that is not permitted
 
 abbrev pub notPermitted : List ℕ → ℕ → Bool
 notPermitted r i = not (isPermitted (getD r i 0))
+
+-- how many of the first w columns stand before it; w where every one is permitted
+unfoldable pub permittedIn : ℕ → List ℕ → ℕ
+permittedIn w r = first (notPermitted r) 0 w
+
+-- ---- refusal 3: the first of columns 1 to 80 that is not permitted
 
 -- how many columns stand before it; 80 where every one is permitted
 unfoldable pub permittedTo : List ℕ → ℕ

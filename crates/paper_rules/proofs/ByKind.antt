@@ -20,7 +20,7 @@ use Rattle.paper_rules.specs.Headings.{rule11Heading, rule12Heading, rul
 use Rattle.paper_rules.specs.Pointers.{rule14}
 use Rattle.paper_rules.specs.Values.{rule15}
 use Rattle.paper_rules.specs.Flags.{rule17}
-use Rattle.paper_rules.proofs.EitherWay.{no}
+use Rattle.laws.proofs.EitherWay.{no}
 use Rattle.paper_rules.specs.Clean.{CleanEvery, Clean}
 
 -- ---- kinds of records

@@ -8,15 +8,16 @@ use mathlib.Core.List.{List, []}
 use lib.Dec.{eqb}
 use Rattle.laws.specs.Walk.{All}
 use Rattle.laws.proofs.Booleans.{either-as}
-use Rattle.paper_rules.specs.declared.types.Fault.the-variants.{Fine}
+use Rattle.paper_faults.specs.declared.types.Fault.the-variants.{Fine}
 use Rattle.paper_rules.specs.declared.types.Track.{Track}
 use Rattle.paper_rules.specs.State.{Seen}
 use Rattle.paper_rules.specs.Roles.{TEXT, DATA-HEADING, isSystem, opensSubentry, isHeading, isUnit, isValue}
 use Rattle.paper_rules.specs.Order.{findings, faultOf}
 use Rattle.paper_rules.specs.Clean.{Clean, CleanExactly}
-use Rattle.paper_rules.proofs.NoColumns.{on-none, none-on}
+use Rattle.paper_faults.proofs.NoColumns.{on-none, none-on}
 use Rattle.paper_rules.proofs.ByKind.{of-headings, of-units}
-use Rattle.paper_rules.proofs.Least.{Empty, fine-empty, empty-fine}
+use Rattle.paper_faults.proofs.Least.{Empty}
+use Rattle.paper_rules.proofs.Least.{fine-empty, empty-fine}
 
 -- ---- without fault, and clean
 

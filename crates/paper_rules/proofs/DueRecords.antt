@@ -12,7 +12,7 @@ use Rattle.paper_record.proofs.Within.{within-bounds}
 use Rattle.paper_record.specs.Identifier.{COMMON, DATA}
 use Rattle.paper_record.specs.Word.{equalTo}
 use Rattle.paper_record.specs.System.{subentryOf}
-use Rattle.paper_rules.specs.declared.types.Fault.the-variants.{Fine}
+use Rattle.paper_faults.specs.declared.types.Fault.the-variants.{Fine}
 use Rattle.paper_rules.specs.declared.types.Track.{Track}
 use Rattle.paper_rules.specs.State.{Seen}
 use Rattle.paper_rules.specs.Limits.{MOST-COLUMNS, MOST-LINES}
@@ -22,7 +22,7 @@ use Rattle.paper_rules.specs.Counts.{countN1, countN2, limitN1, limitN2,
 use Rattle.paper_rules.specs.System.{numberDue, accessionN1, rule9}
 use Rattle.paper_rules.specs.Order.{faultOf}
 use Rattle.paper_rules.specs.Clean.{Clean}
-use Rattle.paper_rules.proofs.NoColumns.{when-none, whens-none}
+use Rattle.paper_faults.proofs.NoColumns.{when-none, whens-none}
 use Rattle.paper_rules.proofs.Clean.{fine-clean}
 
 module _ (t : Track) (seen : Seen) (role : ℕ) (fs : List (List ℕ)) (r : List ℕ)

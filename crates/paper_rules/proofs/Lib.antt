@@ -1,8 +1,7 @@
 pub mod BlankFields
 pub mod ReadValues
 pub mod CodesNext
-pub mod SomeColumns
-pub mod NoColumns
+pub mod FewUsed
 pub mod Rising
 pub mod Least
 pub mod FaultSaid
@@ -10,6 +9,4 @@ pub mod ByKind
 pub mod Clean
 pub mod WithoutFault
 pub mod DueRecords
-pub mod Leftmost
-pub mod EitherWay
 pub mod RolePlaces

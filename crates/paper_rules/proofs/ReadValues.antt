@@ -13,7 +13,7 @@ use Rattle.paper_rules.specs.declared.types.Track.{Track}
 use Rattle.paper_rules.specs.State.{used}
 use Rattle.paper_rules.specs.Roles.{isValue}
 use Rattle.paper_rules.specs.Values.{optional, valuesFor}
-use Rattle.paper_rules.proofs.EitherWay.{either-way}
+use Rattle.laws.proofs.EitherWay.{either-way}
 
 pub fault-read : (t : Track) (role : ℕ) (fs : List (List ℕ)) (values : Values) → values ≡ valuesFor t role fs
     → isValue role ≡ true → values .fault ≡ firstField (valueFault (optional role) (used t)) fs

@@ -17,7 +17,7 @@ use Rattle.paper_rules.specs.State.{HEADINGS, UNITS}
 use Rattle.paper_rules.specs.Roles.{TEXT, COMMON-HEADING, COMMON-UNIT, COMMON-VALUE, DATA-HEADING, DATA-UNIT}
 use Rattle.paper_rules.specs.Roles.{DATA-VALUE, NOT-DUE, isHeading}
 use Rattle.paper_rules.specs.Role.{only, either, bibRole, tableRole, dataRole, allRead, nextRole, roleIn}
-use Rattle.paper_rules.proofs.EitherWay.{either-way, no}
+use Rattle.laws.proofs.EitherWay.{either-way, no}
 
 -- inside BIB; inside COMMON or DATA
 abbrev pub inBib : Phase → Bool

@@ -15,11 +15,12 @@ use Rattle.paper_record.specs.Columns.{hasLineFeed}
 use Rattle.paper_record.specs.Class.{isPermitted, notPermitted}
 use Rattle.paper_record.specs.Fields.{inField, fieldsOf}
 use Rattle.paper_record.specs.Numbers.{formAt, noValue, valueFault}
-use Rattle.paper_rules.specs.declared.types.Fault.the-variants.{Fine}
+use Rattle.paper_faults.specs.declared.types.Fault.the-variants.{Fine}
 use Rattle.paper_rules.specs.declared.types.Track.{Track}
 use Rattle.paper_rules.specs.State.{Seen, used}
 use Rattle.paper_rules.specs.Roles.{COMMON-VALUE, DATA-VALUE, isValue}
-use Rattle.paper_rules.specs.Fault.{when, columnsFrom, columnsWhere, fieldColumn, firstFault}
+use Rattle.paper_faults.specs.Fault.{when, columnsFrom, columnsWhere, firstFault}
+use Rattle.paper_rules.specs.Record.{fieldColumn}
 use Rattle.paper_rules.specs.Every.{rule2, rule3, rule5, rule6, expectedIdentification}
 use Rattle.paper_rules.specs.Values.{optional, lineBlank, rule15}
 use Rattle.paper_record.specs.Flags.{isFlagHeading}
@@ -27,8 +28,8 @@ use Rattle.paper_rules.specs.Flags.{headingOver, flagColumn, flagFaultAt
 use Rattle.paper_rules.specs.Order.{findings, faultOf}
 use Rattle.paper_rules.specs.Clean.{Clean}
 use Rattle.paper_record.proofs.Readings.{fault-reads, fault-same, first-fault-same}
-use Rattle.paper_rules.proofs.SomeColumns.{used-few}
-use Rattle.paper_rules.proofs.NoColumns.{when-none, append-none, where-none}
+use Rattle.paper_rules.proofs.FewUsed.{used-few}
+use Rattle.paper_faults.proofs.NoColumns.{when-none, append-none, where-none}
 use Rattle.paper_rules.proofs.ByKind.{of-values}
 use Rattle.paper_rules.proofs.Clean.{fine-clean}
 

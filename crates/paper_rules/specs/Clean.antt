@@ -7,10 +7,10 @@ use mathlib.Core.Bool.{true}
 use mathlib.Core.List.{[]}
 use mathlib.Core.Logic.{_↔_}
 use lib.Dec.{eqb}
-use Rattle.paper_rules.specs.declared.types.Fault.the-variants.{Fine}
+use Rattle.paper_faults.specs.declared.types.Fault.the-variants.{Fine}
 use Rattle.paper_rules.specs.declared.types.Track.{Track}
 use Rattle.paper_rules.specs.State.{Seen}
-use Rattle.paper_rules.specs.Fault.{Record, Fields}
+use Rattle.paper_rules.specs.Record.{Record, Fields}
 use Rattle.paper_rules.specs.Roles.{Role, TEXT, DATA-HEADING, isSystem, opensSubentry, isHeading, isUnit, isValue}
 use Rattle.paper_rules.specs.Every.{rule2, rule3, rule4, rule5, rule6}
 use Rattle.paper_rules.specs.System.{rule7, rule9}

@@ -14,7 +14,8 @@ use Rattle.paper_rules.specs.declared.types.Limit.{Limit}
 use Rattle.paper_rules.specs.declared.types.Limit.the-variants.{AtLeast, Between}
 use Rattle.paper_rules.specs.Limits.{MOST-COLUMNS, MOST-LINES}
 use Rattle.paper_rules.specs.Roles.{Role, opensSection}
-use Rattle.paper_rules.specs.Fault.{Fields, Columns, on, when}
+use Rattle.paper_rules.specs.Record.{Fields}
+use Rattle.paper_faults.specs.Fault.{Columns, on, when}
 
 abbrev pub countN1 : Fields → ℕ
 countN1 fs = numberOf (countOf (n1 fs))

@@ -12,7 +12,8 @@ use Rattle.paper_record.specs.Expected.{identificationOf, sequenceOf, inDigits,
 use Rattle.paper_record.specs.Expected.{subentIdentification}
 use Rattle.paper_rules.specs.declared.types.Track.{Track}
 use Rattle.paper_rules.specs.Roles.{Role, NOT-DUE, opensSubentry}
-use Rattle.paper_rules.specs.Fault.{Record, Fields, Columns, when, columnsWhere}
+use Rattle.paper_rules.specs.Record.{Record, Fields}
+use Rattle.paper_faults.specs.Fault.{Columns, when, columnsWhere}
 
 -- 2, "byte 81 not a line feed", column 81
 unfoldable pub rule2 : Record → Columns

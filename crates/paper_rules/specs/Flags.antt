@@ -14,7 +14,8 @@ use Rattle.paper_record.specs.Numbers.{formAt, saysNumber}
 use Rattle.paper_record.specs.Flags.{isFlag, isFlagHeading}
 use Rattle.paper_rules.specs.declared.types.Track.{Track}
 use Rattle.paper_rules.specs.State.{Seen, used}
-use Rattle.paper_rules.specs.Fault.{Fields, Columns, columnsWhere, fieldColumn}
+use Rattle.paper_rules.specs.Record.{Fields, fieldColumn}
+use Rattle.paper_faults.specs.Fault.{Columns, columnsWhere}
 use Rattle.paper_rules.specs.Earlier.{headingAt}
 use Rattle.paper_rules.specs.Codes.{codesOf}
 

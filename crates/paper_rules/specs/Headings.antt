@@ -6,7 +6,8 @@ use Rattle.paper_record.specs.Faults.{pointerFault, headingFault, unitFault}
 use Rattle.paper_rules.specs.declared.types.Track.{Track}
 use Rattle.paper_rules.specs.State.{Seen, used}
 use Rattle.paper_rules.specs.Roles.{DATA-HEADING}
-use Rattle.paper_rules.specs.Fault.{Record, Fields, Columns, columnsWhere, fieldColumn, pointerColumn}
+use Rattle.paper_rules.specs.Record.{Record, Fields, fieldColumn, pointerColumn}
+use Rattle.paper_faults.specs.Fault.{Columns, columnsWhere}
 use Rattle.paper_rules.specs.Repeats.{headingRepeated}
 
 -- "A heading is a word in ten columns, with a pointer or blank in the eleventh. A unit is a word in ten columns,

@@ -2,7 +2,7 @@ pub mod Limits
 pub mod Roles
 pub mod State
 pub mod Role
-pub mod Fault
+pub mod Record
 pub mod Parts
 pub mod Ranging
 pub mod Every

@@ -3,24 +3,24 @@
 --   "within one record the lowest number; within that the leftmost column"
 --
 -- That the fault is the least by number and column of all that the rules find is the law `fault-least`.
-use Prim.Native.Nat.{ℕ, _<_, _≤_}
+use Prim.Native.Nat.{ℕ}
 use mathlib.Core.Path.{_≡_}
 use mathlib.Core.Bool.{cond}
 use mathlib.Core.List.{List, [], _∷_}
-use mathlib.Core.Logic.{_⊎_, _↔_}
+use mathlib.Core.Logic.{_↔_}
 use lib.Dec.{eqb}
-use lib.ListN.{length, getD}
 use Rattle.paper_record.specs.Columns.{Whole}
 use Rattle.paper_record.specs.declared.types.Values.{Values}
-use Rattle.paper_rules.specs.declared.types.Fault.{Fault}
-use Rattle.paper_rules.specs.declared.types.Fault.the-variants.{At}
+use Rattle.paper_faults.specs.declared.types.Fault.{Fault}
+use Rattle.paper_faults.specs.declared.types.Fault.the-variants.{At}
 use Rattle.paper_rules.specs.declared.types.Track.{Track}
 use Rattle.paper_rules.specs.declared.types.Ranges.{Ranges}
 use Rattle.paper_rules.specs.State.{Seen}
 use Rattle.paper_rules.specs.Ranging.{Stands}
 use Rattle.paper_rules.specs.Roles.{Role, TEXT, DATA-HEADING, isSystem, opensSubentry, isHeading, isUnit, isValue}
-use Rattle.paper_rules.specs.Fault.{Record, Fields, on, leftmost, Finding, finding, FaultAnswer, faultAnswer}
-use Rattle.paper_rules.specs.Fault.{firstFault}
+use Rattle.paper_rules.specs.Record.{Record, Fields}
+use Rattle.paper_faults.specs.Fault.{on, Finding, finding, FaultAnswer, faultAnswer, firstFault}
+use Rattle.paper_faults.specs.Least.{Least, FaultSaid}
 use Rattle.paper_rules.specs.Every.{rule2, rule3, rule4, rule5, rule6}
 use Rattle.paper_rules.specs.System.{rule7, rule9}
 use Rattle.paper_rules.specs.Counts.{rule8}
@@ -62,39 +62,13 @@ pub record Judged (t : Track) (g : Ranges) (before : List ℕ) (r : Record) (rol
 
 -- ---- the order of faults
 
--- the fault n at the column k comes before m at j, or is the same: "the lowest number; within that the leftmost column"
-abbrev pub Before : ℕ → ℕ → ℕ → ℕ → Type 0
-Before n k m j = (n < m) ⊎ ((n ≡ m) × (k ≤ j))
-
-abbrev pub noFinding : Finding
-noFinding = finding 0 []
-
--- the fault n at the column k is one of what is found, and none of it comes before; columns are counted from 1, so a
--- rule that finds nothing has none
-pub record Least (fs : List Finding) (n k : ℕ) : Type 0 where
-  pub at : ℕ
-  pub there : at < length fs
-  pub number : getD fs at noFinding .number ≡ n
-  pub column : leftmost (getD fs at noFinding .columns) ≡ k
-  pub some : 1 ≤ k
-  pub least : (i j : ℕ) → i < length fs → j < length (getD fs i noFinding .columns)
-      → Before n k (getD fs i noFinding .number) (getD (getD fs i noFinding .columns) j 0)
-
 -- the fault of a record is the least of what the rules find on it
 abbrev pub FaultLeast : Type 0
 FaultLeast =
     (t : Track) (s : Seen) (role : Role) (fs : Fields) (r : Record) (n k : ℕ) → faultOf t s role fs r ≡ At n k
     → Least (findings t s role fs r) n k
 
--- no rule finds anything
-abbrev pub Nothing : List Finding → Type 0
-Nothing fs = (k : ℕ) → k < length fs → getD fs k noFinding .columns ≡ []
-
 -- what is answered of a record: 0 0 where nothing is found, else the least of what is found
-pub data FaultSaid (fs : List Finding) : FaultAnswer → Type 0 where
-  no-fault : Nothing fs → FaultSaid fs (record { number = 0; column = 0 })
-  a-fault : (n k : ℕ) → Least fs n k → FaultSaid fs (record { number = n; column = k })
-
 abbrev pub FaultExactly : Type 0
 FaultExactly =
     (t : Track) (s : Seen) (role : Role) (fs : Fields) (r : Record) (a : FaultAnswer)

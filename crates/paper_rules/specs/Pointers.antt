@@ -9,7 +9,8 @@ use Rattle.paper_record.specs.Text.{isBlank}
 use Rattle.paper_record.specs.Word.{pointerOf}
 use Rattle.paper_rules.specs.declared.types.Track.{Track}
 use Rattle.paper_rules.specs.State.{Seen, used}
-use Rattle.paper_rules.specs.Fault.{Fields, Columns, columnsWhere, fieldColumn}
+use Rattle.paper_rules.specs.Record.{Fields, fieldColumn}
+use Rattle.paper_faults.specs.Fault.{Columns, columnsWhere}
 use Rattle.paper_rules.specs.Text.{pointersOf}
 use Rattle.paper_rules.specs.Earlier.{headingsIn}
 

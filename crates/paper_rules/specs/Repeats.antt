@@ -13,7 +13,7 @@ use lib.Dec.{eqb}
 use lib.ListN.{getD, replicate}
 use Rattle.paper_record.specs.Word.{equalTo}
 use Rattle.paper_record.specs.Repeats.{mayRepeat}
-use Rattle.paper_rules.specs.Fault.{Record, Fields}
+use Rattle.paper_rules.specs.Record.{Record, Fields}
 use Rattle.paper_rules.specs.declared.types.Found.{Found}
 use Rattle.paper_rules.specs.declared.types.Found.the-variants.{At, Nothing}
 use Rattle.paper_rules.specs.Earlier.{headingAt, headingsIn, equalHeading, earlier}

@@ -11,7 +11,8 @@ use Rattle.paper_record.specs.Expected.{subentAccession}
 use Rattle.paper_rules.specs.declared.types.Track.{Track}
 use Rattle.paper_rules.specs.Limits.{LAST-SUBENTRY}
 use Rattle.paper_rules.specs.Roles.{Role, opensSubentry, opensSection}
-use Rattle.paper_rules.specs.Fault.{Fields, Columns, when}
+use Rattle.paper_rules.specs.Record.{Fields}
+use Rattle.paper_faults.specs.Fault.{Columns, when}
 
 -- ---- the table of N1 and N2, each by its form
 

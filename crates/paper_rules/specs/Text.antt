@@ -10,7 +10,8 @@ use Rattle.paper_record.specs.Text.{isBlank}
 use Rattle.paper_record.specs.Word.{blankTo, equalTo, eightAt, isWord, pointerOf}
 use Rattle.paper_record.specs.Faults.{badPointer}
 use Rattle.paper_rules.specs.declared.types.Track.{Track}
-use Rattle.paper_rules.specs.Fault.{Fields, Columns, when}
+use Rattle.paper_rules.specs.Record.{Fields}
+use Rattle.paper_faults.specs.Fault.{Columns, when}
 
 -- "BIB: columns 1-10 a keyword (word) or blank, 11 a pointer or blank, 12-66 text."
 

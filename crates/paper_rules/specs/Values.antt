@@ -13,7 +13,8 @@ use Rattle.paper_record.specs.declared.types.Values.{Values}
 use Rattle.paper_rules.specs.declared.types.Track.{Track}
 use Rattle.paper_rules.specs.State.{used, rowEnds}
 use Rattle.paper_rules.specs.Roles.{Role, DATA-VALUE, isValue}
-use Rattle.paper_rules.specs.Fault.{Fields, Columns, when, columnsWhere, fieldColumn}
+use Rattle.paper_rules.specs.Record.{Fields, fieldColumn}
+use Rattle.paper_faults.specs.Fault.{Columns, when, columnsWhere}
 
 -- "COMMON values are never blank. DATA values may be": a value that may be blank
 abbrev pub optional : Role → Bool

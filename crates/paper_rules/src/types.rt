@@ -31,12 +31,6 @@ pub struct Ranges {
     pub table: Range,
 }
 
-// No fault, or its refusal number and its column.
-pub enum Fault {
-    Fine,
-    At(u8, u8),
-}
-
 // What is due next.
 pub enum Phase {
     Start,

@@ -32,7 +32,8 @@ fn say_decimal(d: Decimal) {
     say_power(power);
 }
 
-fn say_reading(r: Reading) {
+// What a field says.
+pub fn say_reading(r: Reading) {
     match r {
         Reading::Blank => {
             io::write_all(1, b" blank");

@@ -1,7 +1,7 @@
 // The questions: value, heading, unit, passage. Each judges the entry, finds the subentry's row and answers from it. An
 // answer says its number; of a part it says the place, and a second call hands the part itself out of the caller's entry.
 ghost use mathlib.Core.Path.{_≡_};
-ghost use Rattle.paper_entry.specs.Part.{Behind};
+ghost use Rattle.laws.specs.Part.{Behind};
 ghost use Rattle.paper_questions.specs.ValueAnswers.{valueSaid};
 ghost use Rattle.paper_questions.specs.PartAnswers.{bytesIn};
 ghost use Rattle.paper_questions.specs.Ask.{valueAsked, headingAsked, unitAsked, passageAsked};

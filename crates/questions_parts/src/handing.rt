@@ -1,7 +1,7 @@
 // A part that an answer names, out of the caller's entry.
 ghost use mathlib.Core.Path.{_≡_};
 ghost use Prim.Native.Nat.{_+_};
-ghost use Rattle.paper_entry.specs.Part.{Behind};
+ghost use Rattle.laws.specs.Part.{Behind};
 ghost use Rattle.paper_questions.specs.PartAnswers.{Lies, bytesIn};
 use paper_questions::types::PartAnswer;
 

@@ -15,13 +15,15 @@ use Rattle.laws.proofs.Booleans.{differ}
 use Rattle.paper_rules.specs.declared.types.Track.{Track}
 use Rattle.paper_rules.specs.declared.types.Ranges.{Ranges}
 use Rattle.paper_rules.specs.State.{Seen, used}
-use Rattle.paper_rules.specs.Fault.{Finding, Columns, Fields, Record, on, leftmost, columnsWhere, columnAt, fieldColumn}
+use Rattle.paper_faults.specs.Fault.{Finding, Columns, on, leftmost, columnsWhere, columnAt}
+use Rattle.paper_rules.specs.Record.{Fields, Record, fieldColumn}
 use Rattle.paper_rules.specs.Headings.{rule13}
 use Rattle.paper_rules.specs.Pointers.{rule14}
-use Rattle.paper_rules.specs.Order.{findings, noFinding, Least}
+use Rattle.paper_rules.specs.Order.{findings}
+use Rattle.paper_faults.specs.Least.{noFinding, Least}
 use Rattle.paper_rules.specs.Roles.{DATA-HEADING, isHeading}
-use Rattle.paper_rules.proofs.Leftmost.{leftmost-where}
-use Rattle.paper_rules.proofs.SomeColumns.{used-few}
+use Rattle.paper_faults.proofs.Leftmost.{leftmost-where}
+use Rattle.paper_rules.proofs.FewUsed.{used-few}
 use Rattle.paper_entry.specs.declared.types.Verdict.{Verdict}
 use Rattle.paper_entry.specs.Judging.{judgeOf}
 use Rattle.entry_walk.specs.First.{First, by-length, by-record, by-end, by-none}

@@ -13,7 +13,7 @@ use Rattle.paper_rules.specs.declared.types.Ranges.{Ranges}
 use Rattle.paper_rules.specs.State.{Seen}
 use Rattle.paper_rules.specs.Ranging.{seenOf}
 use Rattle.paper_rules.specs.Role.{roleIn}
-use Rattle.paper_rules.specs.Fault.{Fields, Record}
+use Rattle.paper_rules.specs.Record.{Fields, Record}
 use Rattle.paper_entry.specs.Verdict.{lengthGood}
 use Rattle.entry_step.specs.declared.step.Judge.{Judge}
 use Rattle.paper_reasons.specs.declared.types.Facts.the-variants.{Pointer}

@@ -8,8 +8,8 @@ use Rattle.laws.proofs.Search.{either}
 use Rattle.paper_rules.specs.declared.types.Track.{Track}
 use Rattle.paper_rules.specs.declared.types.Ranges.{Ranges}
 use Rattle.paper_rules.specs.State.{Seen}
-use Rattle.paper_rules.specs.Fault.{Fields, Record}
-use Rattle.paper_rules.proofs.EitherWay.{either-way}
+use Rattle.paper_rules.specs.Record.{Fields, Record}
+use Rattle.laws.proofs.EitherWay.{either-way}
 use Rattle.paper_entry.specs.Judging.{judgeOf}
 use Rattle.paper_reasons.specs.declared.types.Facts.the-variants.{Alone, Expected}
 use Rattle.paper_reasons.specs.declared.types.Reason.{Reason}

@@ -18,7 +18,7 @@ use Rattle.paper_record.specs.Identifier.{isEnd}
 use Rattle.paper_record.specs.Word.{equalTo}
 use Rattle.paper_rules.specs.declared.types.Track.{Track}
 use Rattle.paper_rules.specs.Roles.{isSystem, opensSection}
-use Rattle.paper_rules.specs.Fault.{on, when}
+use Rattle.paper_faults.specs.Fault.{on, when}
 use Rattle.paper_rules.specs.Counts.{countN1, countN2, limitN1, limitN2, meets, announcedFault, trueCount}
 use Rattle.paper_rules.specs.Counts.{keywordsTrue, countTrue, rule8}
 use Rattle.paper_entry.specs.Contexts.{contextAt, roleAt}

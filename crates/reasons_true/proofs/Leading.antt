@@ -15,7 +15,7 @@ use Rattle.paper_rules.specs.declared.types.Range.{Range}
 use Rattle.paper_rules.specs.declared.types.Ranges.{Ranges}
 use Rattle.paper_rules.specs.Roles.{opensSubentry}
 use Rattle.paper_rules.specs.Ranging.{Placed, AllPlaced}
-use Rattle.paper_rules.proofs.EitherWay.{either-way}
+use Rattle.laws.proofs.EitherWay.{either-way}
 use Rattle.paper_entry.specs.declared.types.Change.{Change}
 use Rattle.paper_entry.specs.declared.types.Change.the-variants.{Kept, Emptied, Begun, Joined}
 use Rattle.paper_entry.specs.Parts.{tableChange, ends001}

@@ -13,7 +13,7 @@ use Rattle.paper_record.specs.Expected.{identificationOf, sequenceOf, inDigits}
 use Rattle.paper_record.proofs.EqualColumns.{at-equal}
 use Rattle.paper_rules.specs.declared.types.Track.{Track}
 use Rattle.paper_rules.specs.State.{Context}
-use Rattle.paper_rules.specs.Fault.{Fields, Record}
+use Rattle.paper_rules.specs.Record.{Fields, Record}
 use Rattle.paper_rules.specs.Role.{roleIn}
 use Rattle.paper_rules.specs.Every.{expectedIdentification, expectedSequence, rule5, rule6}
 use Rattle.paper_entry.specs.Verdict.{refused}

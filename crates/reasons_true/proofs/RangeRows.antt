@@ -12,7 +12,7 @@ use Rattle.laws.proofs.Blocks.{joined-blocks, blocks-wide, length-blocks, block
 use Rattle.paper_record.specs.Columns.{columnsAt}
 use Rattle.paper_record.specs.Fields.{fieldAt}
 use Rattle.paper_rules.specs.declared.types.Range.{Range}
-use Rattle.paper_rules.specs.Fault.{Record}
+use Rattle.paper_rules.specs.Record.{Record}
 use Rattle.paper_rules.specs.Parts.{bytesOf}
 use Rattle.paper_rules.specs.Ranging.{Placed}
 use Rattle.rules_plain.specs.Places.{Long, cell}

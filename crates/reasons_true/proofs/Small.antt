@@ -18,9 +18,9 @@ use Rattle.paper_rules.specs.declared.types.Limit.the-variants.{AtLeast, Betwee
 use Rattle.paper_rules.specs.Limits.{MOST-RECORDS}
 use Rattle.paper_rules.specs.State.{Seen}
 use Rattle.paper_rules.specs.Roles.{Role, opensSection}
-use Rattle.paper_rules.specs.Fault.{Fields, Record}
+use Rattle.paper_rules.specs.Record.{Fields, Record}
 use Rattle.paper_rules.specs.Counts.{countN1, limitN1, limitN2, trueCount}
-use Rattle.paper_rules.proofs.EitherWay.{either-way}
+use Rattle.laws.proofs.EitherWay.{either-way}
 use Rattle.paper_entry.specs.declared.types.Verdict.{Verdict}
 use Rattle.paper_entry.specs.Verdict.{refused, lengthGood}
 use Rattle.paper_entry.specs.Judging.{judgeOf}

@@ -21,12 +21,12 @@ use Rattle.paper_rules.specs.declared.types.Found.{Found}
 use Rattle.paper_rules.specs.declared.types.Found.the-variants as Found
 use Rattle.paper_rules.specs.State.{Seen, used}
 use Rattle.paper_rules.specs.Roles.{DATA-HEADING, isHeading}
-use Rattle.paper_rules.specs.Fault.{Fields, Record, fieldColumn}
+use Rattle.paper_rules.specs.Record.{Fields, Record, fieldColumn}
 use Rattle.paper_rules.specs.Earlier.{Earlier, earlier, equalHeading}
 use Rattle.paper_rules.specs.Repeats.{clash, headingRepeated}
 use Rattle.paper_rules.specs.Headings.{rule13}
 use Rattle.paper_rules.specs.Pointers.{pointersFor, lostAt, rule14}
-use Rattle.paper_rules.proofs.SomeColumns.{used-few}
+use Rattle.paper_rules.proofs.FewUsed.{used-few}
 use Rattle.paper_rules.proofs.RolePlaces.{heading-in-table}
 use Rattle.paper_entry.specs.Verdict.{refused}
 use Rattle.paper_entry.specs.Judging.{judgeOf}

@@ -7,7 +7,7 @@ use Rattle.laws.specs.Blocks.{blockAt}
 use Rattle.paper_record.specs.Places.{recordOf}
 use Rattle.paper_record.specs.Fields.{fieldAt}
 use Rattle.paper_record.specs.declared.types.RecordNo.{RecordNo}
-use Rattle.paper_rules.specs.Fault.{fieldColumn}
+use Rattle.paper_rules.specs.Record.{fieldColumn}
 use Rattle.paper_entry.specs.Verdict.{refused}
 use Rattle.paper_entry.specs.Judging.{judgeOf}
 use Rattle.paper_reasons.specs.declared.types.Facts.{Facts}

@@ -32,7 +32,7 @@ pub fn number_of(c: Count) -> u64
 }
 
 // Whether the `n` columns from `from` are digits.
-fn digits_in(f: [u8; 11], from: usize, n: usize) -> bool
+pub fn digits_in(f: [u8; 11], from: usize, n: usize) -> bool
     requires { ⌜ from + n ≤ 11 ⌝ }
     ensures { λ r. ⌜ r ≡ digitsIn f from n ⌝ }
 {
@@ -60,7 +60,7 @@ fn digit_of(b: u8) -> u64
 }
 
 // The number that the `n` columns from `from` say. No byte says more than 207, which is 9 * 23.
-fn number_in(f: [u8; 11], from: usize, n: usize) -> u64
+pub fn number_in(f: [u8; 11], from: usize, n: usize) -> u64
     requires { ⌜ from + n ≤ 11 ⌝ }
     ensures { λ r. ⌜ r ≡ numberIn f from n ⌝ }
     ensures { λ r. ⌜ r + 23 ≤ 23 * 10 ^ n ⌝ }

@@ -10,8 +10,9 @@ use lib.Dec.{eqb, ltb}
 use lib.ListN.{getD}
 use Rattle.paper_rules.specs.declared.types.Track.{Track}
 use Rattle.paper_rules.specs.State.{Seen}
-use Rattle.paper_rules.specs.Fault.{on, leftmost}
-use Rattle.paper_rules.specs.Order.{findings, noFinding, Least}
+use Rattle.paper_faults.specs.Fault.{on, leftmost}
+use Rattle.paper_rules.specs.Order.{findings}
+use Rattle.paper_faults.specs.Least.{noFinding, Least}
 use Rattle.rules_plain.specs.Places.{Some, here}
 use Rattle.paper_entry.specs.declared.types.Verdict.{Verdict}
 use Rattle.paper_entry.specs.Verdict.{refused}

@@ -11,8 +11,8 @@ use lib.ListN.{length, replicate}
 use Rattle.laws.specs.Table.{every}
 use Rattle.laws.proofs.Table.{at}
 use Rattle.paper_record.proofs.NumberFields.{true-of}
-use Rattle.paper_rules.specs.Fault.{on, when, columnsFrom, columnsWhere, leftmost}
-use Rattle.paper_rules.proofs.EitherWay.{either-way, no}
+use Rattle.paper_faults.specs.Fault.{on, when, columnsFrom, columnsWhere, leftmost}
+use Rattle.laws.proofs.EitherWay.{either-way, no}
 
 -- ---- each column
 

@@ -7,13 +7,14 @@ use native.Mathlib.Omega.{arith}
 use lib.Dec.{eqb}
 use lib.ListN.{length, getD}
 use Rattle.laws.specs.Blocks.{blockAt}
-use Rattle.paper_rules.specs.declared.types.Fault.{Fault}
-use Rattle.paper_rules.specs.declared.types.Fault.the-variants.{Fine, At}
-use Rattle.paper_rules.specs.Fault.{on}
+use Rattle.paper_faults.specs.declared.types.Fault.{Fault}
+use Rattle.paper_faults.specs.declared.types.Fault.the-variants.{Fine, At}
+use Rattle.paper_faults.specs.Fault.{on}
 use Rattle.paper_rules.specs.Roles.{DATA-HEADING, isHeading}
 use Rattle.paper_rules.specs.Headings.{rule13}
 use Rattle.paper_rules.specs.Pointers.{rule14}
-use Rattle.paper_rules.specs.Order.{faultOf, Before, noFinding, Least}
+use Rattle.paper_rules.specs.Order.{faultOf}
+use Rattle.paper_faults.specs.Least.{Before, noFinding, Least}
 use Rattle.paper_rules.proofs.Least.{fault-least, fault-none}
 use Rattle.rules_plain.specs.Places.{Some}
 use Rattle.rules_plain.proofs.Somewhere.{some-at}

@@ -14,7 +14,7 @@ use Rattle.laws.specs.Walk.{All}
 use Rattle.laws.proofs.Booleans.{either-as}
 use Rattle.laws.proofs.Listing.{all-append, joined-one}
 use Rattle.paper_record.specs.Identifier.{COMMON, ENDCOMMON, DATA}
-use Rattle.paper_rules.specs.Fault.{Record}
+use Rattle.paper_rules.specs.Record.{Record}
 use Rattle.paper_rules.specs.State.{Seen}
 use Rattle.paper_rules.specs.Roles.{TEXT, opensSubentry, isHeading}
 use Rattle.paper_entry.specs.declared.types.Change.{Change}

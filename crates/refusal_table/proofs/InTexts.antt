@@ -19,12 +19,12 @@ use Rattle.paper_record.proofs.ReadColumns.{field-of}
 use Rattle.paper_record.specs.Identifier.{BIB, OTHER}
 use Rattle.paper_record.proofs.PlainColumns.{blank-exactly}
 use Rattle.paper_record.specs.Word.{blankTo}
-use Rattle.paper_rules.specs.declared.types.Fault.the-variants.{Fine}
+use Rattle.paper_faults.specs.declared.types.Fault.the-variants.{Fine}
 use Rattle.paper_rules.specs.declared.types.Track.{Track}
-use Rattle.paper_rules.specs.Fault.{Record}
+use Rattle.paper_rules.specs.Record.{Record}
 use Rattle.paper_rules.specs.State.{Context}
 use Rattle.paper_rules.specs.Roles.{TEXT}
-use Rattle.paper_rules.proofs.EitherWay.{either-way}
+use Rattle.laws.proofs.EitherWay.{either-way}
 use Rattle.paper_rules.specs.Counts.{countN2}
 use Rattle.paper_rules.specs.Order.{faultOf}
 use Rattle.paper_rules.proofs.WithoutFault.{fine-long}

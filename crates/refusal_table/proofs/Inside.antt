@@ -23,7 +23,7 @@ use Rattle.paper_rules.specs.declared.types.Track.{Track}
 use Rattle.paper_rules.specs.State.{Context}
 use Rattle.paper_rules.specs.Roles.{TEXT, NOT-DUE}
 use Rattle.paper_rules.specs.Role.{allRead, only, either as eitherOf, bibRole, tableRole, dataRole, roleIn}
-use Rattle.paper_rules.proofs.EitherWay.{either-way}
+use Rattle.laws.proofs.EitherWay.{either-way}
 use Rattle.paper_rules.proofs.DueRecords.{fine-common, fine-data}
 use Rattle.paper_entry.specs.Due.{phaseAfter}
 use Rattle.paper_entry.specs.Next.{contextAfter}

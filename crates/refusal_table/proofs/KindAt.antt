@@ -18,8 +18,8 @@ use Rattle.paper_rules.specs.declared.types.Phase.the-variants.{Start, Opened, 
 use Rattle.paper_rules.specs.declared.types.Phase.the-variants.{AfterCommon, InData, AfterData, Between, Done}
 use Rattle.paper_rules.specs.Roles.{TEXT, NOT-DUE}
 use Rattle.paper_rules.specs.Role.{allRead, only, either as eitherOf, bibRole, dataRole, roleIn}
-use Rattle.paper_rules.proofs.EitherWay.{either-way}
-use Rattle.paper_rules.specs.Order.{Nothing}
+use Rattle.laws.proofs.EitherWay.{either-way}
+use Rattle.paper_faults.specs.Least.{Nothing}
 use Rattle.paper_rules.proofs.FaultSaid.{nothing-fine}
 use Rattle.paper_entry.specs.Contexts.{contextAt, roleAt}
 use Rattle.entry_walk.specs.First.{foundAt}

@@ -20,7 +20,7 @@ use Rattle.paper_rules.specs.State.{Context}
 use Rattle.paper_rules.specs.Limits.{MOST-RECORDS}
 use Rattle.paper_rules.specs.Roles.{NOT-DUE}
 use Rattle.paper_rules.specs.Role.{allRead, only, either, bibRole, tableRole, dataRole, roleIn}
-use Rattle.paper_rules.proofs.EitherWay.{either-way}
+use Rattle.laws.proofs.EitherWay.{either-way}
 use Rattle.paper_entry.specs.Due.{phaseAfter}
 use Rattle.paper_entry.specs.Next.{contextAfter}
 use Rattle.paper_entry.specs.declared.types.Verdict.{Verdict}

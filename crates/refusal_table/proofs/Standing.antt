@@ -27,8 +27,9 @@ use Rattle.paper_rules.specs.declared.types.Track.{Track}
 use Rattle.paper_rules.specs.State.{Seen, used}
 use Rattle.paper_rules.specs.Roles.{TEXT, DATA-HEADING, NOT-DUE, isSystem, opensSubentry, opensSection, isHeading}
 use Rattle.paper_rules.specs.Roles.{isUnit, isValue}
-use Rattle.paper_rules.specs.Fault.{Finding, when, fieldColumn, pointerColumn}
-use Rattle.paper_rules.proofs.EitherWay.{no}
+use Rattle.paper_faults.specs.Fault.{Finding, when}
+use Rattle.paper_rules.specs.Record.{fieldColumn, pointerColumn}
+use Rattle.laws.proofs.EitherWay.{no}
 use Rattle.paper_rules.specs.Every.{rule2, rule3, rule4, expectedIdentification, rule5, expectedSequence, rule6}
 use Rattle.paper_rules.specs.System.{FREE, formN1, formN2, inForm, rule7, accessionN1, numberDue, rule9}
 use Rattle.paper_rules.specs.Counts.{countN1, countN2, limitN1, limitN2, meets, announcedFault, countTrue, rule8}
@@ -37,8 +38,9 @@ use Rattle.paper_rules.specs.Headings.{rule11Heading, rule12Heading, rule12Unit
 use Rattle.paper_rules.specs.Pointers.{rule14}
 use Rattle.paper_rules.specs.Values.{lineBlank, rule15}
 use Rattle.paper_rules.specs.Flags.{rule17}
-use Rattle.paper_rules.specs.Order.{findings, Before, noFinding, Least}
-use Rattle.paper_rules.proofs.SomeColumns.{used-few}
+use Rattle.paper_rules.specs.Order.{findings}
+use Rattle.paper_faults.specs.Least.{Before, noFinding, Least}
+use Rattle.paper_rules.proofs.FewUsed.{used-few}
 use Rattle.paper_rules.proofs.ByKind.{of-two, of-headings, of-units, of-values}
 use Rattle.refusal_table.specs.Table.{everyDue, withN1, withN2, countedN1, countedN2, headings, headingsAndUnits}
 use Rattle.refusal_table.specs.Table.{values, among, fieldsFirst, fieldsEleventh, refusals, noRow, TableAllows}

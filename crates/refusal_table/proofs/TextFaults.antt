@@ -15,11 +15,11 @@ use Rattle.paper_rules.specs.declared.types.Phase.{Phase}
 use Rattle.paper_rules.specs.declared.types.Phase.the-variants.{Start, Opened, InSubentry, InBib, AfterBib, InCommon}
 use Rattle.paper_rules.specs.declared.types.Phase.the-variants.{AfterCommon, InData, AfterData, Between, Done}
 use Rattle.paper_rules.specs.declared.types.Track.{Track}
-use Rattle.paper_rules.specs.Fault.{on, when}
+use Rattle.paper_faults.specs.Fault.{on, when}
 use Rattle.paper_rules.specs.Roles.{TEXT, NOT-DUE, isHeading}
 use Rattle.paper_rules.specs.Role.{bibRole, roleIn}
 use Rattle.paper_rules.specs.State.{Context}
-use Rattle.paper_rules.proofs.EitherWay.{no}
+use Rattle.laws.proofs.EitherWay.{no}
 use Rattle.paper_rules.proofs.RolePlaces.{inBib, text-in-bib}
 use Rattle.paper_rules.specs.Text.{keywordFault, rule10, pointerRepeated, rule11Text}
 use Rattle.paper_rules.specs.Headings.{rule11Heading}

@@ -12,13 +12,15 @@ use Rattle.laws.specs.Blocks.{blockAt}
 use Rattle.laws.proofs.Search.{either}
 use Rattle.paper_record.specs.Identifier.{BIB, OTHER}
 use Rattle.paper_rules.specs.declared.types.Track.{Track}
-use Rattle.paper_rules.specs.Fault.{Record, Finding, on, leftmost}
+use Rattle.paper_rules.specs.Record.{Record}
+use Rattle.paper_faults.specs.Fault.{Finding, on, leftmost}
 use Rattle.paper_rules.specs.Roles.{TEXT, isHeading}
 use Rattle.paper_rules.specs.State.{Seen, Context}
 use Rattle.paper_rules.specs.Text.{rule10, rule11Text}
 use Rattle.paper_rules.specs.Headings.{rule11Heading}
 use Rattle.paper_rules.specs.Clean.{CleanEvery}
-use Rattle.paper_rules.specs.Order.{findings, noFinding, Before, Least}
+use Rattle.paper_rules.specs.Order.{findings}
+use Rattle.paper_faults.specs.Least.{noFinding, Before, Least}
 use Rattle.rules_plain.specs.Places.{Some}
 use Rattle.rules_plain.specs.Texts.{WrongKeyword, WrongPointer}
 use Rattle.rules_plain.proofs.Texts.{keyword-exactly, keyword-fine, text-pointer-exactly}

@@ -16,7 +16,7 @@ use Rattle.paper_rules.specs.declared.types.Phase.the-variants.{AfterCommon, In
 use Rattle.paper_rules.specs.declared.types.Track.{Track}
 use Rattle.paper_rules.specs.Roles.{TEXT, COMMON-VALUE, DATA-VALUE, NOT-DUE, isValue}
 use Rattle.paper_rules.specs.Role.{allRead, only, either as eitherOf, bibRole, dataRole, roleIn}
-use Rattle.paper_rules.proofs.EitherWay.{either-way, no}
+use Rattle.laws.proofs.EitherWay.{either-way, no}
 use Rattle.paper_rules.specs.Flags.{columnOver}
 use Rattle.rules_plain.specs.Places.{cell}
 use Rattle.paper_entry.specs.Contexts.{contextAt}

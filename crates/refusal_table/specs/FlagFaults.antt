@@ -7,7 +7,7 @@ use mathlib.Core.List.{List}
 use Rattle.paper_record.specs.Fields.{fieldAt}
 use Rattle.paper_record.specs.Identifier.{COMMON, DATA}
 use Rattle.paper_rules.specs.declared.types.Track.{Track}
-use Rattle.paper_rules.specs.Fault.{Record}
+use Rattle.paper_rules.specs.Record.{Record}
 use Rattle.paper_rules.specs.Roles.{isValue}
 use Rattle.rules_plain.specs.Places.{cell}
 use Rattle.rules_plain.specs.Repeated.{RecordsBefore}

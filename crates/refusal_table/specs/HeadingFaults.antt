@@ -12,8 +12,8 @@ use Rattle.laws.specs.Blocks.{blockAt}
 use Rattle.laws.specs.Walk.{All}
 use Rattle.paper_record.specs.Fields.{fieldAt}
 use Rattle.paper_rules.specs.Roles.{TEXT, DATA-HEADING, isHeading}
-use Rattle.paper_rules.specs.Fault.{Record}
-use Rattle.paper_rules.specs.Order.{Before}
+use Rattle.paper_rules.specs.Record.{Record}
+use Rattle.paper_faults.specs.Least.{Before}
 use Rattle.rules_plain.specs.Repeated.{RecordsBefore, SeenBefore, Repeated, Lost, FirstOf}
 use Rattle.paper_entry.specs.Verdict.{refused, lengthGood}
 use Rattle.paper_entry.specs.Judging.{judgeOf}

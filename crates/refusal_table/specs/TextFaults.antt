@@ -8,7 +8,7 @@ use mathlib.Core.Logic.{_↔_}
 use lib.ListN.{length}
 use Rattle.laws.specs.Blocks.{blockAt}
 use Rattle.laws.specs.Members.{listOf}
-use Rattle.paper_rules.specs.Fault.{Record}
+use Rattle.paper_rules.specs.Record.{Record}
 use Rattle.paper_rules.specs.Roles.{TEXT}
 use Rattle.paper_rules.specs.Clean.{CleanEvery}
 use Rattle.rules_plain.specs.Texts.{WrongKeyword, WrongPointer}

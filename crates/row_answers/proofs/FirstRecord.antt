@@ -22,7 +22,7 @@ use Rattle.paper_rules.specs.State.{Context}
 use Rattle.paper_rules.specs.Limits.{LAST-SUBENTRY}
 use Rattle.paper_rules.specs.Roles.{opensSubentry}
 use Rattle.paper_rules.specs.System.{formN1, inForm, rule7, numberDue}
-use Rattle.paper_rules.proofs.NoColumns.{when-none, append-none}
+use Rattle.paper_faults.proofs.NoColumns.{when-none, append-none}
 use Rattle.paper_rules.proofs.DueRecords.{fine-number}
 use Rattle.paper_rules.proofs.Clean.{clean-fine}
 use Rattle.paper_entry.specs.Judging.{Accepted}

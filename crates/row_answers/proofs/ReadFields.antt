@@ -28,12 +28,13 @@ use Rattle.paper_record.proofs.TablePlaces.{place-field}
 use Rattle.paper_rules.specs.declared.types.Track.{Track}
 use Rattle.paper_rules.specs.State.{Seen, used}
 use Rattle.paper_rules.specs.Roles.{isHeading, isUnit, isValue}
-use Rattle.paper_rules.specs.Fault.{when, fieldColumn, pointerColumn}
+use Rattle.paper_faults.specs.Fault.{when}
+use Rattle.paper_rules.specs.Record.{fieldColumn, pointerColumn}
 use Rattle.paper_rules.specs.Counts.{countN1}
 use Rattle.paper_rules.specs.Headings.{rule11Heading, rule12Heading, rule12Unit}
 use Rattle.paper_rules.specs.Values.{optional, lineBlank, rule15}
 use Rattle.paper_rules.specs.Clean.{Clean}
-use Rattle.paper_rules.proofs.NoColumns.{append-none, where-none}
+use Rattle.paper_faults.proofs.NoColumns.{append-none, where-none}
 use Rattle.paper_entry.specs.Judging.{Accepted}
 use Rattle.paper_entry.specs.Contexts.{contextAt}
 use Rattle.entry_walk.proofs.Laid.{rowRole}

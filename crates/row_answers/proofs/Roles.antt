@@ -16,7 +16,7 @@ use Rattle.paper_rules.specs.declared.types.Track.{Track}
 use Rattle.paper_rules.specs.State.{HEADINGS, UNITS}
 use Rattle.paper_rules.specs.Roles.{COMMON-HEADING, COMMON-UNIT, COMMON-VALUE, DATA-HEADING, DATA-UNIT, DATA-VALUE}
 use Rattle.paper_rules.specs.Role.{only, either as oneOf, bibRole, tableRole, dataRole, nextRole, allRead, roleIn}
-use Rattle.paper_rules.proofs.EitherWay.{either-way}
+use Rattle.laws.proofs.EitherWay.{either-way}
 
 -- the role is no identifier, or that of the record
 abbrev Own : ℕ → ℕ → Type 0

@@ -16,11 +16,11 @@ use Rattle.paper_record.specs.declared.types.RecordNo.{RecordNo}
 use Rattle.paper_rules.specs.declared.types.Track.{Track}
 use Rattle.paper_rules.specs.State.{Seen}
 use Rattle.paper_rules.specs.Roles.{isSystem}
-use Rattle.paper_rules.specs.Fault.{when}
+use Rattle.paper_faults.specs.Fault.{when}
 use Rattle.paper_rules.specs.System.{formN1, formN2, inForm, rule7}
 use Rattle.paper_rules.specs.Counts.{countN1, countN2, limitN1, limitN2, meets, announcedFault, rule8}
 use Rattle.paper_rules.specs.Clean.{Clean}
-use Rattle.paper_rules.proofs.NoColumns.{whens-none}
+use Rattle.paper_faults.proofs.NoColumns.{whens-none}
 use Rattle.paper_entry.specs.Judging.{judgeOf, Accepted}
 use Rattle.paper_entry.specs.Contexts.{contextAt, roleAt}
 use Rattle.paper_entry.specs.Answer.{Refusal, refusal, firstOf, isRefused}

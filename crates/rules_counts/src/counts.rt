@@ -3,7 +3,7 @@ ghost use mathlib.Core.Path.{_≡_};
 ghost use Prim.Native.Nat.{_-_};
 ghost use Rattle.paper_record.specs.Identifier.{NamesLent};
 ghost use Rattle.paper_rules.specs.Roles.{isSystem};
-ghost use Rattle.paper_rules.specs.Fault.{leftmost, on};
+ghost use Rattle.paper_faults.specs.Fault.{leftmost, on};
 ghost use Rattle.paper_rules.specs.Counts.{trueCount};
 ghost use Rattle.paper_rules.specs.Counts.{keywordsTrue, countTrue, rule8};
 use paper_rules::types::Track;

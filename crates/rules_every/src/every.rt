@@ -5,7 +5,7 @@ ghost use lib.ListN.{length, getD};
 ghost use Rattle.paper_record.specs.Columns.{Whole};
 ghost use Rattle.paper_record.specs.Class.{ClassesLent};
 ghost use Rattle.paper_rules.specs.Ranging.{Bounded};
-ghost use Rattle.paper_rules.specs.Fault.{leftmost};
+ghost use Rattle.paper_faults.specs.Fault.{leftmost};
 ghost use Rattle.paper_rules.specs.Every.{rule2, rule3, rule4, expectedIdentification, rule5, expectedSequence};
 ghost use Rattle.paper_rules.specs.Every.{rule6};
 use classes::class::permitted_to;

@@ -7,7 +7,7 @@ use mathlib.Core.List.{List, []}
 use lib.Dec.{eqb}
 use lib.ListN.{getD}
 use Rattle.paper_record.specs.Columns.{columnsAt}
-use Rattle.paper_rules.specs.Fault.{Fields}
+use Rattle.paper_rules.specs.Record.{Fields}
 use Rattle.paper_rules.specs.Flags.{flagFault}
 
 -- the field k is at fault under its heading, in the heading record at `from`

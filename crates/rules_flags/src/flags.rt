@@ -7,7 +7,7 @@ ghost use Rattle.paper_record.specs.Columns.{columnsAt};
 ghost use Rattle.paper_record.specs.Flags.{isFlagHeading};
 ghost use Rattle.paper_rules.specs.Ranging.{Stands, seenOf};
 ghost use Rattle.paper_rules.specs.Roles.{isValue};
-ghost use Rattle.paper_rules.specs.Fault.{leftmost, on};
+ghost use Rattle.paper_faults.specs.Fault.{leftmost, on};
 ghost use Rattle.paper_rules.specs.Flags.{recordsOver, flagColumn, flagWrong, flagFault, rule17};
 ghost use Rattle.rules_flags.specs.Below.{faultBelow, startsFlag, letterIn};
 ghost use Rattle.rules_flags.specs.Lent.{WholeRecords, Room, RecordAt};

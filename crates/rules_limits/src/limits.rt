@@ -1,7 +1,7 @@
 // The counts that a record announces, by the limits of each: part of refusal 8.
 ghost use mathlib.Core.Path.{_≡_};
 ghost use Prim.Native.Nat.{_-_, _*_, _<_};
-ghost use Rattle.paper_rules.specs.Fault.{leftmost};
+ghost use Rattle.paper_faults.specs.Fault.{leftmost};
 ghost use Rattle.paper_rules.specs.Counts.{limitN1, limitN2, Few, meets, announcedFault};
 use columns_places::places::records_for;
 use paper_rules::types::Limit;

@@ -2,7 +2,7 @@
 ghost use mathlib.Core.Path.{_≡_};
 ghost use Prim.Native.Nat.{_-_, _<_};
 ghost use Rattle.paper_rules.specs.Roles.{opensSubentry};
-ghost use Rattle.paper_rules.specs.Fault.{leftmost, on};
+ghost use Rattle.paper_faults.specs.Fault.{leftmost, on};
 ghost use Rattle.paper_rules.specs.System.{numberDue, rule9};
 use paper_rules::types::Track;
 use record::system::subentry_of;

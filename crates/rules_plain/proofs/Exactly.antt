@@ -6,9 +6,9 @@ use mathlib.Core.Bool.{Bool, true, false, cond}
 use mathlib.Core.List.{[], _∷_}
 use mathlib.Core.Logic.{_↔_, _⊎_, inl, inr}
 use Rattle.laws.proofs.Booleans.{differ}
-use Rattle.paper_rules.proofs.EitherWay.{either-way}
-use Rattle.paper_rules.specs.Fault.{when}
-use Rattle.paper_rules.proofs.SomeColumns.{some-column}
+use Rattle.laws.proofs.EitherWay.{either-way}
+use Rattle.paper_faults.specs.Fault.{when}
+use Rattle.paper_faults.proofs.NoColumns.{some-column}
 
 pub when-exactly : {P : Type 0} (b : Bool) (k : ℕ) → (b ≡ true) ↔ P → (when b k ≡ k ∷ []) ↔ P
 when-exactly true k h = (λ e. h .0 refl, λ p. refl)

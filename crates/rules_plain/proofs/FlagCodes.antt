@@ -20,7 +20,7 @@ use Rattle.paper_record.proofs.PlainColumns.{blank-exactly, blank-columns}
 use Rattle.paper_record.specs.Flags.{isFlag, isCode, codeNumber}
 use Rattle.paper_record.specs.PlainFlags.{Code, TextColumns}
 use Rattle.paper_record.proofs.CodeExactly.{code-exactly}
-use Rattle.paper_rules.specs.Fault.{Record}
+use Rattle.paper_rules.specs.Record.{Record}
 use Rattle.paper_rules.specs.Codes.{textOf, underFlag, codeOf, codesFrom, codesOf}
 use Rattle.paper_rules.proofs.CodesNext.{one-code}
 use Rattle.rules_plain.specs.Places.{Long, bibPlace, bibText}

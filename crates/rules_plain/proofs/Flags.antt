@@ -13,7 +13,7 @@ use Rattle.paper_record.specs.Fields.{fieldAt, fieldsOf}
 use Rattle.paper_record.proofs.ReadColumns.{field-of}
 use Rattle.paper_rules.specs.declared.types.Track.{Track}
 use Rattle.paper_rules.specs.State.{Seen, used}
-use Rattle.paper_rules.specs.Fault.{Record, fieldColumn}
+use Rattle.paper_rules.specs.Record.{Record, fieldColumn}
 use Rattle.paper_rules.specs.Codes.{codesOf}
 use Rattle.paper_rules.specs.Flags.{columnOver, headingOver, flagFaultAt, rule17}
 use Rattle.rules_plain.specs.Repeated.{RecordsBefore, SeenBefore, Finds}

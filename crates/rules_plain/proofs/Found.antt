@@ -10,7 +10,7 @@ use lib.ListN.{length, getD}
 use Rattle.laws.proofs.Booleans.{differ}
 use Rattle.laws.proofs.Search.{either}
 use Rattle.paper_record.proofs.PlainColumns.{equal-exactly}
-use Rattle.paper_rules.specs.Fault.{Record}
+use Rattle.paper_rules.specs.Record.{Record}
 use Rattle.paper_rules.specs.declared.types.Found.{Found}
 use Rattle.paper_rules.specs.declared.types.Found.the-variants.{At, Nothing}
 use Rattle.paper_rules.specs.Earlier.{equalHeading}

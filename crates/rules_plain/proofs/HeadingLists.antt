@@ -12,7 +12,7 @@ use Rattle.laws.specs.Members.{listOf}
 use Rattle.laws.proofs.Search.{either}
 use Rattle.paper_record.specs.Fields.{fieldsOf}
 use Rattle.paper_record.proofs.ReadColumns.{field-of}
-use Rattle.paper_rules.specs.Fault.{Record}
+use Rattle.paper_rules.specs.Record.{Record}
 use Rattle.paper_record.specs.Word.{pointerOf}
 use Rattle.paper_rules.specs.Earlier.{headingAt, headingsIn}
 use Rattle.paper_rules.specs.Pointers.{headingPointerAt, headingPointers}

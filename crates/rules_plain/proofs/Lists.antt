@@ -12,7 +12,7 @@ use Rattle.laws.specs.Blocks.{joined}
 use Rattle.laws.proofs.Blocks.{length-joined}
 use Rattle.paper_record.specs.Word.{pointerOf}
 use Rattle.paper_rules.specs.Text.{placeInPart, placesOf, pointerAt, pointersOf}
-use Rattle.paper_rules.specs.Fault.{Record}
+use Rattle.paper_rules.specs.Record.{Record}
 use Rattle.rules_plain.specs.Places.{Long, bibPlace, pointersIn}
 
 -- what f finds at each record of a part, where it goes from record to record and finds g at the first

@@ -7,7 +7,7 @@ use lib.ListN.{length}
 use Rattle.laws.specs.Blocks.{blocks, joined}
 use Rattle.laws.specs.Walk.{All}
 use Rattle.laws.proofs.Blocks.{blocks-joined, length-joined}
-use Rattle.paper_rules.specs.Fault.{Record}
+use Rattle.paper_rules.specs.Record.{Record}
 use Rattle.rules_plain.specs.Places.{Long}
 use Rattle.rules_plain.specs.Repeated.{RecordsBefore, OneBefore}
 

@@ -24,8 +24,8 @@ use Rattle.paper_record.proofs.PlainRepeats.{repeat-exactly}
 use Rattle.paper_record.proofs.PlainColumns.{equal-exactly}
 use Rattle.paper_rules.specs.declared.types.Track.{Track}
 use Rattle.paper_rules.specs.State.{Seen, used}
-use Rattle.paper_rules.specs.Fault.{Record, fieldColumn}
-use Rattle.paper_rules.proofs.SomeColumns.{used-few}
+use Rattle.paper_rules.specs.Record.{Record, fieldColumn}
+use Rattle.paper_rules.proofs.FewUsed.{used-few}
 use Rattle.paper_rules.specs.declared.types.Found.{Found}
 use Rattle.paper_rules.specs.Roles.{DATA-HEADING}
 use Rattle.paper_rules.specs.Earlier.{headingAt, headingsIn, equalHeading}

@@ -11,7 +11,7 @@ use Rattle.laws.specs.Blocks.{joined}
 use Rattle.laws.proofs.Search.{either}
 use Rattle.laws.proofs.Blocks.{length-joined}
 use Rattle.paper_record.specs.Fields.{fieldAt}
-use Rattle.paper_rules.specs.Fault.{Record}
+use Rattle.paper_rules.specs.Record.{Record}
 use Rattle.paper_record.specs.Word.{pointerOf}
 use Rattle.paper_rules.specs.Earlier.{headingAt, headingsIn}
 use Rattle.paper_rules.specs.Pointers.{headingPointerAt}

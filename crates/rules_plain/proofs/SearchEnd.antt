@@ -15,7 +15,7 @@ use Rattle.laws.proofs.Search.{either}
 use Rattle.laws.proofs.Counting.{first-before, first-holds}
 use Rattle.paper_record.specs.Fields.{fieldsOf}
 use Rattle.paper_record.specs.Word.{equalTo}
-use Rattle.paper_rules.specs.Fault.{Record}
+use Rattle.paper_rules.specs.Record.{Record}
 use Rattle.paper_rules.specs.declared.types.Found.{Found}
 use Rattle.paper_rules.specs.declared.types.Found.the-variants.{At, Nothing}
 use Rattle.paper_rules.specs.Earlier.{headingAt, headingsIn, equalAt, equalIn, equalHeading, sectionTurn, nowhere}

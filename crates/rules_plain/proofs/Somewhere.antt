@@ -9,7 +9,7 @@ use lib.ListN.{length, getD}
 use Rattle.laws.specs.Members.{anyOf}
 use Rattle.laws.proofs.Booleans.{differ}
 use Rattle.laws.proofs.Search.{either}
-use Rattle.paper_rules.specs.Fault.{columnsFrom}
+use Rattle.paper_faults.specs.Fault.{columnsFrom}
 use Rattle.rules_plain.specs.Places.{Some, here, further}
 
 -- ---- by its place

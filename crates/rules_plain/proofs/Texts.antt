@@ -26,7 +26,7 @@ use Rattle.paper_record.specs.Plain.{Word}
 use Rattle.paper_record.proofs.PlainColumns.{blank-exactly, equal-exactly, word-exactly}
 use Rattle.paper_record.proofs.PlainColumns.{pointer-exactly}
 use Rattle.paper_rules.specs.declared.types.Track.{Track}
-use Rattle.paper_rules.specs.Fault.{Record}
+use Rattle.paper_rules.specs.Record.{Record}
 use Rattle.paper_rules.specs.State.{Seen}
 use Rattle.paper_rules.specs.Text.{keywordFault, rule10, pointerRepeated, rule11Text}
 use Rattle.rules_plain.specs.Places.{Some, Long, bibPlace}

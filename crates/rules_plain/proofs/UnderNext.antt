@@ -7,7 +7,7 @@ use native.Mathlib.Omega.{arith}
 use lib.ListN.{length, length-append, List·getD-append}
 use lib.Seq.{drop-append-le, drop-append-seam, getD-append-seam}
 use Rattle.laws.proofs.Search.{either}
-use Rattle.paper_rules.specs.Fault.{Record}
+use Rattle.paper_rules.specs.Record.{Record}
 use Rattle.rules_plain.specs.Texts.{NoKeyword, earlier, UnderKeyword, from-keyword, no-keyword}
 
 -- before the first

@@ -26,7 +26,7 @@ use Rattle.paper_record.specs.Same.{SameColumns}
 use Rattle.paper_record.specs.PlainFlags.{Code}
 use Rattle.paper_rules.specs.declared.types.Track.{Track}
 use Rattle.paper_rules.specs.State.{Seen}
-use Rattle.paper_rules.specs.Fault.{Record}
+use Rattle.paper_rules.specs.Record.{Record}
 use Rattle.paper_rules.specs.Codes.{codesOf}
 use Rattle.paper_rules.specs.Flags.{columnOver, flagFault, rule17}
 use Rattle.rules_plain.specs.Places.{bibPlace, bibText, cell}

@@ -13,7 +13,7 @@ use lib.Dec.{eqb}
 use lib.ListN.{length, getD}
 use Rattle.laws.specs.Blocks.{joined}
 use Rattle.paper_record.specs.Same.{SameColumns}
-use Rattle.paper_rules.specs.Fault.{Record}
+use Rattle.paper_rules.specs.Record.{Record}
 use Rattle.paper_rules.specs.declared.types.Found.the-variants.{At, Nothing}
 use Rattle.paper_rules.specs.Earlier.{Earlier, equalHeading, earlier}
 use Rattle.rules_plain.specs.Repeated.{RecordsBefore, LongHeadings, headingsOn, tableSoFar}

@@ -6,7 +6,7 @@ use lib.ListN.{length, getD}
 use Rattle.paper_record.specs.Columns.{columnsAt}
 use Rattle.paper_record.specs.Fields.{fieldAt}
 use Rattle.paper_record.specs.Word.{pointerOf}
-use Rattle.paper_rules.specs.Fault.{Record}
+use Rattle.paper_rules.specs.Record.{Record}
 
 -- ---- lists
 

@@ -21,7 +21,8 @@ use Rattle.paper_record.specs.PlainRepeats.{MayRepeat}
 use Rattle.paper_rules.specs.declared.types.Track.{Track}
 use Rattle.paper_rules.specs.State.{Seen, used}
 use Rattle.paper_rules.specs.Roles.{DATA-HEADING}
-use Rattle.paper_rules.specs.Fault.{Record, Columns, fieldColumn}
+use Rattle.paper_rules.specs.Record.{Record, fieldColumn}
+use Rattle.paper_faults.specs.Fault.{Columns}
 use Rattle.paper_rules.specs.Headings.{rule13}
 use Rattle.paper_rules.specs.Pointers.{rule14}
 use Rattle.rules_plain.specs.Places.{concat, Some, Long, pointersIn, pointersOn}

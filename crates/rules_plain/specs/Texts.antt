@@ -15,7 +15,7 @@ use Rattle.paper_record.specs.Word.{pointerOf}
 use Rattle.paper_record.specs.Same.{SameColumns}
 use Rattle.paper_record.specs.Plain.{BlankColumns, Word, PointerOrBlank}
 use Rattle.paper_rules.specs.declared.types.Track.{Track}
-use Rattle.paper_rules.specs.Fault.{Record}
+use Rattle.paper_rules.specs.Record.{Record}
 use Rattle.paper_rules.specs.State.{Seen}
 use Rattle.paper_rules.specs.Text.{rule10, rule11Text}
 use Rattle.rules_plain.specs.Places.{Some, Long, bibPlace}

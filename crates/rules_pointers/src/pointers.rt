@@ -6,7 +6,7 @@ ghost use Rattle.laws.specs.Members.{anyOf};
 ghost use Rattle.laws.specs.Search.{first};
 ghost use Rattle.paper_rules.specs.Ranging.{Stands, seenOf};
 ghost use Rattle.paper_rules.specs.Roles.{DATA-HEADING};
-ghost use Rattle.paper_rules.specs.Fault.{leftmost, on};
+ghost use Rattle.paper_faults.specs.Fault.{leftmost, on};
 ghost use Rattle.paper_rules.specs.Pointers.{headingPointers, pointersFor, pointerLost, lostAt, rule14};
 use paper_rules::types::Ranges;
 use paper_rules::types::Track;

@@ -1,8 +1,9 @@
 // A fault of a record, and the columns where a rule finds one.
 ghost use mathlib.Core.Path.{_≡_};
 ghost use Prim.Native.Nat.{_+_, _*_, _≤_, _<_};
-ghost use Rattle.paper_rules.specs.Fault.{fieldColumn, pointerColumn, columnAt};
-use paper_rules::types::Fault;
+ghost use Rattle.paper_rules.specs.Record.{fieldColumn, pointerColumn};
+ghost use Rattle.paper_faults.specs.Fault.{columnAt};
+use paper_faults::types::Fault;
 
 // The first column of the field k of n, 0 where k is not below n.
 pub fn field_column(k: usize, n: usize) -> u8

@@ -7,7 +7,7 @@ ghost use Rattle.laws.specs.Search.{first};
 ghost use Rattle.paper_record.specs.Columns.{Whole};
 ghost use Rattle.paper_rules.specs.Ranging.{Stands, seenOf};
 ghost use Rattle.paper_rules.specs.Roles.{isHeading, isUnit};
-ghost use Rattle.paper_rules.specs.Fault.{leftmost, on};
+ghost use Rattle.paper_faults.specs.Fault.{leftmost, on};
 ghost use Rattle.paper_rules.specs.Repeats.{headingRepeated};
 ghost use Rattle.paper_rules.specs.Headings.{rule11Heading, rule12Heading, rule12Unit, rule13};
 use paper_rules::types::Ranges;

@@ -9,7 +9,7 @@ ghost use Rattle.paper_record.specs.Word.{equalTo};
 ghost use Rattle.paper_rules.specs.Ranging.{Stands};
 ghost use Rattle.paper_rules.specs.Parts.{bytesOf};
 ghost use Rattle.paper_rules.specs.Roles.{TEXT};
-ghost use Rattle.paper_rules.specs.Fault.{leftmost, on};
+ghost use Rattle.paper_faults.specs.Fault.{leftmost, on};
 ghost use Rattle.paper_rules.specs.Text.{placesOf, eightsOf, pointersOf, keywordFault, rule10, pointerRepeated};
 ghost use Rattle.paper_rules.specs.Text.{rule11Text};
 use columns::fields::field;

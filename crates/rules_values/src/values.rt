@@ -2,7 +2,7 @@
 ghost use mathlib.Core.Path.{_≡_};
 ghost use Prim.Native.Nat.{_-_, _<_};
 ghost use Rattle.paper_number.specs.Form.{Tables};
-ghost use Rattle.paper_rules.specs.Fault.{leftmost, on};
+ghost use Rattle.paper_faults.specs.Fault.{leftmost, on};
 ghost use Rattle.paper_rules.specs.Roles.{isValue};
 ghost use Rattle.paper_rules.specs.Values.{blankFields, lineBlank, valuesFor, rule15};
 use paper_record::types::Values;

@@ -15,7 +15,7 @@ use Rattle.paper_rules.specs.declared.types.Phase.the-variants.{Start, Opened, 
 use Rattle.paper_rules.specs.declared.types.Phase.the-variants.{InCommon, AfterCommon, InData, AfterData, Between, Done}
 use Rattle.paper_rules.specs.Roles.{NOT-DUE, opensSection}
 use Rattle.paper_rules.specs.Role.{allRead, only, either, bibRole, tableRole, dataRole, nextRole, roleIn}
-use Rattle.paper_rules.proofs.EitherWay.{no}
+use Rattle.laws.proofs.EitherWay.{no}
 use Rattle.paper_entry.specs.Due.{phaseAfter}
 use Rattle.system_records.specs.Next.{systemDue}
 

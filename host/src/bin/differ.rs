@@ -1,8 +1,9 @@
 //! Holds the library against the reference: on the sample and the sample with flags with every byte changed to every
 //! other, on a transmission with every byte of TRANS and ENDTRANS changed so, and on generated entries with their indexes and
-//! walks over their tables, transmissions, number fields and decimals, these also as doubles.
+//! walks over their tables, transmissions, number fields and decimals, these also as doubles; on sample lines in the CINDA2001 layout
+//! with every byte changed to every other, and on generated ones.
 //!
-//!     cargo run --release --bin differ -- [--seed N] [--entries N] [--files N] [--numbers N]
+//!     cargo run --release --bin differ -- [--seed N] [--entries N] [--files N] [--numbers N] [--lines N]
 
 #![forbid(unsafe_code)]
 
@@ -24,7 +25,9 @@ fn run() -> Result<ExitCode, String> {
     let entries = option(&arguments, "--entries", 20_000)?;
     let files = option(&arguments, "--files", 5_000)?;
     let numbers = option(&arguments, "--numbers", 1_000_000)?;
+    let lines = option(&arguments, "--lines", 100_000)?;
     println!("seed {seed}: {entries} entries, {files} transmissions, {numbers} number fields, {numbers} decimals");
+    println!("{lines} times lines");
     println!("answered {}", library::who_answers());
     let mut pair = Pair::new(&Library, &Reference);
     let every: Vec<u8> = (0..=255).collect();
@@ -38,7 +41,10 @@ fn run() -> Result<ExitCode, String> {
         .and_then(|()| pair.fields(seed, numbers))
         .and_then(|()| pair.decimals(seed, numbers))
         .and_then(|()| pair.double_fields(seed, numbers))
-        .and_then(|()| pair.double_decimals(seed, numbers));
+        .and_then(|()| pair.double_decimals(seed, numbers))
+        .and_then(|()| pair.line_bytes(include_bytes!("../../data/sample.cinda"), &every))
+        .and_then(|()| pair.line_limits())
+        .and_then(|()| pair.lines(seed, lines));
     print!("{}", pair.counts);
     match outcome {
         Ok(()) => {

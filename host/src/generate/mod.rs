@@ -1,7 +1,8 @@
 //! Makes inputs for tests: valid entries of every shape, entries damaged in known and unknown ways, transmissions of
-//! both, indexes, walks, number fields and decimals. Everything follows from a seed, so that a printed seed brings an input back.
+//! both, indexes, walks, number fields and decimals, lines in the CINDA2001 layout. Everything follows from a seed, so that a printed seed brings an input back.
 
 mod below;
+mod cinda;
 mod damage;
 mod doubles;
 mod files;
@@ -14,6 +15,7 @@ mod walk;
 mod workloads;
 
 pub use below::{added, any_bytes, with_below, Below, BELOW, BLANK};
+pub use cinda::{cinda_input, cinda_limits, cinda_line, cinda_lines, CINDA_CAUSES};
 pub use damage::{damage, damaged, noise, random_bytes, Damage, CAUSES};
 pub use doubles::{decimal_in_hand, double_field, halfway};
 pub use files::{damaged_file, file_input, file_limits, transmission, Parts, FILE_CAUSES};

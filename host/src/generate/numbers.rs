@@ -6,9 +6,25 @@ use crate::Decimal;
 /// Eleven columns that read to some number, in any of the spellings that the paper allows.
 pub fn spelling(random: &mut Random) -> [u8; 11] {
     let sign = random.one(&["", "", "", "+", "-"]);
-    let (tail, gap, inner) = tail(random);
+    let tail = tail(random);
+    laid_out(random, sign, tail)
+}
+
+/// The same in seven columns, where an exponent is short.
+pub fn narrow_spelling(random: &mut Random) -> [u8; 7] {
+    let sign = random.one(&["", "", "", "+", "-"]);
+    loop {
+        let (tail, gap, inner) = tail(random);
+        if sign.len() + tail.len() + gap + inner <= 5 {
+            return laid_out(random, sign, (tail, gap, inner));
+        }
+    }
+}
+
+/// Columns with a number that has this sign and this exponent.
+fn laid_out<const N: usize>(random: &mut Random, sign: &str, (tail, gap, inner): (String, usize, usize)) -> [u8; N] {
     // Sign, point, tail and its blanks take their columns; the digits take some of the rest.
-    let room = 11 - sign.len() - 1 - tail.len() - gap - inner;
+    let room = N - sign.len() - 1 - tail.len() - gap - inner;
     let digits = random.within(1, room);
     let before = random.within(0, digits);
     let mut text: String = (0..digits).map(|_| random.one(&['0', '0', '1', '2', '5', '9', '7'])).collect();
@@ -23,7 +39,7 @@ pub fn spelling(random: &mut Random) -> [u8; 11] {
     } else {
         format!("{:lead$}{sign}{text}{:gap$}{figures}", "", "", lead = room - digits)
     };
-    field.into_bytes().try_into().expect("eleven columns")
+    field.into_bytes().try_into().expect("so many columns")
 }
 
 /// Eleven columns with a number as tables have it: one to six digits, in five spellings, at either end of the field.
@@ -66,16 +82,25 @@ fn tail(random: &mut Random) -> (String, usize, usize) {
 
 /// Eleven columns: a number, a number with one or two columns changed, letters of numbers at random, or blanks.
 pub fn number_field(random: &mut Random) -> [u8; 11] {
+    field(random, spelling)
+}
+
+/// The same in seven columns.
+pub fn narrow_field(random: &mut Random) -> [u8; 7] {
+    field(random, narrow_spelling)
+}
+
+fn field<const N: usize>(random: &mut Random, spelling: fn(&mut Random) -> [u8; N]) -> [u8; N] {
     const LETTERS: &[u8] = b"  +-..E0123456789";
     const OTHERS: &[u8] = b" +-.E0159eDdNX,:/#\t\n\xB0";
     let mut field = match random.below(20) {
-        0 => [b' '; 11],
+        0 => [b' '; N],
         1..=3 => std::array::from_fn(|_| random.one(LETTERS)),
         _ => spelling(random),
     };
     for _ in 0..random.one(&[0, 0, 1, 1, 2]) {
         let among = if random.once_in(3) { OTHERS } else { LETTERS };
-        field[random.below(11)] = random.one(among);
+        field[random.below(N)] = random.one(among);
     }
     field
 }

@@ -99,10 +99,15 @@ pub fn read_number(field: &[u8]) -> Result<FieldRead, NoAnswer> {
     if field.len() != 11 {
         return Err(NoAnswer::numbered(40));
     }
-    match read(field) {
-        Reading::Blank => Ok(FieldRead::BLANK),
-        Reading::Number(decimal) => Ok(FieldRead { value: Value::Number(decimal), digits: digits_written(field) }),
-        Reading::Malformed => Err(NoAnswer::numbered(15)),
+    read_columns(field).ok_or(NoAnswer::numbered(15))
+}
+
+/// The same of any columns, none where they are malformed: the last of them is the one that an exponent ends in.
+pub fn read_columns(columns: &[u8]) -> Option<FieldRead> {
+    match read(columns) {
+        Reading::Blank => Some(FieldRead::BLANK),
+        Reading::Number(decimal) => Some(FieldRead { value: Value::Number(decimal), digits: digits_written(columns) }),
+        Reading::Malformed => None,
     }
 }
 

@@ -1,4 +1,4 @@
-/* Asks every call about mutated entries and transmissions of them, and checks what holds of every answer:
+/* Asks every call about mutated entries, transmissions of them and lines, and checks what holds of every answer:
  * fuzz SEED ROUNDS FILE..
  *
  * Each buffer ends where a page begins that may not be touched (in every other round it begins behind one), so that a
@@ -964,6 +964,212 @@ static void transmissions(Buffer *file, Buffer *copy, Buffer *again, size_t coun
     check(!memcmp(file->bytes, work, n), "the file is only read");
 }
 
+/* ---- lines in the CINDA2001 layout */
+
+static uint64_t line_refusals[128];
+
+static uint64_t cinda_refused(uint64_t word) {
+    line_refusals[x4_refusal(word) & 127]++;
+    return word;
+}
+
+/* what a field of a line may hold, good or not, and where */
+static const struct {
+    size_t first;
+    const char *text;
+} field_texts[] = {
+    {0, "D"}, {0, "M"}, {0, "B"}, {0, "a"}, {1, "999MNY"}, {1, " 99MNY"}, {1, "  0"}, {1, "92 "}, {1, "   "},
+    {4, "MNY"}, {4, "CMP"}, {4, "  0"}, {4, "2 3"}, {7, "1"}, {7, "M"}, {1, "999MNX"}, {33, "1 99"}, {33, "L   "},
+    {33, "l198"}, {33, "    "}, {37, "1 "}, {37, "  "}, {37, "99"}, {79, "199412"}, {79, "199413"}, {79, "199400"},
+    {79, "1994  "}, {79, "      "}, {125, "\r"}, {8, "P,X+N  "}, {85, " # "}, {85, "%<>:;"}, {55, "  "},
+};
+static const char *energy_texts[] = {"       ", "  1.0+6", "14.    ", "+1.4+07", " 1.40E7", "  2.5-2", "  1000.", " 1.+100",
+                                     "    -.0", ".1-9999", "1.0 E 6", " 9.9+99", "NDG    ", "     +6", "1.0+6  ", "     14"};
+
+/* one to six lines, each changed up to four times; at times a byte more or less */
+static size_t some_lines(void) {
+    static const char made[] = "A 92235 N,F            CS  USAORLL198 1E   1.0+6    14.2JPR/C,49,2549          199405Name+ TBL ";
+    size_t count = 1 + below(6);
+    for (size_t i = 0; i < count; i++) {
+        uint8_t *line = work + X4_CINDA_LINE * i;
+        memset(line, ' ', X4_CINDA_LINE);
+        memcpy(line, made, sizeof made - 1);
+        line[X4_CINDA_LINE - 1] = '\n';
+        for (int energy = 41; energy <= 48; energy += 7) {
+            memcpy(line + energy, energy_texts[below(below(8) ? 12 : 16)], 7);
+            for (size_t k = below(6); k == 0; k++) {
+                line[energy + (int)below(7)] = (uint8_t) " 0123456789+-.E"[below(15)];
+            }
+        }
+        for (size_t times = below(4) / 2; times > 0; times--) {
+            size_t which = below(sizeof field_texts / sizeof *field_texts);
+            memcpy(line + field_texts[which].first, field_texts[which].text, strlen(field_texts[which].text));
+        }
+        if (!below(12)) {
+            line[below(X4_CINDA_LINE)] = (uint8_t)bits();
+        }
+    }
+    size_t n = X4_CINDA_LINE * count;
+    return below(12) ? n : below(3) ? n + below(3) - 1 : below(2) ? below(n + 1) : 0;
+}
+
+static int is_integer(const uint8_t *columns, int width) {
+    int at = 0;
+    for (; at < width - 1 && columns[at] == ' '; at++) {
+    }
+    for (; at < width && columns[at] >= '0' && columns[at] <= '9'; at++) {
+    }
+    return at == width;
+}
+
+static int is_energy(const uint8_t *columns) {
+    uint8_t wide[11];
+    uint64_t read[8];
+    memset(wide, ' ', 4);
+    memcpy(wide + 4, columns, 7);
+    return x4_read_number(wide, 11, read) == 0;
+}
+
+/* the first fault of a line as the request has it, its number and its column; energies by the number reader */
+static uint64_t fault(const uint8_t *l) {
+    static const char permitted[] =
+        " ABCDEFGHIJKLMNOPQRSTUVWXYZabcdefghijklmnopqrstuvwxyz0123456789+-.)(*/=',%<>:;!?&";
+    if (l[125] != '\n') return 71 | 126 << 16;
+    for (uint64_t i = 0; i < 125; i++) {
+        if (!memchr(permitted, l[i], sizeof permitted - 1)) return 72 | (i + 1) << 16;
+    }
+    int many = !memcmp(l + 4, "MNY", 3), area = (l[33] >= 'A' && l[33] <= 'Z') || is_integer(l + 33, 1);
+    if (!strchr("ADM", l[0])) return 73 | 1 << 16;
+    if (many ? memcmp(l + 1, "999", 3) != 0 : !is_integer(l + 1, 3)) return 74 | 2 << 16;
+    if (!many && !is_integer(l + 4, 3)) return 74 | 5 << 16;
+    if (l[7] != ' ' && !is_integer(l + 7, 1)) return 74 | 8 << 16;
+    if (!area || !is_integer(l + 34, 3)) return 75 | 34 << 16;
+    if (!is_integer(l + 37, 2)) return 75 | 38 << 16;
+    if (!is_energy(l + 41)) return 76 | 42 << 16;
+    if (!is_energy(l + 48)) return 76 | 49 << 16;
+    for (int i = 79; i < 85; i++) {
+        if (!is_integer(l + i, 1)) return 77 | 80 << 16;
+    }
+    return memcmp(l + 83, "01", 2) < 0 || memcmp(l + 83, "12", 2) > 0 ? 77 | 80 << 16 : 0;
+}
+
+/* the word of a check: 70 by the length, then the first line with a fault */
+static uint64_t cinda_due(const uint8_t *lines, size_t n) {
+    if (n == 0 || n % X4_CINDA_LINE != 0) return 70;
+    for (size_t line = 1; line <= n / X4_CINDA_LINE; line++) {
+        uint64_t found = fault(lines + X4_CINDA_LINE * (line - 1));
+        if (found) return found | (uint64_t)line << 24;
+    }
+    return 0;
+}
+
+/* what an integer says */
+static void integer_is(uint64_t n, const uint8_t *columns, int width) {
+    uint64_t read = 0;
+    int at = 0;
+    for (; at < width - 1 && columns[at] == ' '; at++) {
+    }
+    for (; at < width; at++) {
+        read = 10 * read + (uint64_t)(columns[at] - '0');
+    }
+    check(n == read, "an integer");
+}
+
+/* an energy is what the number reader says of it, four blanks in front; and its canonical field is the writer's */
+static void energy_is(const uint64_t *v, const uint8_t *columns, const uint8_t *copied) {
+    uint8_t wide[11], canonical[11];
+    uint64_t read[8];
+    memset(wide, ' ', 4);
+    memcpy(wide + 4, columns, 7);
+    check(!x4_read_number(wide, 11, read) && !memcmp(read, v, sizeof read), "an energy is a number field");
+    memset(canonical, ' ', 11);
+    check(!x4_is_number(v) || !x4_write_number(x4_negative(v) ? 1 : 0, x4_coefficient(v), x4_power(v), canonical, 11),
+          "which can be written");
+    check(!copied || !memcmp(canonical + 4, copied, 7), "its canonical field");
+}
+
+static Buffer apart[3];
+
+/* one line taken apart: refused as all are, by 34, or its fields */
+static void cinda_line(const Buffer *lines, uint64_t verdict, uint32_t n, const uint8_t *copied) {
+    uint64_t *a[3];
+    for (int i = 0; i < 3; i++) {
+        if (!apart[i].pages) apart[i] = fenced();
+        lay(&apart[i], i ? 64 : 112);
+        memset(apart[i].bytes, 0xa5, apart[i].length);
+        a[i] = (uint64_t *)(void *)apart[i].bytes;
+    }
+    uint64_t word = cinda_refused(x4_cinda_line(lines->bytes, lines->length, n, a[0], a[1], a[2]));
+    uint64_t due = verdict ? verdict : n < 1 || n > lines->length / X4_CINDA_LINE ? 34 : 0;
+    check(word == due, "a line: refused as all are, or by 34");
+    for (int i = 0; i < 3; i++) {
+        for (size_t k = 0; k < apart[i].length && word; k++) {
+            check(apart[i].bytes[k] == 0xa5, "a refused line stores nothing");
+        }
+    }
+    uint64_t *p = lend(12);
+    check(x4_cinda_pieces(lines->bytes, lines->length, n, p) == word, "its parts are refused as it is");
+    untouched(word);
+    if (word) return;
+    const uint8_t *l = lines->bytes + X4_CINDA_LINE * (size_t)(n - 1);
+    static const uint64_t places[12] = {0, 126, 8, 15, 23, 4, 27, 6, 57, 22, 85, 40};
+    for (int i = 0; i < 12; i++) {
+        check(p[i] == places[i] + (i % 2 ? 0 : X4_CINDA_LINE * (uint64_t)(n - 1)), "its parts");
+    }
+    static const int bytes[] = {X4_CINDA_OPERATION, 0, X4_CINDA_ISOMER, 7, X4_CINDA_AREA, 33, X4_CINDA_WORK, 39,
+                                X4_CINDA_READER, 40, X4_CINDA_HIERARCHY, 55, X4_CINDA_TYPE, 56};
+    for (size_t i = 0; i < sizeof bytes / sizeof *bytes; i += 2) {
+        check(a[0][bytes[i]] == l[bytes[i + 1]], "a character");
+    }
+    int many = !memcmp(l + 4, "MNY", 3);
+    check(a[0][X4_CINDA_MANY] == (uint64_t)many && (!many || !a[0][X4_CINDA_A]), "many nuclei");
+    if (!many) integer_is(a[0][X4_CINDA_A], l + 4, 3);
+    integer_is(a[0][X4_CINDA_Z], l + 1, 3);
+    integer_is(a[0][X4_CINDA_BLOCK], l + 34, 3);
+    integer_is(a[0][X4_CINDA_SEQUENCE], l + 37, 2);
+    integer_is(a[0][X4_CINDA_YEAR], l + 79, 4);
+    integer_is(a[0][X4_CINDA_MONTH], l + 83, 2);
+    check(!many || a[0][X4_CINDA_Z] == 999, "999 beside MNY");
+    check(a[0][X4_CINDA_MONTH] >= 1 && a[0][X4_CINDA_MONTH] <= 12, "a month");
+    energy_is(a[1], l + 41, copied ? copied + X4_CINDA_LINE * (size_t)(n - 1) + 41 : NULL);
+    energy_is(a[2], l + 48, copied ? copied + X4_CINDA_LINE * (size_t)(n - 1) + 48 : NULL);
+}
+
+/* lines written back: refused as all are, or by 37; the copy is good, its own copy, and other in energies alone */
+static int cinda_back(const Buffer *lines, Buffer *copy, Buffer *again, uint64_t verdict) {
+    size_t n = lines->length, room = below(3) ? n : below(2) ? n + below(40) : below(n + 1);
+    lay(copy, room);
+    memset(copy->bytes, '#', room);
+    uint64_t word = cinda_refused(x4_cinda_back(lines->bytes, n, copy->bytes, room));
+    check(word == (verdict ? verdict : room < n ? 37 : 0), "a copy: refused as all are, or by 37");
+    for (size_t i = word ? 0 : n; i < room; i++) {
+        check(copy->bytes[i] == '#', "a refused copy stores nothing, and bytes behind the lines stay");
+    }
+    if (word) return 0;
+    check(x4_cinda_check(copy->bytes, n) == 0, "a copy is good");
+    for (size_t i = 0; i < n; i++) {
+        size_t column = i % X4_CINDA_LINE;
+        check((column >= 41 && column < 55) || copy->bytes[i] == lines->bytes[i], "every other byte as it was");
+    }
+    lay(again, n);
+    check(!x4_cinda_back(copy->bytes, n, again->bytes, n) && !memcmp(again->bytes, copy->bytes, n), "its own copy");
+    return 1;
+}
+
+static void cinda(Buffer *lines, Buffer *copy, Buffer *again) {
+    size_t n = some_lines();
+    fill(lines, work, n);
+    uint64_t verdict = cinda_refused(x4_cinda_check(lines->bytes, n));
+    check(verdict == cinda_due(work, n), "the first fault of all lines");
+    const uint8_t *copied = cinda_back(lines, copy, again, verdict) ? copy->bytes : NULL;
+    uint32_t count = (uint32_t)(n / X4_CINDA_LINE);
+    for (uint32_t line = 0; line <= count + 1; line++) {
+        cinda_line(lines, verdict, line, copied);
+    }
+    cinda_line(lines, verdict, (uint32_t)bits(), copied);
+    check(!memcmp(lines->bytes, work, n), "the lines are only read");
+}
+
 int main(int count, char **words) {
     if (count < 4) {
         fputs("fuzz SEED ROUNDS FILE..\n", stderr);
@@ -992,6 +1198,9 @@ int main(int count, char **words) {
         transmissions(&entry, &copy, &again, (size_t)count - 3, words + 3);
         for (int i = 0; i < 8; i++) {
             any_decimal();
+        }
+        for (int i = 0; i < 4; i++) {
+            cinda(&entry, &copy, &again);
         }
     }
     printf("seeds %" PRIu64 " to %" PRIu64 ": %" PRIu64 " entries accepted, ", first, first + rounds - 1, accepted);
@@ -1029,7 +1238,13 @@ int main(int count, char **words) {
             printf(" %d:%" PRIu64, i, file_refusals[i]);
         }
     }
-    printf(", %" PRIu64 " of them refused in an entry, %" PRIu64 " entries begun; reasons by kind", inside, begun);
+    printf(", %" PRIu64 " of them refused in an entry, %" PRIu64 " entries begun; lines by refusal", inside, begun);
+    for (int i = 0; i < 128; i++) {
+        if (line_refusals[i]) {
+            printf(" %d:%" PRIu64, i, line_refusals[i]);
+        }
+    }
+    printf("; reasons by kind");
     for (int i = 0; i < 7; i++) {
         printf(" %d:%" PRIu64, i, kinds[i]);
     }

@@ -1,16 +1,17 @@
 //! Times the library beside the reference and beside other readers of numbers: same process, same input, medians.
 //!
-//!     cargo run --release --bin bench [-- --plot FILE | --index | --walk | --doubles | --peer FILE [--samples N] | --help]
+//!     cargo run --release --bin bench [-- --plot FILE | --index | --walk | --doubles | --lines | --peer FILE [--samples N] | --help]
 //!
 //! Each line has the time of one field, value or record: the median, its ratio to the library's, and the least, which
 //! says more where the machine had other work. `--plot` draws the times of judging, by the number of records, as SVG.
 //! `--index` times the index and the questions by it alone, `--walk` tables that are gone through value by value,
-//! `--doubles` fields that are read as doubles.
+//! `--doubles` fields that are read as doubles, `--lines` lines in the CINDA2001 layout.
 //! `--peer` times the library beside a reader written by hand instead: see `beside.rs`.
 
 #![forbid(unsafe_code)]
 
 mod beside;
+mod lines;
 #[cfg(test)]
 mod peer;
 #[cfg(test)]
@@ -534,6 +535,7 @@ bench --plot FILE                  the same, and draws the times of judging as S
 bench --index                      times the index, the questions by it and the tables alone
 bench --walk                       times tables gone through value by value, beside judging and reading, alone
 bench --doubles                    times fields read as doubles, beside other readers, alone
+bench --lines                      times lines in the CINDA2001 layout, beside a checker by hand, alone
 bench --peer FILE [--samples N]    times the library beside the reader in FILE, and prints ratios
 
 FILE is a module in Rust without dependencies. It is compiled with this program's sources, in target/peer, and has to
@@ -570,6 +572,7 @@ fn times(plot_file: Option<&str>) -> std::io::Result<()> {
     walking();
     doubles();
     transmissions();
+    lines::lines();
     plot_file.map_or(Ok(()), |file| std::fs::write(file, plot.svg()))
 }
 
@@ -600,6 +603,7 @@ fn main() -> std::io::Result<()> {
         ["--index"] => alone(by_index),
         ["--walk"] => alone(walking),
         ["--doubles"] => alone(doubles),
+        ["--lines"] => alone(lines::lines),
         ["--peer", file] => beside::run(file, RUNS),
         ["--peer", file, "--samples", samples] => match samples.parse() {
             Ok(0) | Err(_) => help(),

@@ -1,5 +1,5 @@
 use Rattle.paper_files.specs.Outside.{outsideFault}
-use Rattle.paper_rules.specs.Fault.{firstFault}
+use Rattle.paper_faults.specs.Fault.{firstFault}
 use borrow.Author.Tests.{eq-eqb, ne-eqb}
 use mathlib.Core.Path.{refl}
 use borrow.Author.Needs.{needs}

@@ -1,5 +1,5 @@
 use Rattle.paper_rules.specs.Counts.{announcedFault}
-use Rattle.paper_rules.specs.Fault.{leftmost}
+use Rattle.paper_faults.specs.Fault.{leftmost}
 use Rattle.paper_rules.specs.Counts.{limitN1, limitN2, meets}
 use Rattle.paper_index.proofs.CountsMet.{counts-met}
 use Rattle.paper_index.specs.Reads.{goodCounts}

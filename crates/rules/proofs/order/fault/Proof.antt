@@ -1,6 +1,6 @@
 use mathlib.Core.Path.{refl}
 use Rattle.laws.proofs.Promise.{said-too}
-use Rattle.paper_rules.specs.Fault.{faultAnswer, firstFault}
+use Rattle.paper_faults.specs.Fault.{faultAnswer, firstFault}
 use Rattle.paper_rules.specs.Order.{faultOf}
 use borrow.Author.Tests.{eq-eqb, ne-eqb}
 use Rattle.rules.proofs.order.fault.Statement.{statement}

@@ -1,4 +1,4 @@
-use Rattle.paper_rules.specs.Fault.{firstFault}
+use Rattle.paper_faults.specs.Fault.{firstFault}
 use borrow.Author.Tests.{eq-eqb, ne-eqb}
 use borrow.Author.Needs.{needs}
 use Rattle.rules.proofs.order.record_fault.Statement.{statement}

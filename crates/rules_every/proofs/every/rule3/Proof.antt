@@ -1,7 +1,7 @@
 use Rattle.record.proofs.Found.{permitted-first}
 use Prim.Native.Nat.{_+_}
 use Rattle.paper_record.specs.Class.{notPermitted}
-use Rattle.paper_rules.proofs.Leftmost.{leftmost-where}
+use Rattle.paper_faults.proofs.Leftmost.{leftmost-where}
 use Rattle.paper_rules.specs.Every.{rule3}
 use borrow.Author.Tests.{le-ltb, lt-ltb}
 use borrow.Author.Needs.{needs}

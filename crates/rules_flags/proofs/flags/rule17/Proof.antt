@@ -2,7 +2,7 @@ use Prim.Native.Nat.{_*_}
 use Rattle.rules_flags.proofs.Headings.{below-same, passed-over, records-lent}
 use Rattle.rules_flags.specs.Below.{letterIn}
 use Rattle.paper_rules.specs.Flags.{recordsOver, rule17}
-use Rattle.paper_rules.proofs.Leftmost.{leftmost-where}
+use Rattle.paper_faults.proofs.Leftmost.{leftmost-where}
 use Rattle.paper_rules.specs.Ranging.{seenOf}
 use borrow.Author.Tests.{le-ltb, not-false, not-true}
 use mathlib.Core.Bool.{false}

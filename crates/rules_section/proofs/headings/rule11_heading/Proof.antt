@@ -1,4 +1,4 @@
-use Rattle.paper_rules.proofs.Leftmost.{leftmost-where}
+use Rattle.paper_faults.proofs.Leftmost.{leftmost-where}
 use Rattle.paper_rules.specs.Headings.{rule11Heading}
 use borrow.Author.Tests.{not-false, not-true}
 use borrow.Author.Needs.{needs}

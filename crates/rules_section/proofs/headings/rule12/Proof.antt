@@ -1,4 +1,4 @@
-use Rattle.paper_rules.proofs.Leftmost.{leftmost-where}
+use Rattle.paper_faults.proofs.Leftmost.{leftmost-where}
 use Rattle.paper_rules.specs.Headings.{rule12Heading, rule12Unit}
 use borrow.Author.Needs.{needs}
 use Rattle.rules_section.proofs.headings.rule12.Statement.{statement}

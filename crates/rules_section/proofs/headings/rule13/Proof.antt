@@ -1,7 +1,8 @@
 use Prim.Native.Nat.{ℕ}
 use mathlib.Core.Path.{_∙_, ap}
-use Rattle.paper_rules.specs.Fault.{columnAt, fieldColumn}
-use Rattle.paper_rules.proofs.Leftmost.{leftmost-where}
+use Rattle.paper_faults.specs.Fault.{columnAt}
+use Rattle.paper_rules.specs.Record.{fieldColumn}
+use Rattle.paper_faults.proofs.Leftmost.{leftmost-where}
 use Rattle.paper_rules.specs.Headings.{rule13}
 use borrow.Author.Tests.{not-false, not-true}
 use borrow.Author.Needs.{needs}

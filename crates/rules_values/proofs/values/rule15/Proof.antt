@@ -1,4 +1,4 @@
-use Rattle.paper_rules.proofs.Leftmost.{leftmost-where}
+use Rattle.paper_faults.proofs.Leftmost.{leftmost-where}
 use Rattle.paper_rules.proofs.ReadValues.{fault-read}
 use Rattle.paper_rules.specs.Values.{rule15}
 use borrow.Author.Tests.{not-false, not-true}

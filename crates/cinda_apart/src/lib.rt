@@ -1,0 +1,2 @@
+// A line in the CINDA2001 layout, taken apart.
+pub mod apart;

@@ -1,0 +1,9 @@
+pub mod LineBack
+pub mod SameOutside
+pub mod GoodLine
+pub mod GoodFile
+pub mod Back
+pub mod OneBack
+pub mod Asked
+pub mod Made
+pub mod MadeLine

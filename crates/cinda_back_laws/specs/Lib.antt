@@ -1,0 +1,3 @@
+pub mod Alike
+pub mod Back
+pub mod Made

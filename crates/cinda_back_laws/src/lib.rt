@@ -1,0 +1,1 @@
+// What is claimed of lines written back: they are good, read alike and are their own writing.

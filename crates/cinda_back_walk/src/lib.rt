@@ -1,0 +1,2 @@
+// Lines written back: the energies made canonical, every other byte as it is.
+pub mod lines;

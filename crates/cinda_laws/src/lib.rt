@@ -1,0 +1,1 @@
+// What is answered of lines in the CINDA2001 layout, in plain words.

@@ -1,0 +1,2 @@
+// What the calls about lines store and return.
+pub mod lines;
