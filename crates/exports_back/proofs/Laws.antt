@@ -28,13 +28,13 @@ use Rattle.paper_entry.specs.Answer.{answerOf, answerFor}
 use Rattle.paper_entry.specs.Verdict.{refusedWithin, accepted}
 use Rattle.paper_entry.specs.Judging.{judgeOf}
 use Rattle.exports_words.specs.Words.{answerWord, answerIn, lentAfter}
-use Rattle.exports_values.specs.Values.{bit, twos, valueNumbers, readingAnswer, readingStored, readingIn}
+use Rattle.exports_values.specs.Values.{valueNumbers, readingAnswer, readingStored, readingIn}
 use Rattle.exports_verdicts.specs.Verdicts.{verdictAnswer, totalsNumbers, verdictIn}
 use Rattle.paper_reasons.specs.Reason.{explain}
 use Rattle.exports_facts.proofs.FactsBack.{facts-back}
 use Rattle.exports_back.specs.Claims.{ReadingBack, VerdictBack, ExplainedBack}
 use Rattle.exports_back.proofs.Sizes.{NearRefusal, Fitting, accepting, refusing, judge-fits}
-use Rattle.exports_values.proofs.Twos.{twos-back}
+use Rattle.exports_values.proofs.Numbers.{numbers-back}
 
 -- ---- words
 
@@ -126,10 +126,6 @@ answer-fits s n h = beside-fits (judgeOf s) (judge-fits s) n h
 
 -- ---- readings
 
-bit-back : (b : Bool) → eqb (bit b) 1 ≡ b
-bit-back true = refl
-bit-back false = refl
-
 -- what comes back
 abbrev pub Held : ℕ → Reading → Type 0
 Held digits Blank = digits ≡ 0
@@ -147,7 +143,7 @@ pub held-back : (before : List ℕ) (digits : ℕ) (r : Reading) → Held digits
     → readingIn (answerWord (readingAnswer r)) (readingStored before (field r digits)) ≡ field r digits
 unfolding readingIn readingAnswer readingStored valueNumbers answerIn answerWord
 held-back before digits Blank h = rw h refl
-held-back before digits (Number v) h = rw (bit-back (v .negative), twos-back (v .power) (h .0) (h .1)) refl
+held-back before digits (Number v) h = ap (λ (r : Reading). field r digits) (numbers-back v digits (h .0) (h .1))
 held-back before digits (Refused n) h = rw (h .1) (refused-held n before (h .0 .0) (h .0 .1))
 
 -- every reading of eleven columns is held, with the count beside it

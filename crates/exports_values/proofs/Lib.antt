@@ -1,1 +1,2 @@
 pub mod Twos
+pub mod Numbers
