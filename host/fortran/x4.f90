@@ -1,7 +1,7 @@
 ! The functions of the proved archives (rt staticlib) for Fortran. The numbers are document 01's; the count of digits is
 ! that of document 02, M-104, refusal 17, a flag with an exponent or one that equals no code, that of M-105,
 ! transmissions are those of M-100, reasons those of M-108, the index of subentries is that of M-102, walks are those of
-! M-112, doubles those of M-107, and lines in the CINDA2001 layout those of M-113.
+! M-112, doubles those of M-107, lines in the CINDA2001 layout those of M-113, and codes under DECAY-DATA those of M-106.
 !
 ! A call returns a word, 0 where it is answered, and then stores what it answers in an array that is lent to it:
 ! totals(4) are subentries, keywords, DATA lines, numbers; value(8) are kind (0 blank, 1 number), 1 if below zero,
@@ -30,6 +30,7 @@ module x4
   public :: x4_ask_double, x4_index_ask_double, x4_read_double, x4_to_double, x4_kind_of
   public :: x4_cinda_length, x4_cinda_most, x4_cinda_fields
   public :: x4_cinda_checked, x4_cinda_taken, x4_cinda_parts, x4_cinda_copied
+  public :: x4_code, x4_group, x4_number, x4_code_of, x4_code_in, x4_code_taken, x4_group_of, x4_type_of, x4_energy_of
 
   ! The interface that this module describes; x4_version() is the same of the archives.
   integer(c_int32_t), parameter :: x4_interface = 4
@@ -123,6 +124,33 @@ module x4
     integer(c_int32_t) :: year = 0, month = 0
     character(len=40, kind=c_char) :: comment = ' '
   end type x4_cinda_fields
+
+  ! A code under DECAY-DATA: its run, and its fields before the groups; what is not given is empty, a half-life then blank. Its
+  ! refusal has in `place` the record and in `column` the column: 31, 32, 33, 36, 50, 51. Where a text is no code, the number is 50,
+  ! and `before` says how many characters stand before the first that no code has there.
+  type :: x4_code
+    type(x4_refused) :: refused
+    integer(c_int64_t) :: before = 0
+    character(len=:, kind=c_char), allocatable :: run
+    character(len=:, kind=c_char), allocatable :: flag, z, symbol, a, isomer, unit
+    type(x4_value) :: half_life
+    integer(c_int32_t) :: groups = 0
+    ! where these stand in the run, run(first(i):last(i)): flag, z, symbol, a, isomer, half-life, unit
+    integer :: first(7) = 1, last(7) = 0
+  end type x4_code
+
+  ! A number of a code, run(first:last), and its value; empty and blank where there is none.
+  type :: x4_number
+    integer :: first = 1, last = 0
+    type(x4_value) :: value
+  end type x4_number
+
+  ! A group of a code, if it is there: how many types and energies it has, and its abundance.
+  type :: x4_group
+    logical :: there = .false.
+    integer(c_int32_t) :: types = 0, energies = 0
+    type(x4_number) :: abundance
+  end type x4_group
 
   interface
     function x4_version() bind(c, name='x4_version') result(version)
@@ -400,6 +428,64 @@ module x4
       integer(c_size_t), value :: length, room
       integer(c_int64_t) :: word
     end function c_cinda_back
+
+    function c_decay(entry, length, subentry, pointer, code, out, room, run) bind(c, name='x4_decay') result(word)
+      import :: c_char, c_int8_t, c_int32_t, c_int64_t, c_size_t
+      character(kind=c_char), intent(in) :: entry(*)
+      integer(c_size_t), value :: length
+      integer(c_int32_t), value :: subentry, code
+      integer(c_int8_t), value :: pointer
+      character(kind=c_char), intent(inout) :: out(*)
+      integer(c_size_t), value :: room
+      integer(c_int64_t), intent(inout) :: run(1)
+      integer(c_int64_t) :: word
+    end function c_decay
+
+    function c_decay_in(passage, length, code, out, room, run) bind(c, name='x4_decay_in') result(word)
+      import :: c_char, c_int32_t, c_int64_t, c_size_t
+      character(kind=c_char), intent(in) :: passage(*)
+      integer(c_size_t), value :: length
+      integer(c_int32_t), value :: code
+      character(kind=c_char), intent(inout) :: out(*)
+      integer(c_size_t), value :: room
+      integer(c_int64_t), intent(inout) :: run(1)
+      integer(c_int64_t) :: word
+    end function c_decay_in
+
+    function c_decay_head(run, length, places, half) bind(c, name='x4_decay_head') result(word)
+      import :: c_char, c_int64_t, c_size_t
+      character(kind=c_char), intent(in) :: run(*)
+      integer(c_size_t), value :: length
+      integer(c_int64_t), intent(inout) :: places(15), half(8)
+      integer(c_int64_t) :: word
+    end function c_decay_head
+
+    function c_decay_group(run, length, group, numbers, abundance) bind(c, name='x4_decay_group') result(there)
+      import :: c_char, c_int32_t, c_int64_t, c_size_t
+      character(kind=c_char), intent(in) :: run(*)
+      integer(c_size_t), value :: length
+      integer(c_int32_t), value :: group
+      integer(c_int64_t), intent(inout) :: numbers(4), abundance(8)
+      integer(c_int64_t) :: there
+    end function c_decay_group
+
+    function c_decay_type(run, length, group, at, place) bind(c, name='x4_decay_type') result(there)
+      import :: c_char, c_int32_t, c_int64_t, c_size_t
+      character(kind=c_char), intent(in) :: run(*)
+      integer(c_size_t), value :: length
+      integer(c_int32_t), value :: group, at
+      integer(c_int64_t), intent(inout) :: place(2)
+      integer(c_int64_t) :: there
+    end function c_decay_type
+
+    function c_decay_energy(run, length, group, at, place, value) bind(c, name='x4_decay_energy') result(there)
+      import :: c_char, c_int32_t, c_int64_t, c_size_t
+      character(kind=c_char), intent(in) :: run(*)
+      integer(c_size_t), value :: length
+      integer(c_int32_t), value :: group, at
+      integer(c_int64_t), intent(inout) :: place(2), value(8)
+      integer(c_int64_t) :: there
+    end function c_decay_energy
   end interface
 
 contains
@@ -733,6 +819,131 @@ contains
     type(x4_refused) :: r
     r = refused_in(c_cinda_back(lines, len(lines, c_size_t), copy, len(copy, c_size_t)))
   end function x4_cinda_copied
+
+  ! A code of an entry, by subentry, pointer (blank for none) and its number. The entry is judged each time: for all codes take
+  ! the passage, and ask x4_code_in of it.
+  function x4_code_of(entry, subentry, pointer, code) result(c)
+    character(len=*, kind=c_char), intent(in) :: entry
+    integer(c_int32_t), intent(in) :: subentry, code
+    character(kind=c_char), intent(in) :: pointer
+    type(x4_code) :: c
+    character(len=:, kind=c_char), allocatable :: out
+    integer(c_int64_t) :: word, length(1)
+    ! a run is never longer than what it is of
+    allocate (character(len=len(entry)) :: out)
+    length = 0
+    word = c_decay(entry, len(entry, c_size_t), subentry, transfer(pointer, 0_c_int8_t), code, out, len(out, c_size_t), &
+                   length)
+    c = code_said(word, out(:int(length(1))))
+  end function x4_code_of
+
+  ! A code of a passage in hand, counted from 1; the place of its refusal counts in the passage. 36 where there is none.
+  function x4_code_in(passage, code) result(c)
+    character(len=*, kind=c_char), intent(in) :: passage
+    integer(c_int32_t), intent(in) :: code
+    type(x4_code) :: c
+    character(len=:, kind=c_char), allocatable :: out
+    integer(c_int64_t) :: word, length(1)
+    allocate (character(len=len(passage)) :: out)
+    length = 0
+    word = c_decay_in(passage, len(passage, c_size_t), code, out, len(out, c_size_t), length)
+    c = code_said(word, out(:int(length(1))))
+  end function x4_code_in
+
+  function code_said(word, run) result(c)
+    integer(c_int64_t), intent(in) :: word
+    character(len=*, kind=c_char), intent(in) :: run
+    type(x4_code) :: c
+    type(x4_refused) :: r
+    r = refused_in(word)
+    if (r%number == 0) then
+      c = x4_code_taken(run)
+    else
+      call no_code(c)
+      c%refused = r
+    end if
+  end function code_said
+
+  subroutine no_code(c)
+    type(x4_code), intent(inout) :: c
+    c%run = ''
+    c%flag = ''
+    c%z = ''
+    c%symbol = ''
+    c%a = ''
+    c%isomer = ''
+    c%unit = ''
+  end subroutine no_code
+
+  ! The code that a text is; 50 where it is none.
+  function x4_code_taken(run) result(c)
+    character(len=*, kind=c_char), intent(in) :: run
+    type(x4_code) :: c
+    integer(c_int64_t) :: word, p(15), half(8)
+    integer :: i
+    p = 0
+    half = 0
+    word = c_decay_head(run, len(run, c_size_t), p, half)
+    if (word /= 0) then
+      call no_code(c)
+      c%refused%number = int(ibits(word, 0, 8), c_int32_t)
+      c%before = ibits(word, 24, 40)
+      return
+    end if
+    do i = 1, 7
+      c%first(i) = int(p(2*i - 1)) + 1
+      c%last(i) = c%first(i) + int(p(2*i)) - 1
+    end do
+    c%run = run
+    c%flag = run(c%first(1):c%last(1))
+    c%z = run(c%first(2):c%last(2))
+    c%symbol = run(c%first(3):c%last(3))
+    c%a = run(c%first(4):c%last(4))
+    c%isomer = run(c%first(5):c%last(5))
+    c%unit = run(c%first(7):c%last(7))
+    c%half_life = value_in(0_c_int64_t, half)
+    c%groups = int(p(15), c_int32_t)
+  end function x4_code_taken
+
+  ! A group of a run, counted from 1.
+  function x4_group_of(run, group) result(g)
+    character(len=*, kind=c_char), intent(in) :: run
+    integer(c_int32_t), intent(in) :: group
+    type(x4_group) :: g
+    integer(c_int64_t) :: numbers(4), abundance(8)
+    g%there = c_decay_group(run, len(run, c_size_t), group, numbers, abundance) == 1
+    g%types = int(numbers(1), c_int32_t)
+    g%energies = int(numbers(2), c_int32_t)
+    g%abundance = number_in(numbers(3:4), abundance)
+  end function x4_group_of
+
+  ! A type of a group, both counted from 1; empty where there is none.
+  function x4_type_of(run, group, at) result(text)
+    character(len=*, kind=c_char), intent(in) :: run
+    integer(c_int32_t), intent(in) :: group, at
+    character(len=:, kind=c_char), allocatable :: text
+    integer(c_int64_t) :: place(2)
+    text = ''
+    if (c_decay_type(run, len(run, c_size_t), group, at, place) == 1) text = run(int(place(1)) + 1:int(place(1) + place(2)))
+  end function x4_type_of
+
+  ! An energy of a group, both counted from 1; empty and blank where there is none.
+  function x4_energy_of(run, group, at) result(n)
+    character(len=*, kind=c_char), intent(in) :: run
+    integer(c_int32_t), intent(in) :: group, at
+    type(x4_number) :: n
+    integer(c_int64_t) :: there, place(2), value(8)
+    there = c_decay_energy(run, len(run, c_size_t), group, at, place, value)
+    if (there == 1) n = number_in(place, value)
+  end function x4_energy_of
+
+  pure function number_in(place, value) result(n)
+    integer(c_int64_t), intent(in) :: place(2), value(8)
+    type(x4_number) :: n
+    n%first = int(place(1)) + 1
+    n%last = n%first + int(place(2)) - 1
+    n%value = value_in(0_c_int64_t, value)
+  end function number_in
 
   ! Stores the canonical copy in the front of a text that is as long as the entry or longer. Columns under FLAG and
   ! DECAY-FLAG stay as they were.

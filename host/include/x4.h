@@ -3,12 +3,14 @@
  * A slice of bytes or of numbers is a pointer and a length. Every call answers for every argument: nothing has to be
  * tested before, but a pointer must be that of so many bytes or numbers. The numbers are document 01's; the count of
  * digits is that of document 02, M-104, refusal 17 that of M-105, transmissions are those of M-100, reasons those of
- * M-108, the index is that of M-102, walks are those of M-112, doubles those of M-107, and CINDA lines those of M-113.
+ * M-108, the index is that of M-102, walks are those of M-112, doubles those of M-107, CINDA lines those of M-113, and
+ * codes under DECAY-DATA those of M-106.
  *
  * A call returns a word, 0 where it is answered, and then stores what it answers in the array that is lent to it, as
  * long as its parameter says. The words of x4_double, x4_index_double and x4_read_double have more in them, as is said
  * below. A refused call stores nothing, with these exceptions: x4_explain and x4_explain_file store the reason that they
- * are asked for; x4_walk_next with 15, the refusal of the value alone, the value's place and the walk.
+ * are asked for; x4_walk_next with 15, the refusal of the value alone, the value's place and the walk. The groups, types
+ * and energies of a code are given or not, and say so by 1 or 0 in place of a word.
  *
  *     bits    the word that a call returns
  *     0-7     the number of its refusal; 0 answered
@@ -343,12 +345,93 @@ enum {
     X4_CINDA_COMMENT = 10
 };
 
+/* ---- codes under DECAY-DATA: ((flag)nuclide,half-life,type,energy,abundance,type,..)
+ *
+ * A code is an optional flag, digits and a point in parentheses; a nuclide Z-S-A-X; an optional half-life, a number and a
+ * unit; and groups by position, each of types, energies and an abundance, types and energies split by slashes. Every record
+ * of a passage under DECAY-DATA with ( in column 12 opens a code, counted from 1. A code breaks, the rest of its record
+ * blank, only after a comma, and goes on in column 12; text behind it is passed over.
+ *
+ * A code is taken out as a run: one text without breaks, numbers but the flag in their shortest spelling, the rest as it
+ * was. Its fields are asked of the run, in which they are places: the first character, from 0, and how many. So an entry is
+ * judged once a code, or once for all of them: take the passage by an index, and its codes by x4_decay_in.
+ *
+ *     uint8_t run[4096];
+ *     uint64_t word, part[3], length[1], places[15], half[8], numbers[4], abundance[8], place[2], energy[8];
+ *     if (x4_index_passage(entry, n, index, 5 * rows[0], 2, (const uint8_t *)"DECAY-DATA", 10, ' ', part) == 0)
+ *         for (uint32_t j = 1;; j++) {
+ *             word = x4_decay_in(entry + part[0], part[1], j, run, sizeof run, length);
+ *             if (x4_refusal(word) == 36) break;
+ *             if (word) { .. x4_refusal(word), x4_entry_record(word), x4_entry_column(word) ..; continue; }
+ *             x4_decay_head(run, length[0], places, half);
+ *             printf("%.*s", (int)places[X4_DECAY_SYMBOL + 1], (const char *)run + places[X4_DECAY_SYMBOL]);
+ *             for (uint32_t k = 1; x4_decay_group(run, length[0], k, numbers, abundance); k++)
+ *                 for (uint32_t i = 1; x4_decay_energy(run, length[0], k, i, place, energy); i++) .. energy ..
+ *         }
+ */
+
+/* The run of a code, by subentry, pointer (blank for none) and the code's number, in the front of a slice of so many bytes
+ * that does not overlap the entry; run[0] is how many bytes it has, and bytes behind it stay. A slice as long as the passage
+ * is always long enough. Refusals, in this order:
+ *
+ *     31, 32, 33   as of x4_passage
+ *     36           no passage under DECAY-DATA with this pointer, or no such code in it
+ *     50           a character that no code can have there: x4_entry_record and x4_entry_column name it; where the passage
+ *                  ended, the record is the next one and the column 0
+ *     51           a break after no comma: record and column are those of the character before it
+ *     52           the slice is shorter than the run
+ *
+ * x4_entry_refusal is 0 beside all but 31. */
+uint64_t x4_decay(const uint8_t *entry, size_t length, uint32_t subentry, uint8_t pointer, uint32_t code, uint8_t *out,
+                  size_t room, uint64_t run[1]);
+
+/* The same of a passage in hand, whole records as x4_passage and x4_index_passage give them: nothing is judged, and the
+ * records of 50 and 51 count in the passage from 1. Of any bytes, of which only whole records count. Refusals: 36, 50, 51,
+ * 52. */
+uint64_t x4_decay_in(const uint8_t *passage, size_t length, uint32_t code, uint8_t *out, size_t room, uint64_t run[1]);
+
+/* The fields of a run before its groups. Their places are
+ *
+ *     places[X4_DECAY_FLAG]    the flag, with point  places[X4_DECAY_ISOMER]  G, M, M1 or M2, without its hyphen
+ *     places[X4_DECAY_Z]       Z of the nuclide      places[X4_DECAY_HALF]    number of the half-life
+ *     places[X4_DECAY_SYMBOL]  its symbol            places[X4_DECAY_UNIT]    its unit
+ *     places[X4_DECAY_A]       its A                 places[X4_DECAY_GROUPS]  how many groups there are
+ *
+ * each but the last with its length behind it; both are 0 where the code has none. The half-life is a value as x4_value has
+ * it, blank or a number; digits are not counted here. Of any bytes: 50 where they are no code, and then x4_decay_before says
+ * how many characters stand before the first that no code has there; nothing is stored. */
+uint64_t x4_decay_head(const uint8_t *run, size_t length, uint64_t places[15], uint64_t half[8]);
+
+/* These three return 1 where there is such a group, type or energy, all counted from 1, and else 0; 0 where the bytes are no
+ * code. They always store: zeros, which are a blank value, where there is none.
+ *
+ *     numbers[0] how many types      numbers[2] first character of the abundance
+ *     numbers[1] how many energies   numbers[3] its length
+ *
+ * Abundance and energy are values as x4_value has them, digits not counted. Each call reads the run from its front. */
+uint64_t x4_decay_group(const uint8_t *run, size_t length, uint32_t group, uint64_t numbers[4], uint64_t abundance[8]);
+uint64_t x4_decay_type(const uint8_t *run, size_t length, uint32_t group, uint32_t type, uint64_t place[2]);
+uint64_t x4_decay_energy(const uint8_t *run, size_t length, uint32_t group, uint32_t energy, uint64_t place[2],
+                         uint64_t value[8]);
+
+/* the places of a head; the length of each but the last stands behind it */
+enum {
+    X4_DECAY_FLAG = 0,
+    X4_DECAY_Z = 2,
+    X4_DECAY_SYMBOL = 4,
+    X4_DECAY_A = 6,
+    X4_DECAY_ISOMER = 8,
+    X4_DECAY_HALF = 10,
+    X4_DECAY_UNIT = 12,
+    X4_DECAY_GROUPS = 14
+};
+
 /* ---- the word that a call returns */
 
 /* 0 where the call is answered */
 static inline uint32_t x4_refusal(uint64_t word) { return (uint32_t)(word & 0xff); }
 
-/* of a refused verdict and beside refusal 31; zeros with any other refusal */
+/* of a refused verdict and beside refusal 31; column and record of a code beside 50 and 51; zeros with any other refusal */
 static inline uint32_t x4_entry_refusal(uint64_t word) { return (uint32_t)(word >> 8 & 0xff); }
 static inline uint32_t x4_entry_column(uint64_t word) { return (uint32_t)(word >> 16 & 0xff); }
 static inline uint32_t x4_entry_record(uint64_t word) { return (uint32_t)(word >> 24 & 0xffffff); }
@@ -357,6 +440,9 @@ static inline uint32_t x4_entry_ordinal(uint64_t word) { return (uint32_t)(word 
 /* of a refused call about lines, with 71 to 77 */
 static inline uint32_t x4_cinda_column(uint64_t word) { return (uint32_t)(word >> 16 & 0xff); }
 static inline uint32_t x4_cinda_at_line(uint64_t word) { return (uint32_t)(word >> 24 & 0xffffff); }
+
+/* of the word of x4_decay_head, where it is 50: so many characters, 2^40 - 1 at the most */
+static inline uint64_t x4_decay_before(uint64_t word) { return word >> 24; }
 
 /* of the words of x4_double, x4_index_double and x4_read_double alone: 0 blank or refused, 1 a double, 2 a decimal outside
  * the simple range; 0 to 10 digits */

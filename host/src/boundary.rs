@@ -8,6 +8,8 @@
 #[cfg(proved)]
 use crate::cinda::{Line, LinesRefusal, Pieces};
 #[cfg(proved)]
+use crate::decay::{CodeRefusal, GroupRead, HeadRead, NoCode, NumberRead, Place};
+#[cfg(proved)]
 use crate::walk::{Given, Walk};
 #[cfg(proved)]
 use crate::{words, Decimal, Explained, FieldRead, NoAnswer, Part, Verdict};
@@ -155,6 +157,34 @@ extern "C" {
     ) -> u64;
     fn x4_cinda_pieces(lines: *const u8, length: usize, line: u32, places: *mut [u64; 12]) -> u64;
     fn x4_cinda_back(lines: *const u8, length: usize, out: *mut u8, room: usize) -> u64;
+    fn x4_decay(
+        entry: *const u8,
+        length: usize,
+        subentry: u32,
+        pointer: u8,
+        code: u32,
+        out: *mut u8,
+        room: usize,
+        run: *mut [u64; 1],
+    ) -> u64;
+    fn x4_decay_in(passage: *const u8, length: usize, code: u32, out: *mut u8, room: usize, run: *mut [u64; 1]) -> u64;
+    fn x4_decay_head(run: *const u8, length: usize, places: *mut [u64; 15], half: *mut [u64; 8]) -> u64;
+    fn x4_decay_group(
+        run: *const u8,
+        length: usize,
+        group: u32,
+        numbers: *mut [u64; 4],
+        abundance: *mut [u64; 8],
+    ) -> u64;
+    fn x4_decay_type(run: *const u8, length: usize, group: u32, at: u32, place: *mut [u64; 2]) -> u64;
+    fn x4_decay_energy(
+        run: *const u8,
+        length: usize,
+        group: u32,
+        at: u32,
+        place: *mut [u64; 2],
+        value: *mut [u64; 8],
+    ) -> u64;
 }
 
 /// The version of the archives' interface, which is to be [`words::VERSION`].
@@ -450,6 +480,60 @@ pub fn cinda_back(lines: &[u8], buffer: &mut [u8]) -> Result<(), LinesRefusal> {
     let (first, room) = (buffer.as_mut_ptr(), buffer.len());
     // SAFETY: the lines are only read, and nobody else has the buffer while it is written.
     words::lines_answered(unsafe { x4_cinda_back(lines.as_ptr(), lines.len(), first, room) })
+}
+
+/// A code of an entry, into the front of a slice.
+#[cfg(proved)]
+pub fn decay(entry: &[u8], subentry: u32, pointer: u8, code: u32, out: &mut [u8]) -> Result<usize, CodeRefusal> {
+    let (first, room, mut run) = (out.as_mut_ptr(), out.len(), [0]);
+    // SAFETY: the entry is only read, nobody else has the slice while it is written, and the array is this call's own.
+    let word = unsafe { x4_decay(entry.as_ptr(), entry.len(), subentry, pointer, code, first, room, &mut run) };
+    words::code_answered(word).map(|()| run[0] as usize)
+}
+
+/// A code of a passage in hand, into the front of a slice.
+#[cfg(proved)]
+pub fn decay_in(passage: &[u8], code: u32, out: &mut [u8]) -> Result<usize, CodeRefusal> {
+    let (first, room, mut run) = (out.as_mut_ptr(), out.len(), [0]);
+    // SAFETY: the passage is only read, nobody else has the slice while it is written, and the array is this call's own.
+    let word = unsafe { x4_decay_in(passage.as_ptr(), passage.len(), code, first, room, &mut run) };
+    words::code_answered(word).map(|()| run[0] as usize)
+}
+
+/// The fields of a run before its groups.
+#[cfg(proved)]
+pub fn decay_head(run: &[u8]) -> Result<HeadRead, NoCode> {
+    let (mut places, mut half) = ([0; 15], [0; 8]);
+    // SAFETY: the pointer and the length are those of one slice, which is only read; the arrays are this call's own.
+    let word = unsafe { x4_decay_head(run.as_ptr(), run.len(), &mut places, &mut half) };
+    words::head(word, places, half)
+}
+
+/// A group of a run.
+#[cfg(proved)]
+pub fn decay_group(run: &[u8], group: u32) -> Option<GroupRead> {
+    let (mut numbers, mut abundance) = ([0; 4], [0; 8]);
+    // SAFETY: the pointer and the length are those of one slice, which is only read; the arrays are this call's own.
+    let there = unsafe { x4_decay_group(run.as_ptr(), run.len(), group, &mut numbers, &mut abundance) };
+    words::group(there, numbers, abundance)
+}
+
+/// A type of a group.
+#[cfg(proved)]
+pub fn decay_type(run: &[u8], group: u32, at: u32) -> Option<Place> {
+    let mut place = [0; 2];
+    // SAFETY: the pointer and the length are those of one slice, which is only read; the array is this call's own.
+    let there = unsafe { x4_decay_type(run.as_ptr(), run.len(), group, at, &mut place) };
+    words::kind(there, place)
+}
+
+/// An energy of a group.
+#[cfg(proved)]
+pub fn decay_energy(run: &[u8], group: u32, at: u32) -> Option<NumberRead> {
+    let (mut place, mut value) = ([0; 2], [0; 8]);
+    // SAFETY: the pointer and the length are those of one slice, which is only read; the arrays are this call's own.
+    let there = unsafe { x4_decay_energy(run.as_ptr(), run.len(), group, at, &mut place, &mut value) };
+    words::energy(there, place, value)
 }
 
 /// What C's own reader makes of a text: for comparisons of speed.
@@ -1079,5 +1163,144 @@ mod tests {
             assert_eq!(words, [0, 34, 34, 37], "line {line}");
             assert!(left.iter().all(|left| untouched(left)) && out.iter().all(|&byte| byte == b'#'));
         }
+    }
+
+    /// The word of each of the calls about a text, and what stands in their arrays, between numbers that are to stay.
+    fn apart_asked(run: &[u8], group: u32, at: u32) -> ([u64; 4], [Vec<u64>; 7]) {
+        let (first, length) = (run.as_ptr(), run.len());
+        let mut lent = [17, 10, 6, 10, 4, 4, 10].map(|room: usize| vec![BEFORE; room]);
+        // SAFETY: the pointer and the length are those of one slice, which is only read; the arrays are this function's own, and each
+        // has one number more on either side.
+        let words = unsafe {
+            let [places, half, numbers, abundance, kind, place, value] =
+                lent.each_mut().map(|lent| lent[1..].as_mut_ptr());
+            [
+                x4_decay_head(first, length, places.cast(), half.cast()),
+                x4_decay_group(first, length, group, numbers.cast(), abundance.cast()),
+                x4_decay_type(first, length, group, at, kind.cast()),
+                x4_decay_energy(first, length, group, at, place.cast(), value.cast()),
+            ]
+        };
+        assert!(lent.iter().all(|left| left[0] == BEFORE && left[left.len() - 1] == BEFORE), "beside an array");
+        (words, lent.map(|left| left[1..left.len() - 1].to_vec()))
+    }
+
+    /// What the calls about a run store, whatever they answer, and how the wrappers take it apart.
+    #[test]
+    fn codes_are_stored() {
+        let run = b"((12.)60-ND-138-M1, 5.04HR,DG/B+,328./-1.E5, .065,X)";
+        let (words, [places, half, numbers, abundance, kind, place, value]) = apart_asked(run, 1, 2);
+        assert_eq!(words, [0, 1, 1, 1]);
+        assert_eq!(places, [2, 3, 6, 2, 9, 2, 12, 3, 16, 2, 20, 4, 24, 2, 2]);
+        assert_eq!(half, [1, 0, 504, u64::MAX - 1, 0, 0, 0, 0]);
+        assert_eq!((numbers, abundance), (vec![2, 2, 45, 4], vec![1, 0, 65, u64::MAX - 2, 0, 0, 0, 0]));
+        assert_eq!((kind, place, value), (vec![30, 2], vec![38, 5], vec![1, 1, 1, 5, 0, 0, 0, 0]));
+        let (words, [_, _, numbers, abundance, kind, place, value]) = apart_asked(run, 2, 1);
+        assert_eq!(words, [0, 1, 1, 0]);
+        assert_eq!((numbers, abundance, kind), (vec![1, 0, 0, 0], vec![0; 8], vec![50, 1]));
+        assert_eq!((place, value), (vec![0; 2], vec![0; 8]));
+        for (group, at) in [(0, 1), (3, 1), (u32::MAX, 1), (1, 0), (1, 3), (1, u32::MAX)] {
+            let (words, [places, _, numbers, abundance, kind, place, value]) = apart_asked(run, group, at);
+            assert_eq!(words, [0, u64::from(group == 1), 0, 0], "{group} {at}");
+            assert_eq!((places[14], [kind, place].concat(), value), (2, vec![0; 4], vec![0; 8]));
+            assert!(group == 1 || [numbers, abundance].concat() == [0; 12], "a group that is not there is zeros");
+        }
+        let (_, [places, half, ..]) = apart_asked(b"(1-H-3)", 1, 1);
+        assert_eq!((places, half), (vec![0, 0, 1, 1, 3, 1, 5, 1, 0, 0, 0, 0, 0, 0, 0], vec![0; 8]));
+        for (text, at) in [("", 0), ("(1-H-3", 6), ("(1-H-3))", 7), ("(1-H-3-T)", 7)] {
+            let (words, [places, half, rest @ ..]) = apart_asked(text.as_bytes(), 1, 1);
+            assert_eq!(words, [50 + (at << 24), 0, 0, 0], "{text}");
+            assert!(untouched(&places) && untouched(&half) && rest.concat() == [0; 24], "{text}");
+            assert_eq!(decay_head(text.as_bytes()), Err(NoCode { at: at as usize }));
+        }
+        let head = decay_head(run).expect("a code");
+        let (stored, value) = words::head_stored(&head);
+        assert_eq!((&stored[..], &value[..]), (&apart_asked(run, 1, 1).1[0][..], &half_of(run)[..]));
+        assert_eq!((decay_group(run, 3), decay_type(run, 1, 3), decay_energy(run, 2, 1)), (None, None, None));
+        let energy = decay_energy(run, 1, 2).expect("it is there");
+        assert_eq!(energy.value, Decimal { negative: true, coefficient: 1, power: 5 });
+        assert_eq!(decay_type(run, 1, 1).map(|place| place.of(run).to_vec()), Some(b"DG".to_vec()));
+        assert_eq!(decay_group(run, 1).map(|group| (group.types, group.energies)), Some((2, 2)));
+    }
+
+    fn half_of(run: &[u8]) -> Vec<u64> {
+        apart_asked(run, 1, 1).1[1].clone()
+    }
+
+    /// The word of a code, the length that is stored, and a slice of so many bytes, between bytes that are to stay.
+    fn code_asked(entry: &[u8], asked: Option<(u32, u8)>, code: u32, room: usize) -> (u64, u64, Vec<u8>) {
+        let (first, length) = (entry.as_ptr(), entry.len());
+        let (mut run, mut out) = ([BEFORE; 3], vec![b'#'; room + 16]);
+        // SAFETY: pointers and lengths are those of slices, of which the entry is only read; the array is this function's own, and
+        // has one number more on either side.
+        let word = unsafe {
+            let (long, slice) = (run[1..].as_mut_ptr(), out[8..].as_mut_ptr());
+            match asked {
+                Some((n, pointer)) => x4_decay(first, length, n, pointer, code, slice, room, long.cast()),
+                None => x4_decay_in(first, length, code, slice, room, long.cast()),
+            }
+        };
+        assert!(run[0] == BEFORE && run[2] == BEFORE, "beside the array");
+        assert!(out[..8].iter().chain(&out[8 + room..]).all(|&byte| byte == b'#'), "beside the slice");
+        (word, run[1], out[8..8 + room].to_vec())
+    }
+
+    /// A run in the front of a slice, and bytes behind it that stay; of the entry and of its passage.
+    #[test]
+    fn runs_are_stored() {
+        let entry = include_bytes!("../data/decay.x4");
+        let passage = passage(entry, 2, b"DECAY-DATA", b' ').expect("it is there").of(entry);
+        let run = "(60-ND-139-G,30.MIN,B+,,.257,DG,405.,.055)";
+        for (bytes, asked) in [(&entry[..], Some((2, b' '))), (passage, None)] {
+            for room in [run.len(), run.len() + 1, 300] {
+                let due = format!("{run:#<room$}").into_bytes();
+                assert_eq!(code_asked(bytes, asked, 2, room), (0, run.len() as u64, due));
+            }
+            for room in 0..run.len() {
+                assert_eq!(code_asked(bytes, asked, 2, room), (52, BEFORE, vec![b'#'; room]), "52");
+            }
+        }
+        let mut out = [0; 300];
+        assert_eq!(decay(entry, 2, b' ', 2, &mut out), Ok(run.len()));
+        assert_eq!((decay_in(passage, 2, &mut out), &out[..run.len()]), (Ok(run.len()), run.as_bytes()));
+    }
+
+    /// Refused, nothing is stored; 50 and 51 have record and column, and 31 what the entry is refused for.
+    #[test]
+    fn refused_codes_store_nothing() {
+        let entry = include_bytes!("../data/decay.x4");
+        let at = |number: u64, record: u64, column: u64| number + (column << 16) + (record << 24);
+        for (n, pointer, code, word) in [
+            (2, b' ', 7, at(50, 24, 13)),
+            (2, b' ', 8, 36),
+            (2, b' ', 0, 36),
+            (2, b'2', 1, 36),
+            (1, b' ', 1, 36),
+            (3, b' ', 1, 32),
+            (u32::MAX, 255, u32::MAX, 32),
+        ] {
+            for room in [0, 1, 300] {
+                let asked = code_asked(entry, Some((n, pointer)), code, room);
+                assert_eq!(asked, (word, BEFORE, vec![b'#'; room]), "{n} {pointer} {code}");
+            }
+        }
+        let refused = 31 + (4 << 8) + (1 << 16) + (1 << 24);
+        assert_eq!(code_asked(&entry[RECORD..], Some((2, b' ')), 1, 9), (refused, BEFORE, vec![b'#'; 9]));
+        let passage = |texts: &[&str]| -> Vec<u8> {
+            texts.iter().flat_map(|text| format!("{:11}{text:69}\n", "").into_bytes()).collect()
+        };
+        for (texts, word) in [
+            (&["(1-H-3"][..], at(51, 1, 17)),
+            (&["(1-H-3,"], at(50, 2, 0)),
+            (&["(1-H-3,", ""], at(50, 2, 12)),
+            (&["TEXT", "(1-H-3,", "1.)"], at(50, 3, 14)),
+            (&["TEXT"], 36),
+            (&[], 36),
+        ] {
+            assert_eq!(code_asked(&passage(texts), None, 1, 99), (word, BEFORE, vec![b'#'; 99]), "{texts:?}");
+        }
+        // Only whole records count.
+        let whole = passage(&["(1-H-3,", "1.D)"]);
+        assert_eq!(code_asked(&whole[..161], None, 1, 20), (at(50, 2, 0), BEFORE, vec![b'#'; 20]));
     }
 }

@@ -3,6 +3,7 @@
 //! Each case has a seed of its own, which a difference names, so that the case can be made again.
 
 use crate::cinda::{Line, LinesRefusal, Pieces, LINE};
+use crate::decay::{CodeRefusal, GroupRead, HeadRead, NoCode, NumberRead, Place};
 use crate::generate::{self, Kind, Random, Sheet, BELOW, CAUSES};
 use crate::library::DoubleCalls;
 use crate::reference::record::permitted;
@@ -146,6 +147,31 @@ pub trait Implementation {
     fn cinda_back(&self, lines: &[u8], buffer: &mut [u8]) -> Result<(), LinesRefusal> {
         reference::cinda_back(lines, buffer)
     }
+    /// A code of an entry: subentry, pointer and which.
+    fn decay(&self, entry: &[u8], asked: (u32, u8, u32), out: &mut [u8]) -> Result<usize, CodeRefusal> {
+        let (subentry, pointer, code) = asked;
+        reference::decay(entry, subentry, pointer, code, out)
+    }
+    /// A code of a passage in hand.
+    fn decay_in(&self, passage: &[u8], code: u32, out: &mut [u8]) -> Result<usize, CodeRefusal> {
+        reference::decay_in(passage, code, out)
+    }
+    /// The fields of a run before its groups.
+    fn decay_head(&self, run: &[u8]) -> Result<HeadRead, NoCode> {
+        reference::decay_head(run)
+    }
+    /// A group of a run.
+    fn decay_group(&self, run: &[u8], group: u32) -> Option<GroupRead> {
+        reference::decay_group(run, group)
+    }
+    /// A type of a group.
+    fn decay_type(&self, run: &[u8], group: u32, at: u32) -> Option<Place> {
+        reference::decay_type(run, group, at)
+    }
+    /// An energy of a group.
+    fn decay_energy(&self, run: &[u8], group: u32, at: u32) -> Option<NumberRead> {
+        reference::decay_energy(run, group, at)
+    }
     /// What a program of another language is given for a double: its bits, and the word. By default what follows from the
     /// answers above.
     fn double_calls(&self, calls: DoubleCalls) -> (u64, u64) {
@@ -280,6 +306,25 @@ impl Implementation for Library {
     fn cinda_back(&self, lines: &[u8], buffer: &mut [u8]) -> Result<(), LinesRefusal> {
         library::cinda_back(lines, buffer)
     }
+    fn decay(&self, entry: &[u8], asked: (u32, u8, u32), out: &mut [u8]) -> Result<usize, CodeRefusal> {
+        let (subentry, pointer, code) = asked;
+        library::decay(entry, subentry, pointer, code, out)
+    }
+    fn decay_in(&self, passage: &[u8], code: u32, out: &mut [u8]) -> Result<usize, CodeRefusal> {
+        library::decay_in(passage, code, out)
+    }
+    fn decay_head(&self, run: &[u8]) -> Result<HeadRead, NoCode> {
+        library::decay_head(run)
+    }
+    fn decay_group(&self, run: &[u8], group: u32) -> Option<GroupRead> {
+        library::decay_group(run, group)
+    }
+    fn decay_type(&self, run: &[u8], group: u32, at: u32) -> Option<Place> {
+        library::decay_type(run, group, at)
+    }
+    fn decay_energy(&self, run: &[u8], group: u32, at: u32) -> Option<NumberRead> {
+        library::decay_energy(run, group, at)
+    }
     fn double_calls(&self, calls: DoubleCalls) -> (u64, u64) {
         let (double, word) = library::double_calls(calls);
         (double.to_bits(), word)
@@ -329,6 +374,10 @@ impl Tally {
     }
 
     fn add<T>(&mut self, answer: &Result<T, NoAnswer>) {
+        self.count(answer.as_ref().err().map_or(0, |refused| refused.number));
+    }
+
+    fn add_code<T>(&mut self, answer: &Result<T, CodeRefusal>) {
         self.count(answer.as_ref().err().map_or(0, |refused| refused.number));
     }
 
@@ -394,6 +443,14 @@ pub struct Counts {
     pub lines_apart: Tally,
     /// Lines written back.
     pub lines_back: Tally,
+    /// Codes of entries (M-106).
+    pub codes: Tally,
+    /// Codes of passages in hand, and of any bytes.
+    pub codes_in: Tally,
+    /// Runs taken apart, and texts that are no code: 0 and 50.
+    pub heads: Tally,
+    /// Groups, types and energies that were asked for: those that are there, and those that are not.
+    pub pieces: [u64; 2],
 }
 
 impl fmt::Display for Counts {
@@ -423,6 +480,9 @@ impl fmt::Display for Counts {
             ("verdicts on lines", &self.lines),
             ("lines taken apart", &self.lines_apart),
             ("lines written back", &self.lines_back),
+            ("codes of entries", &self.codes),
+            ("codes of passages", &self.codes_in),
+            ("texts taken apart as codes", &self.heads),
         ];
         for (name, Tally(tally)) in groups {
             writeln!(f, "{name}: {}", tally.values().sum::<u64>())?;
@@ -434,6 +494,8 @@ impl fmt::Display for Counts {
         writeln!(f, "walks found done: {own} times, of any numbers {any} times")?;
         let [blanks, doubles, outside] = self.simple;
         writeln!(f, "values as doubles: {blanks} blanks, {doubles} doubles, {outside} decimals outside")?;
+        let [there, missing] = self.pieces;
+        writeln!(f, "groups, types and energies of codes: {there} are there, {missing} are not")?;
         let [some, none] = self.begins;
         writeln!(f, "bytes of transmissions asked for an entry: {some} begin one, {none} do not")
     }
@@ -826,6 +888,162 @@ impl<'i> Pair<'i> {
         Ok(())
     }
 
+    /// Asks both about the codes of so many entries, of their passages in hand, and of texts.
+    pub fn codes(&mut self, seed: u64, count: u64) -> Result<(), Difference> {
+        for seed in seed..seed + count {
+            let random = &mut Random::seeded(seed ^ 106);
+            let entry = generate::decay_entry(random);
+            let asked = self.codes_of(random, &entry);
+            asked.map_err(|words| Difference { seed, words, input: entry })?;
+            let mut passage = generate::decay_passage(random);
+            for turn in 0..2 {
+                let asked = self.codes_in(random, &passage);
+                asked.map_err(|words| Difference { seed, words, input: passage.clone() })?;
+                // Any bytes, and records that are not whole.
+                let at = random.below(passage.len());
+                passage[at] = if turn == 0 { random.one(b"(),./ 1A#") } else { random.bits() as u8 };
+                passage.truncate(passage.len() - random.one(&[0, 0, 1, 15, 80, 81]).min(passage.len() - 1));
+            }
+            let text = if random.once_in(2) { generate::code(random) } else { generate::damaged_code(random) };
+            let asked = self.code_apart(random, text.as_bytes());
+            asked.map_err(|words| Difference { seed, words, input: text.into_bytes() })?;
+        }
+        Ok(())
+    }
+
+    /// Asks both about codes at the limits: of one record and of as many as an entry holds.
+    pub fn code_limits(&mut self) -> Result<(), Difference> {
+        for (records, text) in [(2, "DG,405.0,0.0550,"), (generate::LONGEST_CODE, "DG,405.0,0.0550,")] {
+            let entry = generate::long_entry(records, text);
+            let asked =
+                [0, 1, 2].into_iter().try_for_each(|code| self.code_of(&entry, (1, b' ', code), entry.len()).map(drop));
+            asked.map_err(|words| Difference { seed: 106, words, input: entry })?;
+        }
+        Ok(())
+    }
+
+    /// Codes of an entry by subentry, pointer and number, some of which are not there; and those of its passages in hand.
+    fn codes_of(&mut self, random: &mut Random, entry: &[u8]) -> Result<(), String> {
+        for subentry in 0..=4 {
+            for &pointer in b" 1239AMZa" {
+                let part = self.other.passage(entry, subentry, b"DECAY-DATA", pointer);
+                let Ok(part) = part else {
+                    self.code_of(entry, (subentry, pointer, random.below(3) as u32), 60)?;
+                    continue;
+                };
+                let passage = part.of(entry);
+                for code in 0..=openings(passage) + 1 {
+                    let asked = (subentry, pointer, code);
+                    let room = self.code_of(entry, asked, passage.len())?;
+                    self.code_of(entry, asked, room)?;
+                    self.code_of(entry, asked, room.saturating_sub(1))?;
+                    self.by_hand(entry, asked, &part, room)?;
+                }
+                self.codes_in(random, passage)?;
+            }
+        }
+        self.code_of(entry, (random.bits() as u32, b' ', 1), 60).map(drop)
+    }
+
+    /// One code of an entry in a slice of so many bytes, which others stand around: the length of its run, 0 where it is refused.
+    fn code_of(&mut self, entry: &[u8], asked: (u32, u8, u32), room: usize) -> Result<usize, String> {
+        let (one, first) = guarded(room, |out| self.one.decay(entry, asked, out))?;
+        let (other, second) = guarded(room, |out| self.other.decay(entry, asked, out))?;
+        same(&format!("decay {asked:?} in {room} bytes"), &(one, shown(&first)), &(other, shown(&second)))?;
+        self.counts.codes.add_code(&one);
+        Ok(one.unwrap_or(0))
+    }
+
+    /// The same code of the passage in hand, whose records count from its own first.
+    fn by_hand(&mut self, entry: &[u8], asked: (u32, u8, u32), part: &Part, room: usize) -> Result<(), String> {
+        let (full, first) = guarded(room, |out| self.one.decay(entry, asked, out))?;
+        let (own, second) = guarded(room, |out| self.one.decay_in(part.of(entry), asked.2, out))?;
+        let before = (part.offset / RECORD) as u32;
+        let own = own.map_err(|refused| match refused.record {
+            0 => refused,
+            record => CodeRefusal { record: record + before, ..refused },
+        });
+        let words = format!("decay {asked:?} in {room} bytes, and of the passage in hand");
+        same(&words, &(full, shown(&first)), &(own, shown(&second)))
+    }
+
+    /// The codes of a passage in hand, one more and 0, each in slices of some lengths; of a short run in every one.
+    fn codes_in(&mut self, random: &mut Random, passage: &[u8]) -> Result<(), String> {
+        for code in (0..=openings(passage) + 1).chain([random.bits() as u32]) {
+            let length = self.code_in(passage, code, passage.len())?;
+            let every = if length <= 40 { 0..=length + 2 } else { length - 1..=length + 1 };
+            for room in every {
+                self.code_in(passage, code, room)?;
+            }
+            let mut out = vec![0; passage.len()];
+            if let Ok(length) = self.one.decay_in(passage, code, &mut out) {
+                self.code_apart(random, &out[..length])?;
+                self.run_again(&out[..length])?;
+            }
+        }
+        Ok(())
+    }
+
+    fn code_in(&mut self, passage: &[u8], code: u32, room: usize) -> Result<usize, String> {
+        let (one, first) = guarded(room, |out| self.one.decay_in(passage, code, out))?;
+        let (other, second) = guarded(room, |out| self.other.decay_in(passage, code, out))?;
+        same(&format!("decay_in {code} in {room} bytes"), &(one, shown(&first)), &(other, shown(&second)))?;
+        self.counts.codes_in.add_code(&one);
+        Ok(one.unwrap_or(0))
+    }
+
+    /// "the run reads to the same fields": in one record it is its own run.
+    fn run_again(&mut self, run: &[u8]) -> Result<(), String> {
+        if run.len() > 55 {
+            return Ok(());
+        }
+        let record = format!("{:11}{:55}{:14}\n", "DECAY-DATA", String::from_utf8_lossy(run), "");
+        let (again, out) = guarded(run.len(), |out| self.one.decay_in(record.as_bytes(), 1, out))?;
+        same("decay_in of a run", &(again, shown(&out)), &(Ok(run.len()), shown(run)))
+    }
+
+    /// A text taken apart: every group, type and energy that it has, and those behind them.
+    fn code_apart(&mut self, random: &mut Random, text: &[u8]) -> Result<(), String> {
+        let (one, other) = (self.one.decay_head(text), self.other.decay_head(text));
+        same("decay_head", &one, &other)?;
+        self.counts.heads.count(if one.is_ok() { 0 } else { 50 });
+        let groups = one.map_or(0, |head| head.groups as u32);
+        for group in (0..=groups + 1).chain([random.bits() as u32]) {
+            let (one, other) = (self.one.decay_group(text, group), self.other.decay_group(text, group));
+            same(&format!("decay_group {group}"), &one, &other)?;
+            let count = one.map_or(0, |group| group.types.max(group.energies) as u32);
+            for at in (0..=count + 1).chain([random.bits() as u32]) {
+                let (kind, other) = (self.one.decay_type(text, group, at), self.other.decay_type(text, group, at));
+                same(&format!("decay_type {group} {at}"), &kind, &other)?;
+                let (read, other) = (self.one.decay_energy(text, group, at), self.other.decay_energy(text, group, at));
+                same(&format!("decay_energy {group} {at}"), &read, &other)?;
+                for there in [kind.is_some(), read.is_some()] {
+                    self.counts.pieces[usize::from(!there)] += 1;
+                }
+            }
+            self.counts.pieces[usize::from(one.is_none())] += 1;
+        }
+        Ok(())
+    }
+
+    /// Asks both to take a code apart with one byte changed, for every byte and all of these values; and as the passage of one
+    /// record, where it fits in one.
+    pub fn code_bytes(&mut self, code: &[u8], values: &[u8]) -> Result<(), Difference> {
+        let random = &mut Random::seeded(106);
+        let mut changed = code.to_vec();
+        for place in 0..code.len() {
+            for &value in values {
+                changed[place] = value;
+                let mut record = [b' '; RECORD];
+                record[11..11 + changed.len()].copy_from_slice(&changed);
+                let asked = self.code_apart(random, &changed).and_then(|()| self.code_in(&record, 1, RECORD).map(drop));
+                asked.map_err(|words| Difference { seed: place as u64, words, input: changed.clone() })?;
+            }
+            changed[place] = code[place];
+        }
+        Ok(())
+    }
+
     /// Asks both about the verdicts on the same entries and why, and nothing else.
     pub fn verdicts(&mut self, seed: u64, count: u64) -> Result<(), Difference> {
         for seed in seed..seed + count {
@@ -1097,6 +1315,26 @@ impl Question {
                 by.index_passage(entry, index, *subentry, keyword, *pointer).map(Answer::Part)
             }
         }
+    }
+}
+
+/// How many records have ( in column 12.
+fn openings(passage: &[u8]) -> u32 {
+    passage.chunks_exact(RECORD).filter(|record| record[11] == b'(').count() as u32
+}
+
+/// Bytes as text.
+fn shown(bytes: &[u8]) -> String {
+    String::from_utf8_lossy(bytes).into_owned()
+}
+
+/// What is answered with a slice of so many bytes, and the slice; bytes on either side of it are to stay.
+fn guarded<T>(room: usize, ask: impl Fn(&mut [u8]) -> T) -> Result<(T, Vec<u8>), String> {
+    let mut bytes = vec![b'#'; room + 16];
+    let answer = ask(&mut bytes[8..8 + room]);
+    match bytes[..8].iter().chain(&bytes[8 + room..]).all(|&byte| byte == b'#') {
+        true => Ok((answer, bytes[8..8 + room].to_vec())),
+        false => Err(format!("bytes beside a slice of {room} were stored")),
     }
 }
 

@@ -4,6 +4,7 @@
 #[cfg(proved)]
 use crate::boundary as archives_or_reference;
 use crate::cinda::{Line, LinesRefusal, Pieces};
+use crate::decay::{CodeRefusal, GroupRead, HeadRead, NoCode, NumberRead, Place};
 pub use crate::double::{DoubleRead, Simple};
 pub use crate::index::{Index, Row};
 #[cfg(not(proved))]
@@ -14,7 +15,7 @@ pub use crate::walk::{Placed, Values};
 use crate::{Decimal, Explained, FieldRead, NoAnswer, Part, Value, Verdict};
 
 /// Every call, in the order of this module.
-pub const CALLS: [&str; 29] = [
+pub const CALLS: [&str; 35] = [
     "judge",
     "value",
     "heading",
@@ -44,6 +45,12 @@ pub const CALLS: [&str; 29] = [
     "cinda_line",
     "cinda_pieces",
     "cinda_back",
+    "decay",
+    "decay_in",
+    "decay_head",
+    "decay_group",
+    "decay_type",
+    "decay_energy",
 ];
 
 /// The calls that the archives of proved functions answer in this build.
@@ -55,7 +62,7 @@ pub fn proved() -> &'static [&'static str] {
 }
 
 /// The paths of the archives that are linked, if they are.
-pub fn archives() -> Option<[String; 10]> {
+pub fn archives() -> Option<[String; 12]> {
     let folder = option_env!("X4_LINKED").filter(|_| cfg!(proved))?;
     let crates = [
         "exports",
@@ -68,6 +75,8 @@ pub fn archives() -> Option<[String; 10]> {
         "exports_doubles",
         "exports_reals",
         "exports_cinda",
+        "exports_decay",
+        "exports_codes",
     ];
     Some(crates.map(|name| format!("{folder}/libx4_{name}.a")))
 }
@@ -361,4 +370,40 @@ pub fn cinda_pieces(lines: &[u8], line: u32) -> Result<Pieces, LinesRefusal> {
 /// Refused, it stores nothing.
 pub fn cinda_back(lines: &[u8], buffer: &mut [u8]) -> Result<(), LinesRefusal> {
     archives_or_reference::cinda_back(lines, buffer)
+}
+
+/// Writes a code under DECAY-DATA (M-106) to the front of a slice as one run, and says how long it is: the code of this number,
+/// from 1, in the passage of a subentry and a pointer, blank for none. Breaks are left out, numbers but the flag are in their
+/// shortest spelling, and the rest is as it was. Refusals: 31, 32, 33, 36, then 50 or 51 with record and column, then 52. Refused, it
+/// stores nothing. A slice as long as the passage is always long enough. The entry is judged; [`crate::codes`] does so once for all
+/// its codes.
+pub fn decay(entry: &[u8], subentry: u32, pointer: u8, code: u32, out: &mut [u8]) -> Result<usize, CodeRefusal> {
+    archives_or_reference::decay(entry, subentry, pointer, code, out)
+}
+
+/// The same of a passage in hand, as [`passage`] or [`index_passage`] gives it, and of any bytes: only whole records count, and
+/// records of 50 and 51 count in the passage from 1. Nothing is judged.
+pub fn decay_in(passage: &[u8], code: u32, out: &mut [u8]) -> Result<usize, CodeRefusal> {
+    archives_or_reference::decay_in(passage, code, out)
+}
+
+/// The fields of a run before its groups, and how many groups it has. Of any bytes: where they are no code, how many characters
+/// stand before the first that no code has there. [`crate::decay::Code`] has these calls with names and texts.
+pub fn decay_head(run: &[u8]) -> Result<HeadRead, NoCode> {
+    archives_or_reference::decay_head(run)
+}
+
+/// A group of a run, counted from 1; none where there is no such group, or where the bytes are no code.
+pub fn decay_group(run: &[u8], group: u32) -> Option<GroupRead> {
+    archives_or_reference::decay_group(run, group)
+}
+
+/// A type of a group, both counted from 1.
+pub fn decay_type(run: &[u8], group: u32, at: u32) -> Option<Place> {
+    archives_or_reference::decay_type(run, group, at)
+}
+
+/// An energy of a group, both counted from 1.
+pub fn decay_energy(run: &[u8], group: u32, at: u32) -> Option<NumberRead> {
+    archives_or_reference::decay_energy(run, group, at)
 }

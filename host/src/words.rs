@@ -14,6 +14,9 @@
 //! Of a call about lines (M-113) the word has its refusal in bits 0-7, the column in 16-23 and the line in 24-47; all other
 //! bits are 0.
 //!
+//! Of a call for a code (M-106) it has beside 50 and 51 the column in bits 16-23 and the record in 24-47, and nothing in 8-15; the
+//! word of a head has beside 50 in bits 24-63 how many characters stand before the first that no code has there.
+//!
 //! A value is kind (0 blank, 1 number), whether it is below zero, coefficient, power of ten in two's complement, the
 //! count of digits written, and three zeros; a part is first byte, length and pointer; the totals are subentries,
 //! keywords, lines and numbers; the place of a walk's next value is 1, line and column, or three zeros where none is left.
@@ -29,6 +32,7 @@
 //! | 6 | 0, 0 | the expected characters stand beside them, which are eight blanks else |
 
 use crate::cinda::{Line, LinesRefusal, Mass, Piece, Pieces};
+use crate::decay::{CodeRefusal, GroupRead, HeadRead, NoCode, NumberRead, Place};
 use crate::walk::Given;
 use crate::{
     Decimal, DoubleRead, Explained, FieldRead, NoAnswer, Part, Reason, Refusal, Simple, Totals, Value, Verdict,
@@ -208,6 +212,97 @@ pub fn pieces_stored(pieces: &Pieces) -> [u64; 12] {
     })
 }
 
+/// Answered, or why not, where the call is for a code (M-106).
+pub fn code_answered(word: u64) -> Result<(), CodeRefusal> {
+    let [number, column, record] = [word & 0xff, word >> 16 & 0xff, word >> 24 & 0xff_ffff].map(|room| room as u32);
+    match (number, entry_refusal(word)) {
+        (0, _) => Ok(()),
+        (_, Some(refusal)) => Err(CodeRefusal { number, record: 0, column: 0, entry: Some(refusal) }),
+        (_, None) => Err(CodeRefusal { number, record, column, entry: None }),
+    }
+}
+
+/// The word of such an answer.
+pub fn code_word(answer: Result<(), CodeRefusal>) -> u64 {
+    let Err(CodeRefusal { number, record, column, entry }) = answer else { return 0 };
+    let [refusal, column, record] = match entry {
+        Some(refusal) => [refusal.number, refusal.column, refusal.record],
+        None => [0, column, record],
+    };
+    u64::from(number) | u64::from(refusal) << 8 | u64::from(column) << 16 | u64::from(record) << 24
+}
+
+/// Where something stands that has a length; nothing where that is 0.
+fn place(first: u64, length: u64) -> Option<Place> {
+    (length > 0).then_some(Place { first: first as usize, length: length as usize })
+}
+
+/// A number by its place and its value; none where the value is blank.
+fn number(first: u64, length: u64, numbers: [u64; 8]) -> Option<NumberRead> {
+    match value(numbers).value {
+        Value::Blank => None,
+        Value::Number(value) => Some(NumberRead { place: place(first, length)?, value }),
+    }
+}
+
+/// The two numbers of a place; zeros where there is none.
+pub fn place_stored(place: Option<Place>) -> [u64; 2] {
+    place.map_or([0; 2], |place| [place.first as u64, place.length as u64])
+}
+
+/// The array of a value of a code, whose digits are not counted; zeros where there is none.
+pub fn number_stored(read: Option<NumberRead>) -> [u64; 8] {
+    read.map_or([0; 8], |read| value_stored(FieldRead { value: Value::Number(read.value), digits: 0 }))
+}
+
+/// What the word and the arrays of a head say: its places, and the half-life.
+pub fn head(word: u64, p: [u64; 15], half: [u64; 8]) -> Result<HeadRead, NoCode> {
+    if word != 0 {
+        return Err(NoCode { at: (word >> 24) as usize });
+    }
+    let at = |first: usize| Place { first: p[first] as usize, length: p[first + 1] as usize };
+    let half_life = number(p[10], p[11], half).map(|number| (number, at(12)));
+    let (flag, isomer) = (place(p[0], p[1]), place(p[8], p[9]));
+    Ok(HeadRead { flag, z: at(2), symbol: at(4), a: at(6), isomer, half_life, groups: p[14] as usize })
+}
+
+/// The arrays of a head, as they are stored.
+pub fn head_stored(head: &HeadRead) -> ([u64; 15], [u64; 8]) {
+    let (number, unit) = (head.half_life.map(|(number, _)| number), head.half_life.map(|(_, unit)| unit));
+    let places = [head.flag, Some(head.z), Some(head.symbol), Some(head.a), head.isomer, number.map(|n| n.place), unit];
+    let places = places.map(place_stored);
+    let stored = std::array::from_fn(|at| if at < 14 { places[at / 2][at % 2] } else { head.groups as u64 });
+    (stored, number_stored(number))
+}
+
+/// The word of a head.
+pub fn head_word(answer: Result<(), NoCode>) -> u64 {
+    answer.err().map_or(0, |no| 50 | (no.at as u64) << 24)
+}
+
+/// What is returned for a group, and its arrays: how many types and energies, where the abundance stands, and its value.
+pub fn group(there: u64, n: [u64; 4], abundance: [u64; 8]) -> Option<GroupRead> {
+    let read = || GroupRead { types: n[0] as usize, energies: n[1] as usize, abundance: number(n[2], n[3], abundance) };
+    (there == 1).then(read)
+}
+
+/// The arrays of a group, as they are stored: zeros where there is none.
+pub fn group_stored(group: Option<GroupRead>) -> ([u64; 4], [u64; 8]) {
+    let Some(GroupRead { types, energies, abundance }) = group else { return ([0; 4], [0; 8]) };
+    let [first, length] = place_stored(abundance.map(|number| number.place));
+    ([types as u64, energies as u64, first, length], number_stored(abundance))
+}
+
+/// What is returned for a type, and its place.
+pub fn kind(there: u64, stored: [u64; 2]) -> Option<Place> {
+    place(stored[0], stored[1]).filter(|_| there == 1)
+}
+
+/// What is returned for an energy, its place and its value.
+pub fn energy(there: u64, stored: [u64; 2], numbers: [u64; 8]) -> Option<NumberRead> {
+    number(stored[0], stored[1], numbers).filter(|_| there == 1)
+}
+
 #[cfg(test)]
 mod tests {
     use super::*;
@@ -323,5 +418,64 @@ mod tests {
         let places = [126, 126, 134, 15, 149, 4, 153, 6, 183, 22, 211, 40];
         assert_eq!(pieces_stored(&pieces(places)), places);
         assert_eq!(pieces(places).comment, Piece { offset: 211, length: 40 });
+    }
+
+    /// Of codes: the words, a head's arrays, and those of groups, types and energies, both ways.
+    #[test]
+    fn codes_are_where_the_table_says() {
+        for (refusal, word) in [
+            (CodeRefusal { number: 50, record: 20_001, column: 0, entry: None }, 50 + (20_001 << 24)),
+            (CodeRefusal { number: 51, record: 5, column: 66, entry: None }, 51 + (66 << 16) + (5 << 24)),
+            (CodeRefusal { number: 36, record: 0, column: 0, entry: None }, 36),
+            (CodeRefusal { number: 52, record: 0, column: 0, entry: None }, 52),
+            (
+                CodeRefusal { number: 31, record: 0, column: 0, entry: Some(Refusal::new(17, 20_001, 81)) },
+                31 + (17 << 8) + (81 << 16) + (20_001 << 24),
+            ),
+        ] {
+            assert_eq!((code_answered(word), code_word(Err(refusal))), (Err(refusal), word));
+        }
+        assert_eq!((code_answered(0), code_word(Ok(()))), (Ok(()), 0));
+        assert_eq!(head(50 + (7 << 24), [9; 15], [9; 8]), Err(NoCode { at: 7 }));
+        assert_eq!(head_word(Err(NoCode { at: (1 << 40) - 1 })), 50 + (((1 << 40) - 1) << 24));
+        let at = |first, length| Place { first, length };
+        let number = |first, length, coefficient, power| NumberRead {
+            place: at(first, length),
+            value: Decimal { negative: false, coefficient, power },
+        };
+        // ((1.)60-ND-138-M,5.04HR,DG,328.,.065)
+        let full = HeadRead {
+            flag: Some(at(2, 2)),
+            z: at(5, 2),
+            symbol: at(8, 2),
+            a: at(11, 3),
+            isomer: Some(at(15, 1)),
+            half_life: Some((number(17, 4, 504, -2), at(21, 2))),
+            groups: 1,
+        };
+        let places = [2, 2, 5, 2, 8, 2, 11, 3, 15, 1, 17, 4, 21, 2, 1];
+        let half = [1, 0, 504, u64::MAX - 1, 0, 0, 0, 0];
+        assert_eq!((head(0, places, half), head_stored(&full)), (Ok(full), (places, half)));
+        // (1-H-3)
+        let bare = HeadRead {
+            flag: None,
+            z: at(1, 1),
+            symbol: at(3, 1),
+            a: at(5, 1),
+            isomer: None,
+            half_life: None,
+            groups: 0,
+        };
+        let places = [0, 0, 1, 1, 3, 1, 5, 1, 0, 0, 0, 0, 0, 0, 0];
+        assert_eq!((head(0, places, [0; 8]), head_stored(&bare)), (Ok(bare), (places, [0; 8])));
+        let some = Some(GroupRead { types: 2, energies: 3, abundance: Some(number(32, 4, 65, -3)) });
+        let value = [1, 0, 65, u64::MAX - 2, 0, 0, 0, 0];
+        assert_eq!((group(1, [2, 3, 32, 4], value), group_stored(some)), (some, ([2, 3, 32, 4], value)));
+        let none = Some(GroupRead { types: 1, energies: 0, abundance: None });
+        assert_eq!((group(1, [1, 0, 0, 0], [0; 8]), group_stored(none)), (none, ([1, 0, 0, 0], [0; 8])));
+        assert_eq!((group(0, [0; 4], [0; 8]), group_stored(None)), (None, ([0; 4], [0; 8])));
+        assert_eq!((kind(1, [7, 2]), kind(0, [0; 2])), (Some(at(7, 2)), None));
+        assert_eq!(energy(1, [32, 4], value), Some(number(32, 4, 65, -3)));
+        assert_eq!(energy(0, [0; 2], [0; 8]), None);
     }
 }

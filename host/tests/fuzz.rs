@@ -32,7 +32,10 @@ fn mutated_entries_are_answered() {
     let Some(program) = compiled("clang", "fuzz", &SANITIZED, &["tests/c/fuzz.c"]) else { return };
     let written = |seed: u64| -> PathBuf {
         let file = Path::new(env!("CARGO_TARGET_TMPDIR")).join(format!("fuzz-{seed}.x4"));
-        std::fs::write(&file, generate::entry(&mut Random::seeded(seed)).bytes).unwrap();
+        let random = &mut Random::seeded(seed);
+        // Every fourth has codes under DECAY-DATA.
+        let entry = if seed % 4 == 3 { generate::decay_entry(random) } else { generate::entry(random).bytes };
+        std::fs::write(&file, entry).unwrap();
         file
     };
     let output = Command::new(program).args(["1", "3000"]).args((0..40).map(written)).output().unwrap();
@@ -68,6 +71,10 @@ fn mutated_entries_are_answered() {
     let lines = words.split("lines by refusal").nth(1).and_then(|rest| rest.split(';').next()).unwrap_or_default();
     for refusal in [" 0:", " 34:", " 37:", " 70:", " 71:", " 72:", " 73:", " 74:", " 75:", " 76:", " 77:"] {
         assert!(lines.contains(refusal), "every answer about lines occurs: {words}");
+    }
+    let codes = words.split("codes by refusal").nth(1).and_then(|rest| rest.split(',').next()).unwrap_or_default();
+    for refusal in [" 0:", " 31:", " 32:", " 33:", " 36:", " 50:", " 51:", " 52:"] {
+        assert!(codes.contains(refusal), "every answer about codes occurs: {words}");
     }
     say(words.trim_end());
 }

@@ -995,3 +995,130 @@ fn lines_are_copied() {
         printed(&run(&["help"], b"")).contains("\n  x4 cinda judge|table|copy ..     lines in the CINDA2001 layout")
     );
 }
+
+/// The sample with codes, with these changes: record, column, text.
+fn codes(changes: &[(usize, usize, &str)]) -> Vec<u8> {
+    let mut bytes = include_bytes!("../data/decay.x4").to_vec();
+    changes.iter().for_each(|(record, column, text)| put(&mut bytes, *record, *column, text));
+    bytes
+}
+
+/// The second code of the sample, as an object and as two rows.
+const SECOND: &str = "\"code\":2,\"record\":17,\"run\":\"(60-ND-139-G,30.MIN,B+,,.257,DG,405.,.055)\",\"flag\":null,\"z\":60,\
+\"symbol\":\"ND\",\"a\":139,\"isomer\":\"G\",\"half_life\":{\"number\":\"30\",\"unit\":\"MIN\"},\"groups\":[{\"types\":[\"B+\"],\"energies\":[],\
+\"abundance\":\"0.257\"},{\"types\":[\"DG\"],\"energies\":[\"405\"],\"abundance\":\"0.055\"}]}";
+
+#[test]
+fn codes_are_printed() {
+    let output = run(&["decay"], &codes(&[]));
+    let said = printed(&output);
+    let lines: Vec<&str> = said.lines().collect();
+    assert_eq!((lines.len(), output.status.code()), (8, Some(1)), "one of them is refused: {said}");
+    assert_eq!(lines[1], format!("{{\"subentry\":\"90001002\",\"pointer\":null,{SECOND}"));
+    assert!(lines[0].ends_with("\"a\":89,\"isomer\":\"M\",\"half_life\":null,\"groups\":[]}"), "{}", lines[0]);
+    assert!(lines[4].contains("\"run\":\"((1.)60-ND-138,5.04HR,DG,328.,.065)\",\"flag\":\"1.\","), "{}", lines[4]);
+    let refused =
+        "{\"subentry\":\"90001002\",\"pointer\":null,\"code\":7,\"record\":24,\"refusal\":50,\"at_record\":24,\
+                   \"at_column\":13,\"meaning\":\"a character that no code can have there\",\"expected\":\"a nuclide, ";
+    assert!(lines[6].starts_with(refused), "{}", lines[6]);
+    let note = "\"found\":\"'S'\",\"note\":\"a record with ( in column 12 opens a code, even where text is meant\"}";
+    assert!(lines[6].ends_with(note), "{}", lines[6]);
+    assert!(
+        lines[7].starts_with("{\"subentry\":\"90001002\",\"pointer\":\"1\",\"code\":1,\"record\":25,"),
+        "{}",
+        lines[7]
+    );
+    assert_eq!(complained(&output), "");
+    // Without the text in parentheses all are good.
+    let output = run(&["decay", "-"], &codes(&[(24, 12, " ")]));
+    assert_eq!((printed(&output).lines().count(), output.status.code()), (7, Some(0)));
+    let output = run(&["decay"], &sample());
+    assert_eq!((printed(&output).as_str(), output.status.code()), ("", Some(0)), "none there");
+}
+
+#[test]
+fn codes_are_rows() {
+    let output = run(&["decay", "--csv"], &codes(&[]));
+    let said = printed(&output);
+    let names = "subentry,pointer,code,record,flag,z,symbol,a,isomer,half-life,unit,group,types,energies,abundance,refusal,at record,at column,\
+                 expected,found\n";
+    assert!(said.starts_with(names), "{said}");
+    for row in [
+        "90001002,,1,16,,40,ZR,89,M,,,,,,,,,,,",
+        "90001002,,2,17,,60,ND,139,G,30,MIN,1,B+,,0.257,,,,,",
+        "90001002,,2,17,,60,ND,139,G,30,MIN,2,DG,405,0.055,,,,,",
+        "90001002,,3,19,,59,PR,140,,,,1,B+/EC,,0.5,,,,,",
+        "90001002,,4,20,,25,MN,50,G,0.286,SEC,1,B+,6610,,,,,,",
+        "90001002,,5,21,1.,60,ND,138,,5.04,HR,1,DG,328,0.065,,,,,",
+        "90001002,,6,22,,60,ND,139,M,5.5,HR,1,DG,708/738,0.64,,,,,",
+        "90001002,1,1,25,,60,ND,139,M,5.5,HR,4,B+,0.006,,,,,,",
+    ] {
+        assert!(said.lines().any(|line| line == row), "{row}: {said}");
+    }
+    assert!(said.contains("\n90001002,,7,24,,,,,,,,,,,,50,24,13,\"a nuclide, "), "{said}");
+    assert_eq!((said.lines().count(), output.status.code()), (13, Some(1)));
+    assert_eq!(printed(&run(&["decay", "--csv"], &sample())), names);
+}
+
+/// What was expected in each place, and what stands there.
+#[test]
+fn refused_codes_are_in_words() {
+    for (record, text, refusal, found, expected) in [
+        (16, "((1)40-ZR-89-M)      ", [50, 16, 15], "')'", "a flag: "),
+        (16, "(40-ZR-89-T)         ", [50, 16, 22], "'T'", "a nuclide, "),
+        (16, "(40-ZR-89-M,3D)      ", [50, 16, 25], "'D'", "a half-life or nothing, "),
+        (16, "(40-ZR-89-M,,b)      ", [50, 16, 25], "'b'", "types of radiation or nothing, "),
+        (16, "(40-ZR-89-M,,B,1.,,) ", [50, 16, 31], "')'", "types of radiation or nothing, "),
+        (16, "(40-ZR-89-M,,B,1)    ", [50, 16, 28], "')'", "energies or nothing, "),
+        (16, "(40-ZR-89-M,,,,,)    ", [50, 16, 27], "','", "an abundance or, where the group has "),
+        (18, "DG ,405.,0.055)      ", [50, 18, 14], "a blank", "types of radiation or nothing, "),
+        (16, "(40-ZR-89-M,         ", [50, 17, 12], "'('", "a half-life or nothing, "),
+        (18, "                     ", [50, 18, 12], "a blank", "types of radiation or nothing, "),
+        (
+            17,
+            "(60-ND-139-G,30.0MIN           ",
+            [51, 17, 31],
+            "'N' and blanks up to column 66",
+            "the code goes on, or a comma ",
+        ),
+        (28, "B+,0.006,            ", [50, 29, 0], "the end of the passage", "an abundance or, where the group has "),
+    ] {
+        let blanks = format!("{text:55}");
+        let output = run(&["decay"], &codes(&[(record, 12, &blanks)]));
+        let [number, at, column] = refusal;
+        let due = format!("\"refusal\":{number},\"at_record\":{at},\"at_column\":{column},");
+        let said = printed(&output);
+        let line = said.lines().find(|line| line.contains(&due)).unwrap_or_else(|| panic!("{text}: {said}"));
+        assert!(line.contains(&format!("\"expected\":\"{expected}")), "{text}: {line}");
+        assert!(line.contains(&format!("\"found\":\"{found}\"")), "{text}: {line}");
+        assert_eq!(output.status.code(), Some(1));
+    }
+}
+
+/// Of a transmission each code has the ordinal of its entry; a refused entry is said as everywhere.
+#[test]
+fn codes_of_a_transmission_are_printed() {
+    let file = [trans(), sample(), codes(&[]), codes(&[]), end_trans(3)].concat();
+    let output = run(&["decay"], &file);
+    let said = printed(&output);
+    assert_eq!((said.lines().count(), output.status.code()), (16, Some(1)), "{said}{}", complained(&output));
+    for entry in [2, 3] {
+        let due = format!("{{\"entry\":{entry},\"subentry\":\"90001002\",\"pointer\":null,{SECOND}");
+        assert!(said.lines().any(|line| line == due), "{said}");
+    }
+    let rows = printed(&run(&["decay", "--csv"], &file));
+    assert!(
+        rows.starts_with("entry,subentry,pointer,") && rows.contains("\n3,90001002,,2,17,,60,ND,139,G,30,MIN,1,B+,"),
+        "{rows}"
+    );
+    let wrong = run(&["decay"], &changed(22, 12, "       1.5E"));
+    assert_eq!((printed(&wrong).as_str(), wrong.status.code()), ("", Some(1)));
+    assert!(complained(&wrong).starts_with("x4: standard input: refusal 15, record 22, column 12: "));
+    for page in [&["help", "decay"][..], &["decay", "--help"]] {
+        assert!(printed(&run(page, b"")).starts_with("x4 decay [--csv] [FILE]\n"), "{page:?}");
+    }
+    assert!(printed(&run(&["help"], b"")).contains("\n  x4 decay [--csv] [FILE]          every code under DECAY-DATA"));
+    for wrong in [&["decay", "--json"][..], &["decay", "a", "b"], &["decay", "no such file"]] {
+        assert_eq!(run(wrong, b"").status.code(), Some(2), "{wrong:?}");
+    }
+}

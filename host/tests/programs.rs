@@ -3,6 +3,7 @@
 //! with these.
 
 use glockenbeacon::cinda::{Line, LinesRefusal, Mass, Piece};
+use glockenbeacon::decay::{GroupRead, HeadRead, NumberRead, Place};
 use glockenbeacon::{reference, Decimal, DoubleRead, FieldRead, NoAnswer, Part, Simple, Value, RECORD};
 use std::fmt::Write;
 use std::path::Path;
@@ -17,8 +18,9 @@ fn stored(program: &str, file: &str) -> Vec<u8> {
 fn same_lines(program: &str, said: &[u8]) {
     let expected = stored(program, "stdout");
     let lines = |bytes: &[u8]| bytes.split(|&byte| byte == b'\n').map(<[u8]>::to_vec).collect::<Vec<_>>();
+    // Every byte is shown in its own way, those above 127 too.
+    let show = |line: &[u8]| line.escape_ascii().to_string();
     for (number, (a, b)) in lines(said).iter().zip(&lines(&expected)).enumerate() {
-        let show = String::from_utf8_lossy;
         assert_eq!(show(a), show(b), "{program}, line {}", number + 1);
     }
     assert_eq!(said.len(), expected.len(), "{program}: the length");
@@ -426,26 +428,37 @@ fn apart(line: &Result<Line, LinesRefusal>) -> String {
     )
 }
 
-/// A case is a title, so many bytes of lines, and a line feed.
+/// The number in some bytes of a title.
+fn titled(title: &[u8], from: usize, past: usize) -> usize {
+    String::from_utf8_lossy(&title[from..past]).parse().expect("a number")
+}
+
+/// Cases as title and bytes: so many bytes as the title says follow it, and a line feed. The bytes may be any.
+fn titles(input: &[u8]) -> Vec<(&[u8], &[u8])> {
+    let (mut all, mut rest) = (Vec::new(), input);
+    while let Some(end) = rest.iter().position(|&byte| byte == b'\n') {
+        let (title, behind) = (&rest[..end], &rest[end + 1..]);
+        let passed_over = title[0] == b'#';
+        let length = if passed_over { 0 } else { titled(title, 0, 4) };
+        assert_eq!(behind[length], b'\n', "{}", String::from_utf8_lossy(title));
+        if !passed_over {
+            all.push((title, &behind[..length]));
+        }
+        rest = &behind[length + 1..];
+    }
+    assert_eq!(rest, b"", "bytes behind the last case");
+    all
+}
+
 #[test]
 fn lines_are_answered_as_stored() {
     let (input, mut said) = (stored("cinda_cases", "stdin"), Vec::new());
-    let mut rest = &input[..];
-    while let Some(end) = rest.iter().position(|&byte| byte == b'\n') {
-        let (title, behind) = (&rest[..end], &rest[end + 1..]);
-        let number =
-            |from: usize, past: usize| String::from_utf8_lossy(&title[from..past]).parse::<usize>().expect("a number");
-        let length = if title[0] == b'#' { 0 } else { number(0, 4) };
-        let lines = &behind[..length];
-        rest = &behind[length + 1..];
-        if title[0] == b'#' {
-            continue;
-        }
-        let n = number(5, 14) as u32;
+    for (title, lines) in titles(&input) {
+        let n = titled(title, 5, 14) as u32;
         let (line, pieces) = (reference::cinda_line(lines, n), reference::cinda_pieces(lines, n));
         let nth = b"wrqict".iter().position(|&letter| letter == title[20]).expect("a part");
         let piece = pieces.map_or(Piece { offset: 0, length: 0 }, |pieces| pieces.all()[nth]);
-        let mut buffer = vec![b'~'; number(15, 19)];
+        let mut buffer = vec![b'~'; titled(title, 15, 19)];
         let back = reference::cinda_back(lines, &mut buffer);
         said.extend(title);
         said.extend(
@@ -458,4 +471,82 @@ fn lines_are_answered_as_stored() {
         said.extend(b"]\n");
     }
     same_lines("cinda_cases", &said);
+}
+
+/// A field of characters: where it begins, its length and what stands there.
+fn say_field(said: &mut Vec<u8>, run: &[u8], field: Option<Place>) {
+    let field = field.unwrap_or(Place { first: 0, length: 0 });
+    said.extend(format!(" {} {} [", field.first, field.length).bytes());
+    said.extend(field.of(run));
+    said.push(b']');
+}
+
+/// A field that is a number, and its value.
+fn say_number(said: &mut Vec<u8>, run: &[u8], number: Option<NumberRead>) {
+    say_field(said, run, number.map(|number| number.place));
+    let value = number.map_or(" blank".to_string(), |number| format!(" number {}", decimal(number.value, " ")));
+    said.extend(value.bytes());
+}
+
+/// The fields before the groups; how many groups there are.
+fn say_head(said: &mut Vec<u8>, run: &[u8]) -> usize {
+    let answer = reference::decay_head(run);
+    let [number, at] = answer.as_ref().err().map_or([0; 2], |no| [50, no.at]);
+    let head = answer.ok();
+    let half_life = head.and_then(|head| head.half_life);
+    let groups = head.map_or(0, |head| head.groups);
+    said.extend(format!("\nhead {number} {at}").bytes());
+    say_field(said, run, head.and_then(|head| head.flag));
+    for part in [|head: HeadRead| head.z, |head: HeadRead| head.symbol, |head: HeadRead| head.a] {
+        say_field(said, run, head.map(part));
+    }
+    say_field(said, run, head.and_then(|head| head.isomer));
+    say_number(said, run, half_life.map(|(number, _)| number));
+    say_field(said, run, half_life.map(|(_, unit)| unit));
+    said.extend(format!(" {groups}").bytes());
+    groups
+}
+
+/// All fields of characters: groups, types and energies from 0 to one past the last.
+fn say_fields(said: &mut Vec<u8>, run: &[u8]) {
+    let groups = say_head(said, run);
+    for k in 0..=groups as u32 + 1 {
+        let none = GroupRead { types: 0, energies: 0, abundance: None };
+        let GroupRead { types, energies, abundance } = reference::decay_group(run, k).unwrap_or(none);
+        said.extend(format!("\ngroup {k} {types} {energies}").bytes());
+        say_number(said, run, abundance);
+        said.extend(b" types");
+        (0..=types as u32 + 1).for_each(|i| say_field(said, run, reference::decay_type(run, k, i)));
+        said.extend(b" energies");
+        (0..=energies as u32 + 1).for_each(|i| say_number(said, run, reference::decay_energy(run, k, i)));
+    }
+}
+
+/// A code of a passage, with the record by its index, and the fields of its run where it is answered.
+fn say_code(said: &mut Vec<u8>, passage: &[u8], code: u32, mut buffer: Vec<u8>) {
+    let answer = reference::decay_in(passage, code, &mut buffer);
+    let [number, record, column] = answer.err().map_or([0; 3], |no| [no.number, no.record, no.column]);
+    // The library's call names a record by its index, the host's counts from 1.
+    let index = if matches!(number, 50 | 51) { record - 1 } else { record };
+    said.extend(format!("\ncode {number} {index} {column} {} [", answer.unwrap_or(0)).bytes());
+    said.extend(&buffer);
+    said.push(b']');
+    if let Ok(length) = answer {
+        say_fields(said, &buffer[..length]);
+    }
+}
+
+#[test]
+fn codes_are_answered_as_stored() {
+    let (input, mut said) = (stored("decay_cases", "stdin"), Vec::new());
+    for (title, bytes) in titles(&input) {
+        said.extend(title);
+        match title[20] {
+            b'c' => say_code(&mut said, bytes, titled(title, 5, 14) as u32, vec![b'~'; titled(title, 15, 19)]),
+            b't' => say_fields(&mut said, bytes),
+            other => panic!("a case of the kind {:?}", char::from(other)),
+        }
+        said.push(b'\n');
+    }
+    same_lines("decay_cases", &said);
 }

@@ -54,6 +54,12 @@ mod measured {
         fn x4_cinda_line();
         fn x4_cinda_pieces();
         fn x4_cinda_back();
+        fn x4_decay();
+        fn x4_decay_in();
+        fn x4_decay_head();
+        fn x4_decay_group();
+        fn x4_decay_type();
+        fn x4_decay_energy();
     }
 
     type Function = unsafe extern "C" fn();
@@ -505,6 +511,67 @@ mod measured {
         ];
         assert_eq!(said, due);
         [check, apart, pieces, back].iter().for_each(Measured::say);
+    }
+
+    /// The six calls about codes: of generated entries and their passages, and of their runs. Each answer is the reference's.
+    #[test]
+    fn codes_are_measured() {
+        let mut full = Measured::new("x4_decay", x4_decay);
+        let mut in_hand = Measured::new("x4_decay_in", x4_decay_in);
+        let mut head = Measured::new("x4_decay_head", x4_decay_head);
+        let mut group = Measured::new("x4_decay_group", x4_decay_group);
+        let mut kind = Measured::new("x4_decay_type", x4_decay_type);
+        let mut energy = Measured::new("x4_decay_energy", x4_decay_energy);
+        let (mut run, mut places, mut half) = ([0u64; 1], [0u64; 15], [0u64; 8]);
+        let (mut numbers, mut place, mut value) = ([0u64; 4], [0u64; 2], [0u64; 8]);
+        let mut said = vec![BTreeSet::new(); 6];
+        let mut note = |call: usize, word: u64, due: u64| {
+            assert_eq!(word, due);
+            said[call].insert(word & 0xff);
+        };
+        let generated = (0..200).map(|seed| generate::decay_entry(&mut Random::seeded(seed)));
+        let long = generate::long_entry(2_000, "DG/B+,405.0/1.E5,0.055,A,,,,1.,,X,1./2./3.,.5,");
+        for entry in [include_bytes!("../data/decay.x4").to_vec(), long].into_iter().chain(generated) {
+            let [first, length] = bytes(&entry);
+            for (n, pointer, code) in [(1, b' ', 1), (2, b' ', 1), (2, b' ', 2), (1, b'1', 1), (9, b' ', 1)] {
+                for room in [entry.len(), 10] {
+                    let mut out = vec![b'#'; room];
+                    let due = reference::decay(&entry, n, pointer, code, &mut out.clone());
+                    let slice = [lent(&mut out), room as u64, lent(&mut run)];
+                    let [out_first, out_room, long] = slice;
+                    let asked = [first, length, n.into(), pointer.into(), code.into(), out_first, out_room, long];
+                    note(0, full.call(asked), words::code_word(due.map(drop)));
+                    let part = reference::passage(&entry, n, b"DECAY-DATA", pointer);
+                    let passage = part.map_or(&entry[..0], |part| part.of(&entry)).to_vec();
+                    let due = reference::decay_in(&passage, code, &mut vec![0; room]);
+                    let [own, size] = bytes(&passage);
+                    let word = in_hand.call([own, size, code.into(), out_first, out_room, long]);
+                    note(1, word, words::code_word(due.map(drop)));
+                }
+            }
+        }
+        for seed in 0..400 {
+            let random = &mut Random::seeded(seed);
+            let text = if seed % 2 == 0 { generate::code(random) } else { generate::damaged_code(random) };
+            let [first, length] = bytes(text.as_bytes());
+            let word = head.call([first, length, lent(&mut places), lent(&mut half)]);
+            note(2, word, words::head_word(reference::decay_head(text.as_bytes()).map(drop)));
+            for (k, at) in [(0, 1), (1, 0), (1, 1), (1, 2), (2, 1), (7, 1)] {
+                let [k64, at64] = [u64::from(k), u64::from(at)];
+                let word = group.call([first, length, k64, lent(&mut numbers), lent(&mut value)]);
+                note(3, word, reference::decay_group(text.as_bytes(), k).is_some().into());
+                let word = kind.call([first, length, k64, at64, lent(&mut place)]);
+                note(4, word, reference::decay_type(text.as_bytes(), k, at).is_some().into());
+                let word = energy.call([first, length, k64, at64, lent(&mut place), lent(&mut value)]);
+                note(5, word, reference::decay_energy(text.as_bytes(), k, at).is_some().into());
+            }
+        }
+        let due: [&[u64]; 6] =
+            [&[0, 31, 32, 33, 36, 50, 51, 52], &[0, 36, 50, 51, 52], &[0, 50], &[0, 1], &[0, 1], &[0, 1]];
+        for (said, due) in said.iter().zip(due) {
+            assert_eq!(said.iter().copied().collect::<Vec<_>>(), due);
+        }
+        [full, in_hand, head, group, kind, energy].iter().for_each(Measured::say);
     }
 
     /// What stands in the place of a double before, which none of these values is.

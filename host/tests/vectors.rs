@@ -1,11 +1,12 @@
-//! Verdicts, reasons, answers, indexes, walks, doubles, copies, entries of transmissions, counts of digits and CINDA lines that
-//! others worked out from the papers, where their tables are beside the project: in `../shared/vectors/02`. The library and the reference are
+//! Verdicts, reasons, answers, indexes, walks, doubles, copies, entries of transmissions, counts of digits, CINDA lines and codes
+//! under DECAY-DATA that others worked out from the papers, where their tables are beside the project: in `../shared/vectors/02`. The library and the reference are
 //! held against them.
 
 mod common;
 
 use common::{copied, say, sha256, BOTH};
 use glockenbeacon::cinda::{Line, LinesRefusal, Mass, Pieces, LINE};
+use glockenbeacon::decay::{Code, CodeRefusal, NumberRead};
 use glockenbeacon::differ::Implementation;
 use glockenbeacon::json;
 use glockenbeacon::library::DoubleCalls;
@@ -766,4 +767,179 @@ fn energies_that_others_read() {
         }
     }
     say(&format!("codes/cinda/fields.tsv: {} fields{}", rows.len(), by_number(&rows, 1, &["blank", "number", "76"])));
+}
+
+/// A decimal as the tables of codes have it.
+fn number_object(Decimal { negative, coefficient, power }: Decimal) -> String {
+    format!("[{},{coefficient},{power}]", u32::from(negative))
+}
+
+/// A run taken apart by one of the two, as the tables have it: the flag with its point, texts, numbers, groups.
+fn fields_object(by: &dyn Implementation, run: &[u8]) -> String {
+    let head = by.decay_head(run).expect("a run is a code");
+    let part = |place: glockenbeacon::decay::Place| String::from_utf8_lossy(place.of(run)).into_owned();
+    let or_null = |read: Option<NumberRead>| read.map_or("null".into(), |read| number_object(read.value));
+    let groups = (1..=head.groups as u32).map(|k| {
+        let group = by.decay_group(run, k).expect("a group");
+        let types = (1..=group.types as u32).map(|at| by.decay_type(run, k, at).expect("a type"));
+        let energies = (1..=group.energies as u32).map(|at| by.decay_energy(run, k, at).expect("an energy"));
+        for (count, k) in [(group.types, k), (0, 0), (0, head.groups as u32 + 1)] {
+            assert_eq!(by.decay_type(run, k, count as u32 + 1), None);
+        }
+        assert_eq!((by.decay_type(run, k, 0), by.decay_energy(run, k, 0)), (None, None));
+        assert_eq!(by.decay_energy(run, k, group.energies as u32 + 1), None);
+        let types = json::array(types.map(|place| json::text(&part(place))));
+        let energies = json::array(energies.map(|read| number_object(read.value)));
+        format!("[{types},{energies},{}]", or_null(group.abundance))
+    });
+    let groups = json::array(groups);
+    assert_eq!((by.decay_group(run, 0), by.decay_group(run, head.groups as u32 + 1)), (None, None));
+    let text = |place: Option<glockenbeacon::decay::Place>| json::text(&place.map_or(String::new(), part));
+    json::object(&[
+        ("flag", json::text(&head.flag.map_or(String::new(), part))),
+        ("z", text(Some(head.z))),
+        ("s", text(Some(head.symbol))),
+        ("a", text(Some(head.a))),
+        ("x", text(head.isomer)),
+        ("half", or_null(head.half_life.map(|(number, _)| number))),
+        ("unit", text(head.half_life.map(|(_, unit)| unit))),
+        ("groups", groups),
+    ])
+}
+
+/// The same of a code as the library's user takes it apart, group by group.
+fn code_object(run: &[u8]) -> String {
+    let code = Code::of_run(run).expect("a run is a code");
+    let number = |number: glockenbeacon::decay::Number| number_object(number.value);
+    let groups = json::array(code.groups().map(|group| {
+        let types = json::array(group.types.iter().map(|one| json::text(one)));
+        let energies = json::array(group.energies.iter().map(|one| number(*one)));
+        format!("[{types},{energies},{}]", group.abundance.map_or("null".into(), number))
+    }));
+    json::object(&[
+        ("flag", json::text(code.flag().unwrap_or_default())),
+        ("z", json::text(&code.z().to_string())),
+        ("s", json::text(code.symbol())),
+        ("a", json::text(&code.a().to_string())),
+        ("x", json::text(code.isomer().unwrap_or_default())),
+        ("half", code.half_life().map_or("null".into(), |half_life| number(half_life.number))),
+        ("unit", json::text(code.half_life().map_or("", |half_life| half_life.unit))),
+        ("groups", groups),
+    ])
+}
+
+/// A text in one record of a passage, from column 12 on, if it fits.
+fn one_record(text: &str) -> Option<Vec<u8>> {
+    let front = format!("DECAY-DATA {text}");
+    (front.len() <= 66).then(|| format!("{front:66}9000100200002 \n").into_bytes())
+}
+
+/// A text by one of the two: where it closes, where it is refused, the run and its fields.
+fn same_text(by: &dyn Implementation, row: &[String]) {
+    let text = row[0].as_bytes();
+    let closed: usize = row[1].parse().expect("a number");
+    let stop = match row[2].as_str() {
+        "-" if closed > 0 => closed,
+        "-" => text.len(),
+        fault => fault.parse().expect("a number"),
+    };
+    // The bytes are a code where it closes behind the last; else the first character behind is one too many.
+    let whole = closed > 0 && closed == text.len();
+    match by.decay_head(text) {
+        Ok(_) => assert!(whole, "{row:?}"),
+        Err(no) => assert_eq!((no.at, whole), (stop, false), "{row:?}"),
+    }
+    let mut out = vec![b'#'; 200];
+    if let Some(passage) = one_record(&row[0]) {
+        let answer = by.decay_in(&passage, 1, &mut out);
+        if closed > 0 {
+            assert_eq!(answer, Ok(row[3].len()), "{row:?}");
+            assert_eq!(&out[..row[3].len()], row[3].as_bytes(), "{row:?}");
+        } else if text.first() == Some(&b'(') {
+            let filled = row[0].trim_end().len();
+            let refusal = answer.expect_err("no code");
+            let due = if stop < filled { (50, 1, stop as u32 + 12) } else { (51, 1, filled as u32 + 11) };
+            let due = if stop >= filled && row[0].trim_end().ends_with(',') { (50, 2, 0) } else { due };
+            assert_eq!((refusal.number, refusal.record, refusal.column), due, "{row:?}");
+        } else {
+            assert_eq!(answer.expect_err("no code").number, 36, "{row:?}");
+        }
+    }
+    if closed > 0 {
+        assert_eq!(fields_object(by, &text[..closed]), row[4], "{row:?}");
+        assert_eq!(fields_object(by, row[3].as_bytes()), row[4], "{row:?}");
+        assert_eq!(code_object(&text[..closed]), row[4], "{row:?}");
+    }
+}
+
+#[test]
+fn codes_written_by_hand() {
+    for name in ["codes/codes.tsv", "codes/decay/codes.tsv"] {
+        let Some(rows) = table(name) else { continue };
+        for row in &rows {
+            BOTH.iter().for_each(|by| same_text(*by, row));
+        }
+        let good = rows.iter().filter(|row| row[1] != "0").count();
+        say(&format!("{name}: {} texts, {good} of them closed", rows.len()));
+    }
+}
+
+/// Refusal, the entry's own, record and column, as the table has them.
+fn code_told(answer: &Result<usize, CodeRefusal>) -> [String; 4] {
+    let numbers = answer.as_ref().err().map_or([0; 4], |refusal| match refusal.entry {
+        Some(entry) => [refusal.number, entry.number, entry.record, entry.column],
+        None => [refusal.number, 0, refusal.record, refusal.column],
+    });
+    numbers.map(|number| number.to_string())
+}
+
+/// Codes of entries: the refusal, the run, its fields; the same from the passage in hand, by the full question and by an index.
+#[test]
+fn codes_that_others_answered() {
+    let Some(rows) = table("codes/decay/decay.tsv") else { return };
+    for group in rows.chunk_by(|one, next| one[0] == next[0]) {
+        let entry = entry("codes/decay", &group[0][0]);
+        for row in group {
+            let [subentry, code, room] = [1, 3, 4].map(|at| row[at].parse::<u32>().expect("a number"));
+            let pointer = u8::from_str_radix(&row[2], 16).expect("a byte in hex");
+            let room = room as usize;
+            for by in BOTH {
+                let mut out = vec![b'#'; room];
+                let answer = by.decay(&entry, (subentry, pointer, code), &mut out);
+                assert_eq!(code_told(&answer), row[5..9], "{row:?}");
+                let length: usize = row[9].parse().expect("a number");
+                assert_eq!(answer.unwrap_or(0), length, "{row:?}");
+                assert_eq!(&out[..length], row[10].as_bytes(), "{row:?}");
+                assert!(out[length..].iter().all(|&byte| byte == b'#'), "{row:?}");
+                if answer.is_ok() {
+                    assert_eq!(fields_object(by, &out[..length]), row[11], "{row:?}");
+                    assert_eq!(code_object(&out[..length]), row[11], "{row:?}");
+                }
+                in_hand(by, &entry, (subentry, pointer, code), (answer, &out), row);
+            }
+        }
+    }
+    let counts = by_number(&rows, 5, &["0", "31", "32", "33", "36", "50", "51", "52"]);
+    say(&format!("codes/decay/decay.tsv: {} questions, by number{counts}", rows.len()));
+}
+
+/// The passage in hand gives the same, its records counted from its own first.
+fn in_hand(
+    by: &dyn Implementation,
+    entry: &[u8],
+    (subentry, pointer, code): (u32, u8, u32),
+    (answer, stored): (Result<usize, CodeRefusal>, &[u8]),
+    row: &[String],
+) {
+    let passage = by.passage(entry, subentry, b"DECAY-DATA", pointer);
+    let Ok(part) = passage else {
+        assert_eq!(answer, Err(passage.expect_err("refused").into()), "{row:?}");
+        return;
+    };
+    let mut out = vec![b'#'; stored.len()];
+    let own = by.decay_in(part.of(entry), code, &mut out).map_err(|refusal| match refusal.record {
+        0 => refusal,
+        record => CodeRefusal { record: record + (part.offset / RECORD) as u32, ..refusal },
+    });
+    assert_eq!((own, &out[..]), (answer, stored), "{row:?}");
 }

@@ -83,6 +83,18 @@ use Rattle.exports_cinda.proofs.lines.x4_cinda_check.Reads as x4-cinda-check
 use Rattle.exports_cinda.proofs.lines.x4_cinda_line.Reads as x4-line
 use Rattle.exports_cinda.proofs.lines.x4_cinda_pieces.Reads as x4-cinda-pieces
 use Rattle.exports_cinda.proofs.lines.x4_cinda_back.Reads as x4-cinda-back
+use Rattle.codes.proofs.code.code.Reads as code
+use Rattle.decay_code.proofs.code.code_in.Reads as code-in
+use Rattle.decay_fields.proofs.fields.head.Reads as code-head
+use Rattle.decay_fields.proofs.fields.group.Reads as code-group
+use Rattle.decay_fields.proofs.fields.kind.Reads as code-type
+use Rattle.decay_fields.proofs.fields.energy.Reads as code-energy
+use Rattle.exports_codes.proofs.asking.x4_decay.Reads as x4-code
+use Rattle.exports_decay.proofs.passages.x4_decay_in.Reads as x4-code-in
+use Rattle.exports_decay.proofs.fields.x4_decay_head.Reads as x4-head
+use Rattle.exports_decay.proofs.fields.x4_decay_group.Reads as x4-group
+use Rattle.exports_decay.proofs.fields.x4_decay_type.Reads as x4-decay-type
+use Rattle.exports_decay.proofs.fields.x4_decay_energy.Reads as x4-energy
 use Rattle.one_answer.specs.ByHand.{NewPost, NextPost}
 use Rattle.one_answer.specs.Determined.{Determined, DeterminedWith, DeterminedPart}
 
@@ -137,6 +149,13 @@ pub record OneAnswer : Type 0 where
   pub piece : Determined piece.Post
   pub piece-part : DeterminedPart piece-part.Post
   pub write-back : DeterminedWith write-back.Post (λ κs s. now (s .1 .0))
+  -- the library, codes
+  pub code : DeterminedWith code.Post (λ κs s. now (s .1 .1 .1 .1 .0))
+  pub code-in : DeterminedWith code-in.Post (λ κs s. now (s .1 .1 .0))
+  pub code-head : Determined code-head.Post
+  pub code-group : Determined code-group.Post
+  pub code-type : Determined code-type.Post
+  pub code-energy : Determined code-energy.Post
   -- for host programs
   pub x4-version : Determined x4-version.Post
   pub x4-judge : DeterminedWith x4-judge.Post (λ κs s. now (s .1 .0))
@@ -182,3 +201,16 @@ pub record OneAnswer : Type 0 where
   pub x4-cinda-line-greatest : DeterminedWith x4-line.Post (λ κs s. now (s .1 .1 .1 .1 .0))
   pub x4-cinda-pieces : DeterminedWith x4-cinda-pieces.Post (λ κs s. now (s .1 .1 .0))
   pub x4-cinda-back : DeterminedWith x4-cinda-back.Post (λ κs s. now (s .1 .0))
+  -- two are lent: the run and how long it is
+  pub x4-decay : DeterminedWith x4-code.Post (λ κs s. now (s .1 .1 .1 .1 .0))
+  pub x4-decay-length : DeterminedWith x4-code.Post (λ κs s. now (s .1 .1 .1 .1 .1 .0))
+  pub x4-decay-in : DeterminedWith x4-code-in.Post (λ κs s. now (s .1 .1 .0))
+  pub x4-decay-in-length : DeterminedWith x4-code-in.Post (λ κs s. now (s .1 .1 .1 .0))
+  -- two are lent: places or numbers, and a value
+  pub x4-decay-head : DeterminedWith x4-head.Post (λ κs s. now (s .1 .0))
+  pub x4-decay-head-half : DeterminedWith x4-head.Post (λ κs s. now (s .1 .1 .0))
+  pub x4-decay-group : DeterminedWith x4-group.Post (λ κs s. now (s .1 .1 .0))
+  pub x4-decay-group-abundance : DeterminedWith x4-group.Post (λ κs s. now (s .1 .1 .1 .0))
+  pub x4-decay-type : DeterminedWith x4-decay-type.Post (λ κs s. now (s .1 .1 .1 .0))
+  pub x4-decay-energy : DeterminedWith x4-energy.Post (λ κs s. now (s .1 .1 .1 .0))
+  pub x4-decay-energy-value : DeterminedWith x4-energy.Post (λ κs s. now (s .1 .1 .1 .1 .0))

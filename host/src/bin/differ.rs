@@ -1,9 +1,10 @@
 //! Holds the library against the reference: on the sample and the sample with flags with every byte changed to every
 //! other, on a transmission with every byte of TRANS and ENDTRANS changed so, and on generated entries with their indexes and
 //! walks over their tables, transmissions, number fields and decimals, these also as doubles; on sample lines in the CINDA2001 layout
-//! with every byte changed to every other, and on generated ones.
+//! with every byte changed to every other, and on generated ones; on codes under DECAY-DATA with every byte changed to every other,
+//! and on generated entries with such codes.
 //!
-//!     cargo run --release --bin differ -- [--seed N] [--entries N] [--files N] [--numbers N] [--lines N]
+//!     cargo run --release --bin differ -- [--seed N] [--entries N] [--files N] [--numbers N] [--lines N] [--codes N]
 
 #![forbid(unsafe_code)]
 
@@ -27,7 +28,8 @@ fn run() -> Result<ExitCode, String> {
     let numbers = option(&arguments, "--numbers", 1_000_000)?;
     let lines = option(&arguments, "--lines", 100_000)?;
     println!("seed {seed}: {entries} entries, {files} transmissions, {numbers} number fields, {numbers} decimals");
-    println!("{lines} times lines");
+    let codes = option(&arguments, "--codes", 20_000)?;
+    println!("{lines} times lines, {codes} entries with codes");
     println!("answered {}", library::who_answers());
     let mut pair = Pair::new(&Library, &Reference);
     let every: Vec<u8> = (0..=255).collect();
@@ -44,7 +46,10 @@ fn run() -> Result<ExitCode, String> {
         .and_then(|()| pair.double_decimals(seed, numbers))
         .and_then(|()| pair.line_bytes(include_bytes!("../../data/sample.cinda"), &every))
         .and_then(|()| pair.line_limits())
-        .and_then(|()| pair.lines(seed, lines));
+        .and_then(|()| pair.lines(seed, lines))
+        .and_then(|()| pair.code_bytes(b"((1.)60-ND-138-M1, 5.04HR,DG/B+,328./1.E5, 0.065,X)", &every))
+        .and_then(|()| pair.code_limits())
+        .and_then(|()| pair.codes(seed, codes));
     print!("{}", pair.counts);
     match outcome {
         Ok(()) => {

@@ -4,6 +4,7 @@
 mod below;
 mod cinda;
 mod damage;
+mod decay;
 mod doubles;
 mod files;
 mod flags;
@@ -17,6 +18,10 @@ mod workloads;
 pub use below::{added, any_bytes, with_below, Below, BELOW, BLANK};
 pub use cinda::{cinda_input, cinda_limits, cinda_line, cinda_lines, CINDA_CAUSES};
 pub use damage::{damage, damaged, noise, random_bytes, Damage, CAUSES};
+pub use decay::{
+    code, damaged_code, decay_entry, decay_entry_of, decay_passage, decay_texts, laid_out, long_code, long_entry,
+};
+pub use decay::{Layout, LAYOUTS, LONGEST_CODE};
 pub use doubles::{decimal_in_hand, double_field, halfway};
 pub use files::{damaged_file, file_input, file_limits, transmission, Parts, FILE_CAUSES};
 pub use index::{alter_entry, alter_index, index_of};

@@ -9,9 +9,11 @@
 //! behind each ENDENTRY, and every piece is judged as an entry of its own. Why it is refused (M-108) is read off the tree
 //! of the records up to the refused one. An index (M-102) is made from the tree, and asked without it, by reads that refuse
 //! one after another. A walk over a table (M-112) is begun by the tree, and goes on by its numbers alone. A double (M-107)
-//! is found by dividing whole numbers. A line in the CINDA2001 layout (M-113) is cut by the manual's table of formats.
+//! is found by dividing whole numbers. A line in the CINDA2001 layout (M-113) is cut by the manual's table of formats. A code under
+//! DECAY-DATA (M-106) is cut at its commas, and what begins a field is found by trying endings.
 
 mod cinda;
+pub mod decay;
 mod double;
 mod files;
 pub mod flags;
@@ -26,6 +28,7 @@ mod walk;
 
 use crate::{Refusal, Verdict};
 pub use cinda::{cinda_back, cinda_check, cinda_line, cinda_pieces};
+pub use decay::{decay, decay_energy, decay_group, decay_head, decay_in, decay_type};
 pub use double::{as_double, double, index_double, read_double};
 pub use files::{copy_file, entry_length, judge_file};
 pub use index::{index_heading, index_passage, index_row, index_unit, index_value, make_index};

@@ -1170,6 +1170,178 @@ static void cinda(Buffer *lines, Buffer *copy, Buffer *again) {
     check(!memcmp(lines->bytes, work, n), "the lines are only read");
 }
 
+/* ---- codes under DECAY-DATA */
+
+static uint64_t code_refusals[128], taken_apart, no_codes;
+
+/* what codes are made of, good or not */
+static const char *code_pieces[] = {"(", "(1.)", "((2.)", "60-ND-139", "1-H-3-M", "25-MN-50-G", ",", ",", ",", ", ", ",,",
+                                    "3.3D", "30.0MIN", "1.E5E", "B+", "DG/EC", "405.", "708./738.", "0.257", ")", ")", " ",
+                                    "/", "A", "1.0", "TEXT", "\0", "((", "-M3", "12345678901"};
+static const char *good_codes[] = {"(40-ZR-89-M)", "(60-ND-140,3.30D)", "(59-PR-140, ,B+/EC, ,0.500)",
+                                   "(25-MN-50-G, 0.286SEC, B+, 6610.)", "(25-MN-50-M,1.76MIN,DG,785.,,B+)",
+                                   "((1.)60-ND-138,5.04HR,DG,328.,0.065)", "(60-ND-139-M,5.5HR,DG,708./738.,0.64)"};
+
+/* a code in some records of columns 12 to 66, broken behind some commas; at times changed, cut, or of pieces in any order */
+static size_t some_records(void) {
+    char text[600];
+    size_t n = 0, records = 0, column = 11;
+    memset(text, 0, sizeof text);
+    if (below(3)) {
+        strcpy(text, good_codes[below(sizeof good_codes / sizeof *good_codes)]);
+    } else {
+        for (size_t k = 1 + below(12); k > 0 && strlen(text) < 500; k--) {
+            strcat(text, code_pieces[below(sizeof code_pieces / sizeof *code_pieces)]);
+        }
+    }
+    n = strlen(text);
+    if (n && !below(3)) text[below(n)] = "(),./-+ 01AEGMT#"[below(16)];
+    memset(work, ' ', 20 * RECORD);
+    for (size_t at = 0; at < n && records < 12; at++) {
+        work[records * RECORD + column++] = (uint8_t)text[at];
+        if (column == 66 || (text[at] == ',' && !below(3)) || !below(60)) {
+            records++;
+            column = below(12) ? 11 : 12 + below(3);
+        }
+    }
+    records += 1 + (below(10) == 0);
+    for (size_t i = 0; i < records; i++) {
+        work[i * RECORD + RECORD - 1] = '\n';
+    }
+    size_t length = records * RECORD;
+    return below(10) ? length : length - below(RECORD);
+}
+
+/* a run: its head, every group, type and energy, places inside it, numbers that the number reader reads so */
+static void places_in(const uint8_t *run, size_t n, const uint64_t place[2], const uint64_t v[8]) {
+    check(place[0] <= n && place[1] <= n - place[0], "a place in the run");
+    if (!v) return;
+    check(x4_is_number(v) == (place[1] > 0), "a number where it has a place");
+    if (place[1] == 0) return;
+    uint8_t field[11];
+    uint64_t read[8];
+    check(place[1] <= 11, "at most eleven characters");
+    memset(field, ' ', 11);
+    memcpy(field + 11 - place[1], run + place[0], place[1]);
+    check(x4_read_number(field, 11, read) == 0 && !memcmp(read, v, 4 * sizeof *read), "its value is the number reader's");
+    check(!v[4] && !v[5] && !v[6] && !v[7], "no digits are counted");
+}
+
+static void taken(const uint8_t *run, size_t n, int whole) {
+    uint64_t places[15], half[8], numbers[4], abundance[8], place[2], value[8];
+    uint64_t *lent = lend(15), word = x4_decay_head(run, n, lent, half);
+    untouched(word);
+    check(!whole || word == 0, "a run is a code");
+    uint64_t groups = 0;
+    if (word) {
+        check(x4_refusal(word) == 50 && (word >> 8 & 0xffff) == 0 && x4_decay_before(word) <= n, "50, and how far");
+        no_codes++;
+    } else {
+        memcpy(places, lent, sizeof places);
+        for (int i = 0; i < 14; i += 2) {
+            places_in(run, n, places + i, i == X4_DECAY_HALF ? half : NULL);
+        }
+        check(places[X4_DECAY_Z + 1] && places[X4_DECAY_SYMBOL + 1] && places[X4_DECAY_A + 1], "a nuclide");
+        groups = places[X4_DECAY_GROUPS];
+        taken_apart++;
+    }
+    for (uint32_t k = 0; k <= groups + 1; k++) {
+        uint64_t there = x4_decay_group(run, n, k, numbers, abundance);
+        check(there == (k >= 1 && k <= groups), "a group");
+        places_in(run, n, numbers + 2, abundance);
+        check(!there || numbers[0] || numbers[1] || numbers[3], "no group is empty");
+        check(there || (!numbers[0] && !numbers[1] && !numbers[3]), "none is zeros");
+        for (uint32_t i = 0; i <= numbers[0] + 1; i++) {
+            check(x4_decay_type(run, n, k, i, place) == (i >= 1 && i <= numbers[0]), "a type");
+            places_in(run, n, place, NULL);
+            check((place[1] > 0) == (i >= 1 && i <= numbers[0]), "a type has characters");
+        }
+        for (uint32_t i = 0; i <= numbers[1] + 1; i++) {
+            check(x4_decay_energy(run, n, k, i, place, value) == (i >= 1 && i <= numbers[1]), "an energy");
+            places_in(run, n, place, value);
+        }
+    }
+    uint32_t any = (uint32_t)bits(), other = (uint32_t)bits();
+    check(any <= groups || !x4_decay_type(run, n, any, other, place), "no such group");
+}
+
+/* a code of a passage: refused with nothing stored, or a run that is a code, its own run, and no longer than the passage */
+static void code_of(const Buffer *passage, Buffer *out, Buffer *again, uint32_t code) {
+    size_t n = passage->length, room = below(3) ? n : below(80);
+    lay(out, room);
+    memset(out->bytes, '#', room);
+    uint64_t length[1] = {0xa5a5}, word = x4_decay_in(passage->bytes, n, code, out->bytes, room, length);
+    uint32_t number = x4_refusal(word);
+    code_refusals[number & 127]++;
+    check(number == 0 || number == 36 || number == 50 || number == 51 || number == 52, "a refusal of a code");
+    check(x4_entry_refusal(word) == 0 && x4_entry_ordinal(word) == 0, "nothing else beside it");
+    if (number == 50 || number == 51) {
+        uint32_t record = x4_entry_record(word), column = x4_entry_column(word);
+        check(column ? record >= 1 && record <= n / RECORD && column >= 12 && column <= 66
+                     : number == 50 && record == n / RECORD + 1,
+              "a place of the passage, or behind it");
+    } else {
+        check(word == number, "zeros beside it");
+    }
+    size_t stored = word ? 0 : length[0];
+    check(!word || length[0] == 0xa5a5, "a refused call stores no length");
+    check(stored <= n, "a run is no longer than its passage");
+    for (size_t i = stored; i < room; i++) {
+        check(out->bytes[i] == '#', "bytes behind the run stay");
+    }
+    if (word) return;
+    lay(again, stored);
+    memcpy(again->bytes, out->bytes, stored);
+    taken(again->bytes, stored, 1);
+    if (stored > 55) return;
+    uint8_t record[RECORD], run[55];
+    memset(record, ' ', sizeof record);
+    memcpy(record + 11, out->bytes, stored);
+    check(x4_decay_in(record, RECORD, 1, run, stored, length) == 0 && length[0] == stored && !memcmp(run, record + 11, stored),
+          "a run is its own run");
+    check(x4_decay_in(record, RECORD, 1, run, stored - 1, length) == 52, "one byte less is 52");
+}
+
+static void decays(Buffer *passage, Buffer *out, Buffer *again) {
+    size_t n = some_records();
+    fill(passage, work, n);
+    for (uint32_t code = 0; code <= 3; code++) {
+        code_of(passage, out, again, code);
+    }
+    code_of(passage, out, again, (uint32_t)bits());
+    check(!memcmp(passage->bytes, work, n), "the passage is only read");
+    size_t text = n < 66 ? n : 66;
+    lay(again, text > 11 ? text - 11 : 0);
+    memcpy(again->bytes, work + (text > 11 ? 11 : 0), again->length);
+    while (again->length > 0 && again->bytes[again->length - 1] == ' ' && below(8)) {
+        again->length--;
+    }
+    taken(again->bytes, again->length, 0);
+}
+
+/* codes of an entry: refused as its passage is, else as the passage in hand */
+static void code_in_entry(const Buffer *entry, Buffer *out, uint64_t verdict) {
+    static const char *pointers = " 1234AZ";
+    uint32_t subentry = (uint32_t)below(4), code = (uint32_t)below(4);
+    uint8_t pointer = (uint8_t)pointers[below(7)];
+    uint64_t part[3], length[1], own[1];
+    size_t room = below(4) ? entry->length : below(40);
+    lay(out, room);
+    memset(out->bytes, '#', room);
+    uint64_t word = x4_decay(entry->bytes, entry->length, subentry, pointer, code, out->bytes, room, length);
+    code_refusals[x4_refusal(word) & 127]++;
+    uint64_t asked = x4_passage(entry->bytes, entry->length, subentry, (const uint8_t *)"DECAY-DATA", 10, pointer, part);
+    if (asked) {
+        check(word == asked && (verdict == 0) == (x4_refusal(word) != 31), "refused as its passage is");
+        return;
+    }
+    static uint8_t second[MOST];
+    memset(second, '#', room);
+    uint64_t due = x4_decay_in(entry->bytes + part[0], part[1], code, second, room, own);
+    if (x4_refusal(due) == 50 || x4_refusal(due) == 51) due += (part[0] / RECORD) << 24;
+    check(word == due && (word || own[0] == length[0]) && !memcmp(second, out->bytes, room), "as the passage in hand");
+}
+
 int main(int count, char **words) {
     if (count < 4) {
         fputs("fuzz SEED ROUNDS FILE..\n", stderr);
@@ -1188,6 +1360,9 @@ int main(int count, char **words) {
         for (int i = 0; i < 8; i++) {
             questions(&entry, &keyword, verdict);
         }
+        for (int i = 0; i < 4; i++) {
+            code_in_entry(&entry, &copy, verdict);
+        }
         copies(&entry, &copy, &again, verdict, totals);
         for (int i = 0; i < 8; i++) {
             fields(&field);
@@ -1201,6 +1376,9 @@ int main(int count, char **words) {
         }
         for (int i = 0; i < 4; i++) {
             cinda(&entry, &copy, &again);
+        }
+        for (int i = 0; i < 8; i++) {
+            decays(&entry, &copy, &again);
         }
     }
     printf("seeds %" PRIu64 " to %" PRIu64 ": %" PRIu64 " entries accepted, ", first, first + rounds - 1, accepted);
@@ -1244,6 +1422,13 @@ int main(int count, char **words) {
             printf(" %d:%" PRIu64, i, line_refusals[i]);
         }
     }
+    printf("; codes by refusal");
+    for (int i = 0; i < 128; i++) {
+        if (code_refusals[i]) {
+            printf(" %d:%" PRIu64, i, code_refusals[i]);
+        }
+    }
+    printf(", %" PRIu64 " runs taken apart, %" PRIu64 " texts that are none", taken_apart, no_codes);
     printf("; reasons by kind");
     for (int i = 0; i < 7; i++) {
         printf(" %d:%" PRIu64, i, kinds[i]);

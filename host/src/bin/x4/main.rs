@@ -1,9 +1,10 @@
-//! x4: judges EXFOR entries and transmissions, prints and compares their tables, lists their subentries, and copies them
-//! canonically; checks, prints and copies lines in the CINDA2001 layout.
+//! x4: judges EXFOR entries and transmissions, prints and compares their tables, lists their subentries, takes their codes
+//! under DECAY-DATA apart, and copies them canonically; checks, prints and copies lines in the CINDA2001 layout.
 
 #![forbid(unsafe_code)]
 
 mod cinda;
+mod decay;
 
 use glockenbeacon::explain::Explanation;
 use glockenbeacon::json::{object, text};
@@ -25,6 +26,7 @@ TRANS, one transmission: TRANS, one or more entries, ENDTRANS.
   x4 canon [FILE]                  the canonical copy: every number but flags in its shortest spelling
   x4 compare [--exact] [--digits] A B
                                    the first difference between the tables of two
+  x4 decay [--csv] [FILE]          every code under DECAY-DATA, taken apart into its fields
   x4 cinda judge|table|copy ..     lines in the CINDA2001 layout: are they good, as a table, written back
   x4 help COMMAND                  more about a command
 
@@ -151,6 +153,7 @@ fn run(arguments: &[OsString]) -> Done {
         Some("index") => print_index(rest),
         Some("canon") => canon(rest),
         Some("compare") => compare_two(rest),
+        Some("decay") => decay::run(rest),
         Some("cinda") => cinda::run(rest),
         Some("help" | "--help" | "-h") => help(rest.first()),
         Some("--version") => {
@@ -173,6 +176,7 @@ fn help(command: Option<&OsString>) -> Done {
         Some((_, Some("index"))) => HELP_INDEX,
         Some((_, Some("canon"))) => HELP_CANON,
         Some((_, Some("compare"))) => HELP_COMPARE,
+        Some((_, Some("decay"))) => decay::HELP,
         Some((_, Some("cinda"))) => cinda::HELP,
         Some((other, _)) => return Err(no_command(other)),
     };

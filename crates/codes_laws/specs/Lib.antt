@@ -1,0 +1,5 @@
+pub mod Inside
+pub mod Copied
+pub mod Placed
+pub mod Faults
+pub mod Passages

@@ -1,0 +1,4 @@
+pub mod Opening
+pub mod Closed
+pub mod Answers
+pub mod Asked

@@ -1,0 +1,9 @@
+pub mod Characters
+pub mod Scan
+pub mod Numerals
+pub mod Code
+pub mod Fields
+pub mod Records
+pub mod Laid
+pub mod Claims
+pub mod Examples

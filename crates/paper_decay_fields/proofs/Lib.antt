@@ -1,0 +1,13 @@
+pub mod Words
+pub mod Cutting
+pub mod Edges
+pub mod Alone
+pub mod Codes
+pub mod Absent
+pub mod Fields
+pub mod Heads
+pub mod Groups
+pub mod Lying
+pub mod Grouped
+pub mod Standing
+pub mod Same

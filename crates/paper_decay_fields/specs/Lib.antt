@@ -1,0 +1,4 @@
+pub mod Parts
+pub mod Asked
+pub mod Claims
+pub mod Standing

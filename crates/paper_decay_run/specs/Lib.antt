@@ -1,0 +1,4 @@
+pub mod Overlay
+pub mod Text
+pub mod Run
+pub mod Claims
