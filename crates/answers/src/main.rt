@@ -4,6 +4,9 @@
 // ten, the pointer in one; `w`, a walk: the subentry and the section, ten columns each. Of each question it writes the
 // number, what stands beside it, and the answer: the value and the count of its digits, or the first byte, the length,
 // the pointer and the part.
+
+#![tactic(auto)]
+
 use bytes::scan::find;
 use paper_record::types::LineNo;
 use paper_walk::types::Given;

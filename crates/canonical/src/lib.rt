@@ -1,2 +1,5 @@
 // Number fields: writing a decimal as its one canonical field.
+
+#![tactic(auto)]
+
 pub mod write;

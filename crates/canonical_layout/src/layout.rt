@@ -9,7 +9,7 @@ use number::value::without_zeros;
 use paper_canonical::types::{Layout, Prepared, Size};
 
 // How many digits a number has, and the least number that has as many.
-#[derive(Drop)]
+#[derive(Clone, Copy)]
 pub struct Measure {
     pub digits: usize,
     pub least: u64,

@@ -1,2 +1,5 @@
 // Number fields: storing the bytes of a canonical field that is laid out.
+
+#![tactic(auto)]
+
 pub mod store;

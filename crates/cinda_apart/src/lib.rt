@@ -1,2 +1,5 @@
 // A line in the CINDA2001 layout, taken apart.
+
+#![tactic(auto)]
+
 pub mod apart;

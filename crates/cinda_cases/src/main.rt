@@ -10,6 +10,9 @@
 // Of each case it writes the title and, each behind number, line and column, four answers: the check's; the line's
 // single characters, its Z, block, sequence, year and month, its A, its energies with their digits; where the part
 // stands, its length, and itself; the buffer.
+
+#![tactic(auto)]
+
 mod asking;
 
 use crate::asking::{ask_back, ask_check, ask_line, ask_piece};

@@ -1,2 +1,5 @@
 // The classes of characters, and which are permitted.
+
+#![tactic(auto)]
+
 pub mod class;

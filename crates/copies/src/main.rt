@@ -1,6 +1,9 @@
 // Copies the sample, which is the first 26 records of the input, the larger entry behind it and one with flags, each
 // into a buffer that fits, one that is a byte short and one that is longer; then the sample without its last record. Of
 // each it says what the call answers and leaves. Every buffer is full of stars before.
+
+#![tactic(auto)]
+
 ghost use Rattle.std.specs.Prelude.{◌≤◌};
 
 use check::same;

@@ -1,2 +1,5 @@
 // The canonical copy of an entry.
+
+#![tactic(auto)]
+
 pub mod copy;

@@ -1,2 +1,5 @@
 // Which fields of a record are number fields.
+
+#![tactic(auto)]
+
 pub mod fields;

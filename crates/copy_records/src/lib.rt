@@ -1,2 +1,5 @@
 // The canonical copy of one record.
+
+#![tactic(auto)]
+
 pub mod records;

@@ -12,6 +12,9 @@
 // Z, symbol, A, isomer, half-life, unit and how many groups there are; and a line for each group from 0 to one past the
 // last: how many types and energies it has, its abundance, its types and its energies, these from 0 to one past the last
 // too. A field is where it begins, its length, its characters and, of a number, its value.
+
+#![tactic(auto)]
+
 mod asking;
 mod fields;
 

@@ -1,2 +1,5 @@
 // A DECAY-DATA code in the records of its passage.
+
+#![tactic(auto)]
+
 pub mod records;

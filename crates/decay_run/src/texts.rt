@@ -10,7 +10,7 @@ use decay_numbers::kept::put_kept;
 use decay_words::words::find_byte;
 
 // Where the next byte is stored, and the place of the next field.
-#[derive(Drop)]
+#[derive(Clone, Copy)]
 pub struct Put {
     pub at: usize,
     pub place: u8,

@@ -1,2 +1,5 @@
 // The value question as a double, in full.
+
+#![tactic(auto)]
+
 pub mod asking;

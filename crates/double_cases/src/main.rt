@@ -3,6 +3,9 @@
 // for a double: the subentry, the section, the line and the column, ten columns each. Of each field it writes `blank`,
 // `double` and the sixteen hexadecimal digits of its bits, `decimal` with sign, coefficient and power, or the number
 // that it is refused by, and the count of its digits; of each question the number, what stands beside it, and the same.
+
+#![tactic(auto)]
+
 ghost use Rattle.std.specs.Prelude.{not, T};
 ghost use Rattle.std.specs.Float.Ieee.{is_nan};
 ghost use Rattle.double_cases.specs.Numbers.{is_number};

@@ -1,2 +1,5 @@
 // The one operation that is rounded.
+
+#![tactic(auto)]
+
 pub mod once;

@@ -1,2 +1,5 @@
 // The value question as a double, from a row and by an index.
+
+#![tactic(auto)]
+
 pub mod rows;

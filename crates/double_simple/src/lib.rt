@@ -1,2 +1,5 @@
 // Which decimals are doubles, and which.
+
+#![tactic(auto)]
+
 pub mod simple;

@@ -1,2 +1,5 @@
 // The exact powers of ten.
+
+#![tactic(auto)]
+
 pub mod tens;

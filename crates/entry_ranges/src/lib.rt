@@ -1,1 +1,3 @@
 // The ranges of records that are kept follow the parts that a rule may look back at.
+
+#![tactic(auto)]

@@ -15,7 +15,7 @@ use rules_due::role::role;
 use rules_values::values::values;
 
 // The role of a record, and the state after it.
-#[derive(Drop)]
+#[derive(Clone, Copy)]
 pub struct Passed {
     pub role: usize,
     pub next: Judge,

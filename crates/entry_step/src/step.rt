@@ -23,7 +23,7 @@ use rules_state::state::start_track;
 use rules_values::values::values;
 
 // The state before a record: what is due, what is counted, and the records that a rule may look back at.
-#[derive(Drop)]
+#[derive(Clone, Copy)]
 pub struct Judge {
     pub phase: Phase,
     pub track: Track,
@@ -31,7 +31,7 @@ pub struct Judge {
 }
 
 // The fault of a record, and the state after it; a record at fault leaves the state as it was.
-#[derive(Drop)]
+#[derive(Clone, Copy)]
 pub struct Step {
     pub fault: Fault,
     pub next: Judge,

@@ -1,3 +1,6 @@
 // What a verdict says, and what a call about an entry answers.
+
+#![tactic(auto)]
+
 pub mod answer;
 pub mod verdict;

@@ -1,2 +1,5 @@
 // The library for host programs, values as doubles: functions as those of `exports`, in an archive of their own.
+
+#![tactic(auto)]
+
 pub mod doubles;

@@ -1,2 +1,5 @@
 // A decimal in hand.
+
+#![tactic(auto)]
+
 pub mod hand;

@@ -1,2 +1,5 @@
 // A number field as a call answers it, in eight numbers.
+
+#![tactic(auto)]
+
 pub mod values;

@@ -1,1 +1,3 @@
 // The entries of a file are met as its parts. There is no code here.
+
+#![tactic(auto)]

@@ -1,1 +1,3 @@
 // What a file's verdict says, in plain words. There is no code here.
+
+#![tactic(auto)]

@@ -1,1 +1,3 @@
 // What a file is: TRANS, accepted entries, ENDTRANS. There is no code here.
+
+#![tactic(auto)]

@@ -12,7 +12,7 @@ use paper_rules::types::Totals;
 
 // The records before the one in hand, from the file's start; the entries that have ended, and what they come to; the
 // judge of the entry in hand, where there is none a new one.
-#[derive(Drop)]
+#[derive(Clone, Copy)]
 pub struct File {
     pub stage: Stage,
     pub records: Index,
@@ -22,7 +22,7 @@ pub struct File {
 }
 
 // The fault of a record, and the state before it; or the state further on.
-#[derive(Drop)]
+#[derive(Clone, Copy)]
 pub struct FileStep {
     pub fault: Fault,
     pub next: File,

@@ -5,6 +5,9 @@
 // a subentry; `v`, `h`, `u`, `p`, a question as in `answers`, by the index in hand. Numbers have ten columns each. Of each
 // making it writes the answer, how many rows the entry has and the numbers, of each row its refusal, how many stand before
 // it and its four records, of each question what `answers` writes.
+
+#![tactic(auto)]
+
 mod asking;
 mod changing;
 mod making;
@@ -15,7 +18,7 @@ use crate::making::index_of;
 use bytes::scan::find;
 
 // How many bytes the entry has, and how many numbers the index in hand.
-#[derive(Drop)]
+#[derive(Clone, Copy)]
 struct Held {
     used: usize,
     numbers: usize,

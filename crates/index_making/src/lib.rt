@@ -1,2 +1,5 @@
 // Making the index of an entry.
+
+#![tactic(auto)]
+
 pub mod making;

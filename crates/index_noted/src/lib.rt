@@ -1,2 +1,5 @@
 // Making an index: what a record leaves in the rows.
+
+#![tactic(auto)]
+
 pub mod noted;

@@ -1,2 +1,5 @@
 // The index of an accepted entry, stored from system record to system record.
+
+#![tactic(auto)]
+
 pub mod walk;

@@ -1,1 +1,3 @@
 // The questions inside an entry's own shape: that each is answered.
+
+#![tactic(auto)]

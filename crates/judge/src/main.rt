@@ -1,5 +1,8 @@
 // The judging program: reads an entry of at most 809 records from standard input, and writes refusal, record, column,
 // subentries, keywords, lines and numbers. A longer input is refusal 1, whatever it holds.
+
+#![tactic(auto)]
+
 use entry::judge::judge;
 use program_verdict::say_verdict;
 

@@ -1,5 +1,8 @@
 // The judging program for files: reads a file of at most 809 records from standard input, and writes refusal, record,
 // column, subentries, keywords, lines, numbers and the ordinal of the entry. A longer input is refusal 1, whatever it holds.
+
+#![tactic(auto)]
+
 use files::judge_file::judge_file;
 use program_verdict::say_file_verdict;
 

@@ -1,6 +1,6 @@
 -- How many places meet a test, and the first that does. Assumes nothing.
 use Prim.Native.Nat.{ℕ, zero, suc, ◌+◌, ◌<◌, ◌≤◌}
-use mathlib.Core.Path.{◌≡◌, refl, sym, ◌∙◌}
+use mathlib.Core.Path.{◌≡◌, refl, sym, ap, ◌∙◌}
 use mathlib.Core.Bool.{Bool, true, false, cond, ◌&&◌}
 use native.Mathlib.Omega.{arith}
 use lib.Dec.{eqb, leb, ltb}
@@ -46,7 +46,9 @@ many-above t u zero l = let z : u ≡ 0 = omega arith in rw z
 many-above t u (suc n) l =
     either n u
     (λ a. let z : u ≡ suc n = omega arith in
-    rw z (many_below t (suc n) (suc n) (omega arith)))
+    ap (λ v. how_many (λ k. ltb k v && t k) 0 (suc n)) z
+        ∙ many_below t (suc n) (suc n) (omega arith)
+        ∙ ap (how_many t 0) (sym z))
     (λ a. let z : 0 + n ≡ n = omega arith in
     let e = many-above t u n a in
     rw (z, le-ltb n u a) (omega arith))

@@ -1,1 +1,3 @@
 // Laws that every layer cites: definitions and proofs, and no code.
+
+#![tactic(auto)]

@@ -1,1 +1,3 @@
 // Calls about lines for host programs: no answer is lost in its word and its arrays. There is no code here.
+
+#![tactic(auto)]

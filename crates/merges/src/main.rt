@@ -14,6 +14,9 @@
 // refused; the merge's length, the sum of so many bytes of the buffer, and how many bytes behind them are still a `~`.
 // Where it is 0, those records of the merge that have the sequence 00001 or the subentry 999. The sum begins at 0, and
 // each byte b makes the sum s into (65599 s + b) mod 4294967291.
+
+#![tactic(auto)]
+
 mod asking;
 mod writing;
 

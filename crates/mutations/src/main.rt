@@ -1,5 +1,8 @@
 // Judges the entry on standard input with each of its bytes changed to each of eight, and cut after each record.
 // Writes for each refusal number how many cases got it, and a checksum over refusal, record and column of all cases.
+
+#![tactic(auto)]
+
 ghost use Rattle.std.specs.Prelude.{◌<◌, length};
 
 use entry::judge::judge;
@@ -8,7 +11,7 @@ use program_text::say_line;
 use std::num::wrapping_add_u32;
 
 // How many cases got each refusal number, and the checksum.
-#[derive(Drop)]
+#[derive(Clone, Copy)]
 struct Tally {
     counts: [u32; 18],
     sum: u32,

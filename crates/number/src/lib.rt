@@ -1,3 +1,6 @@
 // Number fields: what a field says, its form, and stripping zeros.
+
+#![tactic(auto)]
+
 pub mod form;
 pub mod value;

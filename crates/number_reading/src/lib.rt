@@ -1,2 +1,5 @@
 // Number fields: reading a field of eleven columns as an exact decimal.
+
+#![tactic(auto)]
+
 pub mod read;

@@ -1,2 +1,5 @@
 // What the columns of a number field spell.
+
+#![tactic(auto)]
+
 pub mod spell;

@@ -1,2 +1,5 @@
 // Number fields: the walk over a field of at most eleven columns, from one place to the next.
+
+#![tactic(auto)]
+
 pub mod walk;

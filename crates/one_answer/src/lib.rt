@@ -1,1 +1,3 @@
 // Two answers that the promise of a public call allows are equal, call by call.
+
+#![tactic(auto)]

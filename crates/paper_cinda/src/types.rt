@@ -2,12 +2,12 @@
 use paper_number::types::FieldRead;
 
 // The number of a line, from 1. It counts no record of an entry and no line of a table.
-#[derive(Drop)]
+#[derive(Clone, Copy)]
 pub struct CindaNo(pub u32);
 
 // What a call about lines answers: its number, and beside 71 to 77 the line and the column. Beside every other number, 0 too,
 // both are 0.
-#[derive(Drop)]
+#[derive(Clone, Copy)]
 pub struct LinesAnswer {
     pub number: u8,
     pub line: CindaNo,
@@ -15,14 +15,14 @@ pub struct LinesAnswer {
 }
 
 // A of the target, or many nuclei.
-#[derive(Drop)]
+#[derive(Clone, Copy)]
 pub enum Mass {
     Number(u64),
     Many,
 }
 
 // A line taken apart: its numbers, and its single characters as they are. The longer texts are parts of the caller's line.
-#[derive(Drop)]
+#[derive(Clone, Copy)]
 pub struct Line {
     pub operation: u8,
     // Target Z, 2-4.
@@ -51,14 +51,14 @@ pub struct Line {
 }
 
 // The answer to the question for a line.
-#[derive(Drop)]
+#[derive(Clone, Copy)]
 pub struct LineAnswer {
     pub answer: LinesAnswer,
     pub line: Line,
 }
 
 // A part of a line: all of it, or one of its five texts.
-#[derive(Drop)]
+#[derive(Clone, Copy)]
 pub enum Piece {
     Whole,
     Reaction,
@@ -69,7 +69,7 @@ pub enum Piece {
 }
 
 // The answer to the question for a part: its first byte in the caller's lines, and how many bytes it has.
-#[derive(Drop)]
+#[derive(Clone, Copy)]
 pub struct PieceAnswer {
     pub answer: LinesAnswer,
     pub first: usize,

@@ -2,7 +2,7 @@
 use paper_number::types::Decimal;
 
 // Blank, a double, or a decimal that is outside the simple range.
-#[derive(Drop)]
+#[derive(Clone, Copy)]
 pub enum Simple {
     Blank,
     Double(f64),

@@ -3,7 +3,7 @@ use paper_double::types::Simple;
 use paper_entry::types::Answer;
 
 // The answer about a value as a double, and how many digits are written in its field.
-#[derive(Drop)]
+#[derive(Clone, Copy)]
 pub struct DoubleAnswer {
     pub answer: Answer,
     pub value: Simple,

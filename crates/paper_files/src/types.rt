@@ -1,7 +1,7 @@
 // The types that the definitions name.
 
 // Before TRANS, behind it, behind ENDTRANS.
-#[derive(Drop)]
+#[derive(Clone, Copy)]
 pub enum Stage {
     Before,
     Within,

@@ -1,7 +1,7 @@
 // The types that the definitions name.
 
 // A value: its sign, a coefficient that ten does not divide, and a power of ten. Zero is (no, 0, 0).
-#[derive(Drop)]
+#[derive(Clone, Copy)]
 pub struct Decimal {
     pub negative: bool,
     pub coefficient: u64,
@@ -9,7 +9,7 @@ pub struct Decimal {
 }
 
 // Blank, a number, or refused by document 01's number: 15 malformed, 40 not eleven bytes.
-#[derive(Drop)]
+#[derive(Clone, Copy)]
 pub enum Reading {
     Blank,
     Number(Decimal),
@@ -17,13 +17,13 @@ pub enum Reading {
 }
 
 // A number without its last zeros, and how many those were.
-#[derive(Drop)]
+#[derive(Clone, Copy)]
 pub struct Trim {
     pub number: u64,
     pub zeros: u32,
 }
 
-#[derive(Drop)]
+#[derive(Clone, Copy)]
 pub enum Form {
     Blank,
     Number,
@@ -32,14 +32,14 @@ pub enum Form {
 
 // What a field says, and how many digits were written in it, from the first that is not zero to the last: 0 where it is
 // no number.
-#[derive(Drop)]
+#[derive(Clone, Copy)]
 pub struct FieldRead {
     pub reading: Reading,
     pub digits: u8,
 }
 
 // The digits read so far, how many of them stand behind the point, and the column that comes next.
-#[derive(Drop)]
+#[derive(Clone, Copy)]
 pub struct Front {
     pub formed: bool,
     pub at: usize,
@@ -48,7 +48,7 @@ pub struct Front {
 }
 
 // What stands behind the digits: an exponent, 0 where none is written; `raised` where one is, be it 0.
-#[derive(Drop)]
+#[derive(Clone, Copy)]
 pub struct Exponent {
     pub formed: bool,
     pub raised: bool,
@@ -57,7 +57,7 @@ pub struct Exponent {
 }
 
 // What the columns of a field spell: a number where `formed`, blanks where `blank`, else nothing.
-#[derive(Drop)]
+#[derive(Clone, Copy)]
 pub struct Spelt {
     pub formed: bool,
     pub blank: bool,
@@ -71,7 +71,7 @@ pub struct Spelt {
 
 // No number: blank or malformed. Raised: a number with an exponent written, be it zero. Broken: a number without one
 // that is below zero or has a fraction. Else the whole number.
-#[derive(Drop)]
+#[derive(Clone, Copy)]
 pub enum WholeRead {
     NoNumber,
     Raised,

@@ -4,21 +4,21 @@ use paper_number::types::Reading;
 use paper_record::types::RecordNo;
 
 // How many columns a table has, and how many lines.
-#[derive(Drop)]
+#[derive(Clone, Copy)]
 pub struct Shape {
     pub columns: u32,
     pub lines: u32,
 }
 
 // The first record of a passage, and how many it has; none where there is no such passage.
-#[derive(Drop)]
+#[derive(Clone, Copy)]
 pub struct Passage {
     pub first: RecordNo,
     pub records: u32,
 }
 
 // A subentry's number, its first record, and the records BIB, COMMON and DATA, 0 where there is none.
-#[derive(Drop)]
+#[derive(Clone, Copy)]
 pub struct Row {
     pub number: u32,
     pub first: RecordNo,
@@ -27,7 +27,7 @@ pub struct Row {
     pub data: RecordNo,
 }
 
-#[derive(Drop)]
+#[derive(Clone, Copy)]
 pub struct Located {
     pub verdict: Verdict,
     pub row: Row,
@@ -35,7 +35,7 @@ pub struct Located {
 
 // The number of each answer is 0 or 31 to 36, by an index also 38 or 39. Beside a value stands how many digits were written in its
 // field: 0 beside a blank and beside a refusal.
-#[derive(Drop)]
+#[derive(Clone, Copy)]
 pub struct ValueAnswer {
     pub answer: Answer,
     pub value: Reading,
@@ -44,7 +44,7 @@ pub struct ValueAnswer {
 
 // A part of the entry by its first byte and its length, and a pointer. The number of each answer is 0 or 31 to 36, by an index also
 // 38 or 39.
-#[derive(Drop)]
+#[derive(Clone, Copy)]
 pub struct PartAnswer {
     pub answer: Answer,
     pub first: usize,

@@ -4,7 +4,7 @@ use paper_record::types::RecordNo;
 
 // What stands below a verdict: nothing; the announced and the true count; the least and the greatest, 0 for no greatest; the
 // number of the subentry before; record and column of the first equal heading; the pointer; the characters that are expected.
-#[derive(Drop)]
+#[derive(Clone, Copy)]
 pub enum Facts {
     Alone,
     Count(u64, u64),
@@ -16,20 +16,20 @@ pub enum Facts {
 }
 
 // An enum holds no array, so the characters stand beside it: eight, five and blanks behind them, or blanks.
-#[derive(Drop)]
+#[derive(Clone, Copy)]
 pub struct Reason {
     pub facts: Facts,
     pub characters: [u8; 8],
 }
 
-#[derive(Drop)]
+#[derive(Clone, Copy)]
 pub struct Explained {
     pub verdict: Verdict,
     pub reason: Reason,
 }
 
 // Entries of a file that were passed, one behind the other: how many, and the byte behind them.
-#[derive(Drop)]
+#[derive(Clone, Copy)]
 pub struct Passed {
     pub entries: u32,
     pub at: usize,

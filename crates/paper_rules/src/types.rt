@@ -2,21 +2,21 @@
 use paper_record::types::{Index, LineNo};
 
 // What a count may be.
-#[derive(Drop)]
+#[derive(Clone, Copy)]
 pub enum Limit {
     AtLeast(u64),
     Between(u64, u64),
 }
 
 // A section and a column of it, both from 1, or nothing.
-#[derive(Drop)]
+#[derive(Clone, Copy)]
 pub enum Found {
     At(usize, usize),
     Nothing,
 }
 
 // Records from one index up to another, that one not among them.
-#[derive(Drop)]
+#[derive(Clone, Copy)]
 pub struct Range {
     pub from: Index,
     pub past: Index,
@@ -24,7 +24,7 @@ pub struct Range {
 
 // The records that a rule may look back at: this BIB so far, those under the keyword in hand, the BIB of 001; the
 // heading records of the COMMON of 001, of this COMMON, of the section in hand.
-#[derive(Drop)]
+#[derive(Clone, Copy)]
 pub struct Ranges {
     pub bib: Range,
     pub under: Range,
@@ -35,7 +35,7 @@ pub struct Ranges {
 }
 
 // What is due next.
-#[derive(Drop)]
+#[derive(Clone, Copy)]
 pub enum Phase {
     Start,
     Opened,
@@ -51,7 +51,7 @@ pub enum Phase {
 }
 
 // The four totals so far.
-#[derive(Drop)]
+#[derive(Clone, Copy)]
 pub struct Totals {
     pub subentries: u32,
     pub keywords: u32,
@@ -60,7 +60,7 @@ pub struct Totals {
 }
 
 // The subentry in hand.
-#[derive(Drop)]
+#[derive(Clone, Copy)]
 pub struct Subentry {
     pub number: u32,
     // How many records stand between its SUBENT and the record in hand.
@@ -68,7 +68,7 @@ pub struct Subentry {
 }
 
 // The BIB in hand: the keywords and records that it announces, and the keywords met.
-#[derive(Drop)]
+#[derive(Clone, Copy)]
 pub struct Bib {
     pub keywords: u64,
     pub records: u64,
@@ -76,7 +76,7 @@ pub struct Bib {
 }
 
 // The COMMON or DATA in hand, and where the record in hand stands in it.
-#[derive(Drop)]
+#[derive(Clone, Copy)]
 pub struct Table {
     // The columns that it announces, and the number of its last line.
     pub columns: u32,
@@ -91,7 +91,7 @@ pub struct Table {
 }
 
 // What is counted and announced before the record in hand.
-#[derive(Drop)]
+#[derive(Clone, Copy)]
 pub struct Track {
     // How many records stand before it in the entry.
     pub records: Index,

@@ -5,7 +5,7 @@ use paper_record::types::{LineNo, RecordNo};
 
 // Where a walk stands: the answer to the call that made it, the table's own record, its columns and lines, and the place that
 // comes next.
-#[derive(Drop)]
+#[derive(Clone, Copy)]
 pub struct Walk {
     pub answer: Answer,
     pub section: RecordNo,
@@ -16,14 +16,14 @@ pub struct Walk {
 }
 
 // A value, with its count of digits, and its line and column; or done.
-#[derive(Drop)]
+#[derive(Clone, Copy)]
 pub enum Given {
     At(LineNo, u32, FieldRead),
     Done,
 }
 
 // What is given, and where the walk stands then.
-#[derive(Drop)]
+#[derive(Clone, Copy)]
 pub struct Step {
     pub walk: Walk,
     pub given: Given,

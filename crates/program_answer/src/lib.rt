@@ -1,4 +1,7 @@
 // Answers to questions as programs write them.
+
+#![tactic(auto)]
+
 use paper_entry::types::Answer;
 use paper_number::types::{Decimal, Reading};
 use paper_questions::types::{PartAnswer, ValueAnswer};

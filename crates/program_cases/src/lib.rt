@@ -13,6 +13,9 @@
 //     ! TITLE              ends the case of an entry; the next one begins again from the whole entry
 //     % TITLE              the same, but the case is a file
 //     # ..                 a comment
+
+#![tactic(auto)]
+
 mod case;
 
 ghost use Rattle.std.specs.Prelude.{◌≡◌, ◌<◌, ◌≤◌, length};
@@ -24,7 +27,7 @@ use std::num::wrapping_add_usize;
 
 // A case: `!` or `%`, or a blank where no title is left; where its title begins and ends in the text, and where the next line
 // begins; how many bytes the whole entry has, and the case.
-#[derive(Drop)]
+#[derive(Clone, Copy)]
 pub struct Titled {
     pub kind: u8,
     pub from: usize,
@@ -35,7 +38,7 @@ pub struct Titled {
 }
 
 // How many bytes the whole entry has, and the case.
-#[derive(Drop)]
+#[derive(Clone, Copy)]
 struct Lengths {
     whole: usize,
     case: usize,

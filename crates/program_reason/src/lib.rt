@@ -1,4 +1,7 @@
 // A reason as programs write it: one line, or none.
+
+#![tactic(auto)]
+
 use paper_reasons::types::{Facts, Reason};
 use program_text::say_line;
 

@@ -1,5 +1,8 @@
 // What the programs of this repository have in common: words and numbers on standard output, and numbers in the lines
 // that they read.
+
+#![tactic(auto)]
+
 ghost use Rattle.std.specs.Prelude.{◌≡◌, ◌≤◌, ◌-◌};
 ghost use Rattle.program_text.specs.Line.{byte_at, with_digit, number_over};
 

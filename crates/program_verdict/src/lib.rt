@@ -1,4 +1,7 @@
 // A verdict as programs write it.
+
+#![tactic(auto)]
+
 use paper_entry::types::Verdict;
 use program_text::{say_line, say_numbers};
 

@@ -1,2 +1,5 @@
 // Questions to an entry: values, headings, units and passages.
+
+#![tactic(auto)]
+
 pub mod ask;

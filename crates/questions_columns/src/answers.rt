@@ -16,7 +16,7 @@ use questions_places::place::{byte_of, heading_place, shape_from, unit_place};
 use questions_reads::reads::read_section;
 
 // What is read before the field that is asked for: the number of the first refusal, or 0 and the section's columns.
-#[derive(Drop)]
+#[derive(Clone, Copy)]
 struct ColumnRead {
     number: u8,
     columns: u32,

@@ -1,2 +1,5 @@
 // The subentry's first record, as a question reads it.
+
+#![tactic(auto)]
+
 pub mod first;

@@ -13,7 +13,7 @@ use record_faults::faults::{bad_pointer, is_unit};
 use record_words::word::is_word;
 
 // A heading's field: whether it is in its form, and its eleventh column.
-#[derive(Drop)]
+#[derive(Clone, Copy)]
 pub struct HeadingRead {
     pub good: bool,
     pub pointer: u8,

@@ -14,7 +14,7 @@ use rules_roles::roles::opens_subentry;
 use rules_state::state::MOST_RECORDS;
 
 // The number of the subentry in hand behind the record, and how many records stand between it and the next system record.
-#[derive(Drop)]
+#[derive(Clone, Copy)]
 pub struct System {
     pub identifier: usize,
     pub hand: u32,

@@ -1,5 +1,8 @@
 // Reads number fields from standard input, a line each, and says what each reads to, `145 e_3` being 145 times ten to the
 // power -3, and how many digits are written in it.
+
+#![tactic(auto)]
+
 use bytes::scan::find;
 use libc::{STDIN_FILENO, STDOUT_FILENO};
 use number_reading::read::read_number;

@@ -1,6 +1,9 @@
 // Says of changed copies of one entry, or of a file of such entries, why they are refused: writes each verdict under the title of its
 // case, as the program `verdicts` does, and below it the reason, as the program `why` does. How the cases are written on standard
 // input is said in the crate `program_cases`.
+
+#![tactic(auto)]
+
 ghost use Rattle.std.specs.Prelude.{◌≤◌, length};
 
 use files_reasons::explain_file::explain_file;

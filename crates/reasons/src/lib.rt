@@ -1,3 +1,6 @@
 // Why an entry is refused.
+
+#![tactic(auto)]
+
 pub mod explain;
 pub mod state;

@@ -1,5 +1,8 @@
 // Says of each record of the input what the record layer says of it, a line for each. Column 80 tells how many of the
 // six fields are to be taken as used.
+
+#![tactic(auto)]
+
 ghost use Rattle.std.specs.Prelude.{◌≤◌};
 ghost use Rattle.paper_number.specs.Form.{Tables};
 ghost use Rattle.paper_record.specs.Class.{ClassesLent};

@@ -1,2 +1,5 @@
 // Headings that may repeat.
+
+#![tactic(auto)]
+
 pub mod repeats;

@@ -1,2 +1,5 @@
 // The values of a record.
+
+#![tactic(auto)]
+
 pub mod numbers;

@@ -1,2 +1,5 @@
 // A held entry and its revision as one entry.
+
+#![tactic(auto)]
+
 pub mod merge;

@@ -1,4 +1,7 @@
 // The merge of a held entry and its revision, written by two cursors.
+
+#![tactic(auto)]
+
 mod chosen;
 mod ends;
 pub mod merging;

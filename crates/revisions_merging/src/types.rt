@@ -1,7 +1,7 @@
 // Where the writer of a merge stands.
 
 // The next record of the held entry and of the revision, the bytes written and the subentries counted.
-#[derive(Drop)]
+#[derive(Clone, Copy)]
 pub struct Cursors {
     pub held: usize,
     pub revision: usize,

@@ -1,2 +1,5 @@
 // The codes under the keyword FLAG of a BIB.
+
+#![tactic(auto)]
+
 pub mod codes;

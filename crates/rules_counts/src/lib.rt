@@ -1,2 +1,5 @@
 // The rule for counts: refusal 8.
+
+#![tactic(auto)]
+
 pub mod counts;

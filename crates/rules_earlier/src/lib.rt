@@ -1,2 +1,5 @@
 // The search for an earlier heading that is equal.
+
+#![tactic(auto)]
+
 pub mod earlier;

@@ -1,2 +1,5 @@
 // The rule for subentry numbers: refusal 9.
+
+#![tactic(auto)]
+
 pub mod numbers;

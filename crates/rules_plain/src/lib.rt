@@ -1,1 +1,3 @@
 // The rules that look back, in plain words over records.
+
+#![tactic(auto)]

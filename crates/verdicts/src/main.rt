@@ -1,5 +1,8 @@
 // Judges changed copies of one entry, or of a file of such entries, and writes each verdict under the title of its case: the seven
 // numbers, of a file the ordinal as the eighth. How the cases are written on standard input is said in the crate `program_cases`.
+
+#![tactic(auto)]
+
 ghost use Rattle.std.specs.Prelude.{◌≤◌, length};
 
 use entry::judge::judge;

@@ -1,2 +1,5 @@
 // Where a walk stands, by its numbers alone.
+
+#![tactic(auto)]
+
 pub mod places;

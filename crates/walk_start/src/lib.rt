@@ -1,2 +1,5 @@
 // Values in order: making a walk.
+
+#![tactic(auto)]
+
 pub mod start;

@@ -1,2 +1,5 @@
 // A walker: it keeps the entry and its place in it.
+
+#![tactic(auto)]
+
 pub mod walker;

@@ -8,7 +8,7 @@ use paper_walk::types::{Given, Walk};
 use walk::walk::one_on;
 use walk_start::start::start;
 
-#[derive(Drop)]
+#[derive(Clone, Copy)]
 pub struct Walker<'a> {
     pub entry: &'a [u8],
     pub walk: Walk,

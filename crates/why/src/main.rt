@@ -1,5 +1,8 @@
 // Why an entry is refused: reads an entry of at most 809 records from standard input, writes its verdict as the judging program does,
 // and below it one line with the reason, or none. A longer input is refusal 1, whatever it holds.
+
+#![tactic(auto)]
+
 use program_reason::say_reason;
 use program_verdict::say_verdict;
 use reasons::explain::explain;

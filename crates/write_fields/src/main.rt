@@ -1,4 +1,7 @@
 // Writes many decimals, reads each field back and writes it again: some fields, then counts and checksums.
+
+#![tactic(auto)]
+
 ghost use Rattle.std.specs.Prelude.{◌<◌};
 
 use canonical::write::write_number;
@@ -9,7 +12,7 @@ use paper_number::types::{Decimal, Reading};
 use program_text::say_line;
 
 // How many were written and refused, how many read back to the same field, and a checksum of fields and coefficients.
-#[derive(Drop)]
+#[derive(Clone, Copy)]
 struct Tally {
     wrote: u64,
     refused: u64,

@@ -1,0 +1,32 @@
+use Prim.Native.Nat.{◌<◌}
+use native.Mathlib.Omega.{arith}
+use lib.ListN.{get_or}
+use Rattle.number.proofs.Tables.{kind-below, next-right}
+use Rattle.number.proofs.form.next_place.Goals as goal
+
+pub overflow_cast-at-2 : goal.overflow_cast-at-2
+overflow_cast-at-2 c =
+    let args = c.args in
+    let pre = c.requires in
+    let h : get_or args.kinds.now args.b 0 < 6 = rw pre.0.kinds_right (kind-below args.b (omega arith)) in
+    omega arith
+
+pub overflow_add-at : goal.overflow_add-at
+overflow_add-at c =
+    let args = c.args in
+    let pre = c.requires in
+    let h : get_or args.kinds.now args.b 0 < 6 = rw pre.0.kinds_right (kind-below args.b (omega arith)) in
+    omega arith
+
+pub bounds-nexts-at : goal.bounds-nexts-at
+bounds-nexts-at c =
+    let args = c.args in
+    let pre = c.requires in
+    let h : get_or args.kinds.now args.b 0 < 6 = rw pre.0.kinds_right (kind-below args.b (omega arith)) in
+    omega arith
+
+pub returns : goal.returns
+returns c =
+    let pre = c.requires in
+    let args = c.args in
+    λ t e. rw (pre.0.kinds_right, pre.0.nexts_right, e) (next-right t args.b (omega arith))

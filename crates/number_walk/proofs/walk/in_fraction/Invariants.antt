@@ -1,0 +1,16 @@
+use mathlib.Core.Bool.{Bool}
+use mathlib.Core.Path.{◌≡◌}
+use Prim.Native.Nat.{◌-◌, ◌<◌, ◌^◌, ◌≤◌}
+use lib.ListN.{length}
+use Rattle.paper_number.specs.Reading.{Fraction, mantissa}
+use Rattle.paper_number.specs.Walk.{read_from}
+use Rattle.number_walk.proofs.walk.in_fraction.Given as goal
+
+abbrev pub invariant-loop-i : goal.invariant-loop-i
+invariant-loop-i l =
+    (l.from ≤ l.i) × (l.i ≤ length l.s) × (l.number < 10 ^ l.i) × (l.places ≤ l.i)
+    × ((g : Bool) →
+    read_from (Fraction (mantissa g l.first l.behind)) l.from l.s ≡ read_from (Fraction (mantissa g l.number l.places)) l.i l.s)
+
+abbrev pub decreases-loop-i : goal.decreases-loop-i
+decreases-loop-i l = length l.s - l.i

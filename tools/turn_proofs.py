@@ -1,0 +1,437 @@
+#!/usr/bin/env python3
+"""Turns each proof that was written for the older walk (proofs/F/Proof.antt over `tie.spec`) into Invariants.antt and
+Answers.antt, by the list of old and new names that the check writes.
+
+usage: python3 tools/turn_proofs.py CRATE NAMES     CRATE: the folder above proofs/; NAMES: the names.json of
+                                                    `rt check --generated DIR --old-names`
+"""
+import json
+import os
+import re
+import sys
+
+ID = r"[A-Za-z_\u0370-\u03ff\u2080-\u209c\u2115][\w\u2080-\u209c'-]*"
+
+
+def plain(s):
+    return s.replace("_", "-")
+
+
+def blocks(text):
+    """The declarations of a file: lists of lines, each beginning in column 0 (comments go with what follows)."""
+    out, cur = [], []
+    name = None
+    for line in text.split("\n"):
+        head = line[:1] not in ("", " ", "\t")
+        if head:
+            word = re.match(r"(?:abbrev |unfoldable |pub )*(" + ID + r")", line)
+            new = word.group(1) if word and not line.startswith("--") else None
+            isuse = line.startswith("use ") or line.startswith("open ")
+            comment = line.startswith("--")
+            if isuse:
+                if cur:
+                    out.append((name, cur))
+                cur, name = [line], "use"
+                out.append((name, cur))
+                cur, name = [], None
+                continue
+            if comment:
+                if cur and name is not None:
+                    out.append((name, cur))
+                    cur = []
+                name = None
+                cur.append(line)
+                continue
+            if line.startswith("unfolding") or (name is not None and new == name):
+                cur.append(line)
+                continue
+            if cur and name is not None:
+                out.append((name, cur))
+                cur = []
+            name = new
+            cur.append(line)
+        else:
+            cur.append(line)
+    if cur:
+        out.append((name, cur))
+    res = []
+    for n, ls in out:
+        while ls and not ls[-1].strip():
+            ls = ls[:-1]
+        while ls and not ls[0].strip():
+            ls = ls[1:]
+        if ls:
+            res.append((n, ls))
+    return res
+
+
+class Names:
+    def __init__(self, of):
+        self.needs = of["needs"]
+        self.loops = of["loops"]
+        self.changed = of["changed"]
+        self.asked = of.get("asked") or {}
+        self.asked_at = of["asked_at"]
+        self.pre = (of.get("pre") or {}).get("fields")
+        self.places = {}
+        self.order = []
+        for i, p in enumerate(of["places"]):
+            self.places[p[0]] = dict(parent=p[1], step=p[2], callee=p[3], clauses=of["clauses"][i], i=i)
+        self.args = dict()
+        for a, b in of.get("args") or []:
+            if a.startswith(".args "):
+                self.args[a.split(".")[-1].strip()] = b.split(".")[-1].strip()
+        self.stem = of.get("stem")
+
+    def steps(self, place):
+        out = {}
+        while place:
+            p = self.places.get(place)
+            if not p:
+                break
+            if p["step"][0]:
+                out.setdefault(plain(p["step"][0]), (p["step"][1], p))
+            place = p["parent"]
+        return out
+
+
+def convert(segs, n, steps, params):
+    """A path of field names below c, old to new."""
+    out = []
+    i = 0
+    segs = [s for s in segs if s != "before"]
+    while i < len(segs):
+        s = segs[i]
+        if i == 0:
+            k = plain(s)
+            if k in steps:
+                new, p = steps[k]
+                out.append(new)
+                cl = p["clauses"]
+                if cl and i + 2 < len(segs) and segs[i + 1] == "ensures" and segs[i + 2].isdigit() and int(segs[i + 2]) < len(cl["fields"]):
+                    out += ["ensures", cl["fields"][int(segs[i + 2])]]
+                    i += 3
+                    continue
+                i += 1
+                continue
+            if s == "args" and i + 1 < len(segs):
+                a = segs[i + 1]
+                b = n.args.get(a) or next((q for q in params if plain(q) == plain(a)), a)
+                out += ["args", b]
+                i += 2
+                continue
+            if s == "requires" and n.pre and i + 1 < len(segs) and segs[i + 1].isdigit() and int(segs[i + 1]) < len(n.pre):
+                out += ["requires", n.pre[int(segs[i + 1])]]
+                i += 2
+                continue
+        out.append(s)
+        i += 1
+    return out
+
+
+PATH = re.compile(r"(?<![\w.'◌-])(" + ID + r")((?:\.(?:" + ID + r"|\d+))*)(?![\w'-])")
+LET = re.compile(r"let (" + ID + r") = (" + ID + r")((?:\.(?:" + ID + r"|\d+))*) in\b")
+
+
+def rewrite(body, n, steps, params, goals):
+    env = {"c": []}
+    known = set(goals)
+    # aliases in order
+    for m in LET.finditer(body):
+        v, root, rest = m.group(1), m.group(2), m.group(3)
+        if root in env:
+            env[v] = env[root] + [x for x in rest.split(".") if x]
+    def one(m):
+        root, rest = m.group(1), m.group(2)
+        segs = [x for x in rest.split(".") if x]
+        if root not in env:
+            return m.group()
+        base = convert(env[root], n, steps, params)
+        full = convert(env[root] + segs, n, steps, params)
+        new = full[len(base):]
+        return root + "".join("." + x for x in new)
+    lines = []
+    text = PATH.sub(one, body)
+    # goals that are cited by their old names
+    def cited(m):
+        return goals.get(m.group(), m.group())
+    return text
+
+
+OPEN, CLOSE = "([{", ")]}"
+
+
+def parts_of(text):
+    """The parts of `(a, b, ..)` where that is the whole text, else None."""
+    t = text.strip()
+    if not t.startswith("("):
+        return None
+    depth, parts, cur = 0, [], ""
+    for k, ch in enumerate(t):
+        if ch in OPEN:
+            depth += 1
+            if depth == 1:
+                continue
+        if ch in CLOSE:
+            depth -= 1
+            if depth == 0:
+                if t[k + 1:].strip():
+                    return None
+                break
+        if ch == "," and depth == 1:
+            parts.append(cur)
+            cur = ""
+            continue
+        cur += ch
+    if cur.strip():
+        parts.append(cur)
+    return [x.strip() for x in parts]
+
+
+def as_record(rest, fields):
+    """The clauses of an answer that stood as a tuple, by their names."""
+    at, depth = 0, 0
+    for m in re.finditer(r"[(\[{)\]}]|\bin\b(?![\w'-])", rest):
+        if m.group() in OPEN:
+            depth += 1
+        elif m.group() in CLOSE:
+            depth -= 1
+        elif depth == 0:
+            at = m.end()
+    tail = rest[at:]
+    parts = parts_of(tail)
+    if parts and len(parts) == len(fields):
+        inside = ";\n        ".join(f"{f} = {x}" for f, x in zip(fields, parts))
+        return rest[:at] + "\n    record {\n        " + inside + "\n    }"
+    if re.match(r"\s*(search|omega|record|\?)", tail):
+        return rest
+    inside = "; ".join(f"{f} = both.{i}" for i, f in enumerate(fields))
+    return rest[:at] + "\n    let both = " + tail.strip() + " in\n    record { " + inside + " }"
+
+
+def uses_in(uses, text):
+    out = []
+    for line in uses:
+        m = re.match(r"use (\S+?)\.\{(.*)\}\s*$", line)
+        if m:
+            keep = []
+            for item in [x.strip() for x in m.group(2).split(",") if x.strip()]:
+                name = item.split(" as ")[-1].strip()
+                if "◌" in name:
+                    ok = all(part in text for part in name.split("◌") if part)
+                else:
+                    ok = re.search(r"(?<![\w'-])" + re.escape(name) + r"(?![\w'-])", text) is not None
+                if ok:
+                    keep.append(item)
+            if keep:
+                out.append(f"use {m.group(1)}.{{{', '.join(keep)}}}")
+            continue
+        m = re.match(r"use (\S+) as (\S+)\s*$", line)
+        if m:
+            if re.search(r"(?<![\w'-])" + re.escape(m.group(2)) + r"\.", text):
+                out.append(line)
+            continue
+        out.append(line)
+    return out
+
+
+def params_of(src):
+    return set(re.findall(r"(\w+)\s*:(?!:)", src)) | set(re.findall(r"\b\w+\b", src))
+
+
+def turn(folder, of, path, crate, params):
+    proof = os.path.join(folder, "Proof.antt")
+    if not os.path.exists(proof):
+        proof += ".old"
+    text = open(proof, encoding="utf-8").read()
+    if "tie.close" not in text:
+        return "by hand"
+    n = Names(of)
+    bl = blocks(text)
+    uses = [l for name, ls in bl if name == "use" for l in [" ".join(x.strip() for x in ls)]]
+    uses = [l for l in uses if not re.search(r"\.(Statement|Tie|Lts|Reads)\b", l)]
+    spec = next((ls for name, ls in bl if any("tie.close" in l for l in ls)), None)
+    m = re.search(r"tie\.spec\b([^)]*)\)", "\n".join(spec))
+    order = m.group(1).split() if m else []
+    goals, invs, helpers = {}, [], []
+    decls = {}
+    sig_of = {}
+    for name, ls in bl:
+        if name == "use" or ls is spec:
+            continue
+        sig = "\n".join(ls)
+        g = re.search(r"(?m)^(?:abbrev |pub )*" + re.escape(name or "?") + r" : tie\.(\S+)", sig) if name else None
+        if g and g.group(1).startswith(("invariant-", "decreases-")):
+            invs.append((name, ls))
+        elif g and g.group(1).startswith("Need-"):
+            decls[name] = ls
+            sig_of[name] = g.group(1)
+        else:
+            helpers.append(ls)
+    inv_names = [nm for nm, _ in invs]
+    args = [a for a in order if a not in inv_names]
+    note = []
+    if len(args) != len(n.needs):
+        note.append(f"{len(args)} goals and {len(n.needs)} names")
+    pair = {}
+    used = set()
+    byname = {}
+    for k, (old, new) in enumerate(n.needs):
+        byname.setdefault(plain(old), k)
+    if len(args) == len(n.needs):
+        for k, a in enumerate(args):
+            pair[a] = k
+    else:
+        for a in args:
+            key = plain(sig_of.get(a, "")[5:])
+            key2 = re.sub(r"^overflow-", "", key)
+            for kk in (key, key2):
+                if kk in byname:
+                    pair[a] = byname[kk]
+                    break
+            else:
+                note.append("no name for " + a)
+    goalmap = {a: n.needs[k][1] for a, k in pair.items()}
+    fn = path
+    answers = []
+    trivial = []
+    for a in args:
+        if a not in decls or a not in pair:
+            continue
+        k = pair[a]
+        new = n.needs[k][1]
+        ls = decls[a]
+        body = []
+        for l in ls:
+            if l.startswith("--"):
+                body.append(l)
+                continue
+            if re.match(r"(?:pub )?" + re.escape(a) + r" :", l):
+                body.append(f"pub {new} : goal.{new}")
+                insig = True
+                continue
+            mm = re.match(re.escape(a) + r"((?: \S+)*?) =(.*)$", l)
+            if mm:
+                body.append(f"{new} c ={mm.group(2)}")
+                continue
+            body.append(l)
+        place = n.asked_at[k][0] if k < len(n.asked_at) else None
+        steps = n.steps(place) if place in n.places else {}
+        if not steps:
+            for p in n.places:
+                for kk, v in n.steps(p).items():
+                    steps.setdefault(kk, v)
+        t = "\n".join(body)
+        head, sep, rest = t.partition(" c =")
+        t2 = rewrite(rest, n, steps, params, goalmap)
+        fields = n.asked.get(n.needs[k][0])
+        if fields and len(fields) > 1:
+            t2 = as_record(t2, fields)
+        whole = head + sep + t2
+        if re.fullmatch(r"\s*search rules\s*", t2) and "unfolding" not in head and "--" not in head:
+            trivial.append(whole)
+            continue
+        answers.append((new, whole, fields))
+    # invariants
+    inv_text = []
+    loops = n.loops
+    li = 0
+    for nm, ls in invs:
+        kind = "invariant" if nm.startswith("invariant") else "decreases"
+        old = nm.split("-", 1)[1] if "-" in nm else "loop"
+        idx = next((i for i, ((o, w), vs) in enumerate(loops) if plain(o) == plain(old)), None)
+        if idx is None:
+            note.append("no loop for " + nm)
+            continue
+        (o, w), vs = loops[idx]
+        ch = n.changed[idx]
+        out = []
+        names = None
+        for l in ls:
+            if re.match(r"abbrev " + re.escape(nm) + r" :", l):
+                out.append(f"abbrev pub {kind}-{w} : goal.{kind}-{w}")
+                continue
+            mm = re.match(re.escape(nm) + r"((?: \S+)*) =(.*)$", l)
+            if mm:
+                names = mm.group(1).split()
+                out.append((f"{kind}-{w} l =", mm.group(2)))
+                continue
+            out.append(l)
+        if names is None:
+            note.append("no parameters in " + nm)
+            continue
+        sub = {}
+        want = []
+        for v, c in zip(vs, ch):
+            want.append((v, None) if not c else (v, "old"))
+        cur = [v for v, c in zip(vs, ch) if c]
+        # parameters: each variable as it came, then those that change
+        olds = list(vs)
+        if len(names) == len(vs) + len(cur):
+            for p, (v, c) in zip(names, zip(vs, ch)):
+                sub[p] = f"l.initial.{v}" if c else f"l.{v}"
+            for p, v in zip(names[len(vs):], cur):
+                sub[p] = f"l.{v}"
+        else:
+            note.append(f"{nm}: {names} for {vs} {ch}")
+            for p in names:
+                base = p.rstrip("₀")
+                sub[p] = f"l.initial.{base}" if p.endswith("₀") else f"l.{base}"
+        def put(s):
+            return re.sub(r"(?<![\w.'-])(" + ID + r")(?![\w'-])", lambda m: sub.get(m.group(1), m.group(1)), s)
+        res = []
+        for l in out:
+            if isinstance(l, tuple):
+                res.append(l[0] + put(l[1]))
+            elif l.startswith("abbrev") or l.startswith("unfolding") or l.startswith("--"):
+                res.append(l)
+            else:
+                res.append(put(l))
+        inv_text.append("\n".join(res))
+    mod = f"Rattle.{crate}.proofs.{path}"
+    if inv_text:
+        t = "\n\n".join(inv_text)
+        hs = "\n\n".join("\n".join(h) for h in helpers)
+        need = [h for h in helpers if re.search(r"(?<![\w'-])" + re.escape(re.match(r"(?:abbrev |unfoldable |pub )*(" + ID + ")", next((x for x in h if not x.startswith('--')), 'x')).group(1)) + r"(?![\w'-])", t)]
+        u = uses_in(uses, t + "\n" + "\n".join("\n".join(h) for h in need))
+        u.append(f"use {mod}.Given as goal")
+        hd = "".join("\n".join(h) + "\n\n" for h in need)
+        with open(os.path.join(folder, "Invariants.antt"), "w", encoding="utf-8") as f:
+            f.write("\n".join(u) + "\n\n" + hd + t + "\n")
+    else:
+        need = []
+    parts = ["\n".join(h) for h in helpers if h not in need]
+    parts += [a[1] for a in answers]
+    if answers:
+        t = "\n\n".join(parts)
+        u = uses_in(uses, t)
+        u.append(f"use {mod}.Goals as goal")
+        with open(os.path.join(folder, "Answers.antt"), "w", encoding="utf-8") as f:
+            f.write("\n".join(u) + "\n\n" + t + "\n")
+    os.remove(proof)
+    return "; ".join(note)
+
+
+def main():
+    crate, names = sys.argv[1].rstrip("/"), sys.argv[2]
+    lists = json.load(open(names, encoding="utf-8"))
+    src = ""
+    for d, _, fs in os.walk(os.path.join(crate, "src")):
+        for f in fs:
+            src += open(os.path.join(d, f), encoding="utf-8").read()
+    params = params_of(src)
+    name = os.path.basename(crate)
+    for key, of in lists.items():
+        if not key.endswith(".Lts"):
+            continue
+        path = key.split("proofs.", 1)[1][: -len(".Lts")]
+        folder = os.path.join(crate, "proofs", *path.split("."))
+        if not any(os.path.exists(os.path.join(folder, f)) for f in ("Proof.antt", "Proof.antt.old")):
+            continue
+        said = turn(folder, of, path, name, params)
+        if said:
+            print(f"{path}: {said}")
+
+
+if __name__ == "__main__":
+    main()
