@@ -22,7 +22,7 @@ def blocks(text):
     out, cur = [], []
     name = None
     for line in text.split("\n"):
-        head = line[:1] not in ("", " ", "\t")
+        head = line[:1] not in ("", " ", "\t", ")", "]", "}")
         if head:
             word = re.match(r"(?:abbrev |unfoldable |pub )*(" + ID + r")", line)
             new = word.group(1) if word and not line.startswith("--") else None
@@ -95,6 +95,24 @@ class Names:
         return out
 
 
+def clause(fields, segs):
+    """The clause that a path of numbers reaches, in pairs nested to the right, and how many of them it took."""
+    j, k = 0, 0
+    while k < len(segs) and segs[k].isdigit():
+        d = int(segs[k])
+        k += 1
+        if d > 1 and k == 1 and d < len(fields):
+            return fields[d], 1
+        if d == 0:
+            return fields[j], k
+        j += 1
+        if j == len(fields) - 1:
+            return fields[j], k
+    if 0 < j < len(fields):
+        return fields[j], k
+    return None, 0
+
+
 def convert(segs, n, steps, params):
     """A path of field names below c, old to new."""
     out = []
@@ -104,14 +122,18 @@ def convert(segs, n, steps, params):
         s = segs[i]
         if i == 0:
             k = plain(s)
+            if k not in steps and k[:1].isupper():
+                k = k[:1].lower() + k[1:]
             if k in steps:
                 new, p = steps[k]
                 out.append(new)
                 cl = p["clauses"]
-                if cl and i + 2 < len(segs) and segs[i + 1] == "ensures" and segs[i + 2].isdigit() and int(segs[i + 2]) < len(cl["fields"]):
-                    out += ["ensures", cl["fields"][int(segs[i + 2])]]
-                    i += 3
-                    continue
+                if cl and i + 2 < len(segs) and segs[i + 1] == "ensures" and segs[i + 2].isdigit():
+                    name, took = clause(cl["fields"], segs[i + 2:])
+                    if name:
+                        out += ["ensures", name]
+                        i += 2 + took
+                        continue
                 i += 1
                 continue
             if s == "args" and i + 1 < len(segs):
@@ -120,10 +142,12 @@ def convert(segs, n, steps, params):
                 out += ["args", b]
                 i += 2
                 continue
-            if s == "requires" and n.pre and i + 1 < len(segs) and segs[i + 1].isdigit() and int(segs[i + 1]) < len(n.pre):
-                out += ["requires", n.pre[int(segs[i + 1])]]
-                i += 2
-                continue
+            if s == "requires" and n.pre and i + 1 < len(segs) and segs[i + 1].isdigit():
+                name, took = clause(n.pre, segs[i + 1:])
+                if name:
+                    out += ["requires", name]
+                    i += 1 + took
+                    continue
         out.append(s)
         i += 1
     return out
@@ -152,6 +176,18 @@ def rewrite(body, n, steps, params, goals):
         return root + "".join("." + x for x in new)
     lines = []
     text = PATH.sub(one, body)
+    # an `if !x` now says of x itself what it said of its negation
+    ATOM = r"(?:" + ID + r"(?:\.(?:" + ID + r"|\d+))*|\((?:[^()]|\([^()]*\))*\)|_)"
+    def plainly(m):
+        h = m.group(2).strip("()")
+        p = PATH.fullmatch(h)
+        if not p or p.group(1) not in env:
+            return m.group()
+        segs = env[p.group(1)] + [x for x in p.group(2).split(".") if x]
+        full = convert(env[p.group(1)], n, steps, params) + [x for x in p.group(2).split(".") if x]
+        return h if full and full[0].startswith(("if-not-", "if-not_")) else m.group()
+    text = re.sub(r"(?<![\w'-])not-(?:true|false) (" + ATOM + r") (" + ATOM + r")", plainly, text)
+    text = re.sub(r"\((" + ID + r"(?:\.(?:" + ID + r"|\d+))+)\)", r"\1", text)
     # goals that are cited by their old names
     def cited(m):
         return goals.get(m.group(), m.group())
@@ -200,12 +236,15 @@ def as_record(rest, fields):
             at = m.end()
     tail = rest[at:]
     parts = parts_of(tail)
+    while parts and 1 < len(parts) < len(fields) and parts_of(parts[-1]) and len(parts_of(parts[-1])) > 1:
+        parts = parts[:-1] + parts_of(parts[-1])
     if parts and len(parts) == len(fields):
         inside = ";\n        ".join(f"{f} = {x}" for f, x in zip(fields, parts))
         return rest[:at] + "\n    record {\n        " + inside + "\n    }"
     if re.match(r"\s*(search|omega|record|\?)", tail):
         return rest
-    inside = "; ".join(f"{f} = both.{i}" for i, f in enumerate(fields))
+    path = lambda i: ".1" * i + ("" if i == len(fields) - 1 else ".0")
+    inside = "; ".join(f"{f} = both{path(i)}" for i, f in enumerate(fields))
     return rest[:at] + "\n    let both = " + tail.strip() + " in\n    record { " + inside + " }"
 
 
@@ -272,7 +311,7 @@ def turn(folder, of, path, crate, params):
     args = [a for a in order if a not in inv_names]
     note = []
     if len(args) != len(n.needs):
-        note.append(f"{len(args)} goals and {len(n.needs)} names")
+        pass
     pair = {}
     used = set()
     byname = {}
@@ -290,7 +329,10 @@ def turn(folder, of, path, crate, params):
                     pair[a] = byname[kk]
                     break
             else:
-                note.append("no name for " + a)
+                settled = {plain(x) for x in of.get("settled") or []}
+                gone = key == "same-length" or "slice-aggregate" in key or any(x in settled for x in (key, "overflow-step-" + key2.split("-")[-1]))
+                if not gone:
+                    note.append("no name for " + a)
     goalmap = {a: n.needs[k][1] for a, k in pair.items()}
     fn = path
     answers = []

@@ -7,11 +7,10 @@
 
 #![tactic(auto)]
 
-use bytes::scan::find;
 use paper_record::types::LineNo;
 use paper_walk::types::Given;
 use program_answer::{say_answer, say_given, say_part, say_value};
-use program_text::number_in;
+use program_text::{find, number_in};
 use questions::ask::{heading, heading_part, passage, passage_part, unit, unit_part, value};
 use walk::walk::one_on;
 use walk_start::start::start;

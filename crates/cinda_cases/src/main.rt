@@ -16,9 +16,9 @@
 mod asking;
 
 use crate::asking::{ask_back, ask_check, ask_line, ask_piece};
-use bytes::scan::find;
+
 use program_cases::text_room;
-use program_text::{byte_at, number_in};
+use program_text::{byte_at, find, number_in};
 
 fn answer(title: &[u8], lines: &[u8]) {
     if byte_at(title, 0) == b'#' {

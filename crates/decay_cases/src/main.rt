@@ -20,9 +20,9 @@ mod fields;
 
 use crate::asking::ask_code;
 use crate::fields::say_fields;
-use bytes::scan::find;
+
 use program_cases::text_room;
-use program_text::{byte_at, number_in};
+use program_text::{byte_at, find, number_in};
 
 fn answer(title: &[u8], bytes: &[u8]) {
     if byte_at(title, 0) == b'#' {

@@ -10,7 +10,6 @@ ghost use Rattle.std.specs.Prelude.{not, T};
 ghost use Rattle.std.specs.Float.Ieee.{is_nan};
 ghost use Rattle.double_cases.specs.Numbers.{is_number};
 
-use bytes::scan::find;
 use double::convert::doubled;
 use double_asking::asking::double;
 use number_reading::read::read_number;
@@ -19,7 +18,7 @@ use paper_double_asking::types::DoubleAnswer;
 use paper_number::types::{Decimal, Reading};
 use paper_record::types::LineNo;
 use program_answer::say_answer;
-use program_text::{number_in, say, say_power};
+use program_text::{find, number_in, say, say_power};
 
 // The bits of a double, sixteen hexadecimal digits.
 fn say_double(x: f64)

@@ -47,8 +47,8 @@ many-above t u (suc n) l =
     either n u
     (λ a. let z : u ≡ suc n = omega arith in
     ap (λ v. how_many (λ k. ltb k v && t k) 0 (suc n)) z
-        ∙ many_below t (suc n) (suc n) (omega arith)
-        ∙ ap (how_many t 0) (sym z))
+    ∙ many_below t (suc n) (suc n) (omega arith)
+    ∙ ap (how_many t 0) (sym z))
     (λ a. let z : 0 + n ≡ n = omega arith in
     let e = many-above t u n a in
     rw (z, le-ltb n u a) (omega arith))

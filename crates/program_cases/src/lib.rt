@@ -20,9 +20,8 @@ mod case;
 
 ghost use Rattle.std.specs.Prelude.{◌≡◌, ◌<◌, ◌≤◌, length};
 
-use bytes::scan::find;
 use case::{begin, change, insert, put_record};
-use program_text::byte_at;
+use program_text::{byte_at, find};
 use std::num::wrapping_add_usize;
 
 // A case: `!` or `%`, or a blank where no title is left; where its title begins and ends in the text, and where the next line

@@ -3,7 +3,7 @@
 
 #![tactic(auto)]
 
-ghost use Rattle.std.specs.Prelude.{◌≡◌, ◌≤◌, ◌-◌};
+ghost use Rattle.std.specs.Prelude.{◌≡◌, ◌≢◌, ◌<◌, ◌≤◌, ◌-◌, ℕ, length, slice_index};
 ghost use Rattle.program_text.specs.Line.{byte_at, with_digit, number_over};
 
 // A word, and a number behind it.
@@ -82,4 +82,23 @@ pub fn number_in(line: &[u8], from: usize, past: usize) -> u32
         i += 1;
     }
     n
+}
+
+// The first place of a byte among the places of a line from `from` up to `to`, or `to`.
+pub fn find(line: &[u8], from: usize, to: usize, b: u8) -> usize
+    requires in_order { from ≤ to }
+    requires in_line { to ≤ length line.now }
+    ensures lower_bound { from ≤ result }
+    ensures upper_bound { result ≤ to }
+    ensures before { (k : ℕ) → from ≤ k → k < result → slice_index line.now k ≢ b }
+    ensures found { result < to → slice_index line.now result ≡ b }
+{
+    let mut i = from;
+    while i < to {
+        if line[i] == b {
+            return i;
+        }
+        i += 1;
+    }
+    i
 }

@@ -21,6 +21,7 @@ module _ {A : Type 0} (P : A → Type 0) (d : A) where
   at_some (x ∷ xs) (suc m) l p = further (at_some xs m (omega arith) p)
 
   pub some_at : (xs : List A) → Some P xs → (m : ℕ) × (m < length xs) × P (get_or xs m d)
+  some_at [] x' = elim x' [ ]
   some_at (x ∷ xs) (here p) = (0, omega arith, p)
   some_at (x ∷ xs) (further s) = let (m, l, p) = some_at xs s in (suc m, omega arith, p)
 
@@ -28,6 +29,7 @@ module _ {A : Type 0} (P : A → Type 0) (d : A) where
 
 module _ {A : Type 0} {P : A → Type 0} where
   pub some_left : (xs ys : List A) → Some P xs → Some P (xs ++ ys)
+  some_left [] ys x' = elim x' [ ]
   some_left (x ∷ xs) ys (here p) = here p
   some_left (x ∷ xs) ys (further s) = further (some_left xs ys s)
 
@@ -56,6 +58,7 @@ module _ {A : Type 0} (test : A → Bool) (P : A → Type 0) (agree : (x : A) �
 
   some-any : (xs : List A) → Some P xs → any_of test xs ≡ true
   unfolding any_of
+  some-any [] x' = elim x' [ ]
   some-any (x ∷ xs) (here p) = rw ((agree x).1 p)
   some-any (x ∷ xs) (further s) = by-test (test x) (some-any xs s)
     where
@@ -82,6 +85,7 @@ module _ (test : ℕ → Bool) (column : ℕ → ℕ) (c : ℕ) where
 
   pub columns-place : (i n : ℕ) → Some Is (columns_from test column i n) → PlaceOf test column i n c
   unfolding columns_from
+  columns-place i zero s = elim s [ ]
   columns-place i (suc n) s = by-test (test i) refl s (columns-place (i + 1) n)
     where
       later : PlaceOf test column (i + 1) n c → PlaceOf test column i (suc n) c

@@ -1,0 +1,9 @@
+use mathlib.Core.Path.{refl}
+use borrow.Author.Tests.{eq-eqb, ne_eqb}
+use Rattle.exports_picks.proofs.picks.is_written.Goals as goal
+
+pub returns-then-number-eq0 : goal.returns-then-number-eq0
+returns-then-number-eq0 c = rw (eq-eqb _ _ c.if-number-eq0.true) refl
+
+pub returns : goal.returns
+returns c = rw (ne_eqb _ _ c.if-number-eq0.false) refl

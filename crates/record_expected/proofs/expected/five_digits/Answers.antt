@@ -1,0 +1,8 @@
+use mathlib.Core.Path.{refl}
+use Rattle.paper_record.specs.Expected.{in_digits}
+use native.Mathlib.Nat.{div-one}
+use Rattle.record_expected.proofs.expected.five_digits.Goals as goal
+
+pub returns : goal.returns
+unfolding in_digits
+returns c = rw div-one refl
