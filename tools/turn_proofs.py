@@ -108,6 +108,33 @@ class Names:
         return out
 
 
+CRATES = None
+LENT = {}
+
+
+def lent_by(callee):
+    """The parameters of a function that it may change."""
+    if callee not in LENT:
+        parts = callee.split("::")
+        found = []
+        for d, _, fs in os.walk(os.path.join(CRATES, parts[0], "src")):
+            for f in fs:
+                text = open(os.path.join(d, f), encoding="utf-8").read()
+                for m in re.finditer(r"\bfn " + re.escape(parts[-1]) + r"(?:<[^(]*>)?\(", text):
+                    depth, k = 1, m.end()
+                    while depth:
+                        depth += text[k] in "([{"
+                        depth -= text[k] in ")]}"
+                        k += 1
+                    sig = text[m.end():k - 1]
+                    got = ["self"] if re.search(r"&(?:'\w+ )?mut self", sig) else []
+                    got += re.findall(r"(\w+)\s*:\s*&(?:'\w+ )?mut\b", sig)
+                    if got:
+                        found = got
+        LENT[callee] = found
+    return LENT[callee]
+
+
 def clause(fields, segs):
     """The clause that a path of numbers reaches, in pairs nested to the right, and how many of them it took."""
     j, k = 0, 0
@@ -130,7 +157,12 @@ def convert(segs, n, steps, params):
     """A path of field names below c, old to new."""
     out = []
     i = 0
-    segs = [s for s in segs if s != "before"]
+    while segs and segs[0] == "before":
+        segs = segs[1:]
+    if segs and segs[0] not in ("args", "requires", "ranges"):
+        segs = [x for k, x in enumerate(segs) if x != "before" or k and segs[k - 1] == "args"]
+    if "args" in segs[1:2] and segs[0] == "before":
+        segs = segs[1:]
     arms = steps.get("") or {}
     if segs:
         key = tuple([plain(segs[0])] + segs[1:])
@@ -141,17 +173,38 @@ def convert(segs, n, steps, params):
         s = segs[i]
         if i == 0:
             k = plain(s)
+            if k not in steps and k.endswith("-lem"):
+                k = k[:-4]
+            if k not in steps and k == "well-formed":
+                out.append("well_formed")
+                i += 1
+                continue
             if k not in steps:
                 k = next((x for x in steps if x.lower() == k.lower()), k)
             if k in steps:
                 new, p = steps[k]
                 out.append(new)
+                if i + 1 < len(segs) and segs[i + 1] in ("taken", "left") and new.startswith(("if-", "loop")):
+                    out.append({"taken": "true", "left": "false"}[segs[i + 1]])
+                    i += 2
+                    continue
                 cl = p["clauses"]
                 if cl and i + 2 < len(segs) and segs[i + 1] == "ensures" and segs[i + 2].isdigit():
                     name, took = clause(cl["fields"], segs[i + 2:])
                     if name:
                         out += ["ensures", name]
                         i += 2 + took
+                        continue
+                if p["callee"] and i + 2 < len(segs) and segs[i + 1] == "new" and segs[i + 2].isdigit():
+                    lent = lent_by(p["callee"])
+                    j, k2 = 0, i + 2
+                    while k2 < len(segs) and segs[k2] == "1":
+                        j, k2 = j + 1, k2 + 1
+                    if k2 < len(segs) and segs[k2] == "0":
+                        k2 += 1
+                    if j < len(lent):
+                        out += ["new", lent[j]]
+                        i = k2
                         continue
                 i += 1
                 continue
@@ -205,7 +258,15 @@ def rewrite(body, n, steps, params, goals):
         segs = env[p.group(1)] + [x for x in p.group(2).split(".") if x]
         full = convert(env[p.group(1)], n, steps, params) + [x for x in p.group(2).split(".") if x]
         return h if full and full[0].startswith(("if-not-", "if-not_")) else m.group()
-    text = re.sub(r"(?<![\w'-])not-(?:true|false) (" + ATOM + r") (" + ATOM + r")", plainly, text)
+    text = re.sub(r"(?<![\w'-])not-(?:true|false)\s+(" + ATOM + r")\s+(" + ATOM + r")", lambda m: "«" + plainly(m) + "»" if plainly(m) != m.group() else m.group(), text)
+    def negated(m):
+        if m.group(1) not in env:
+            return m.group()
+        full = convert(env[m.group(1)], n, steps, params) + [x for x in m.group(2).split(".") if x]
+        if len(full) == 2 and full[0].startswith("if-not-") and full[1] in ("true", "false"):
+            return f"(ap not {m.group()})"
+        return m.group()
+    text = "".join(p if k % 2 else PATH.sub(negated, p) for k, p in enumerate(re.split("[«»]", text)))
     text = re.sub(r"\((" + ID + r"(?:\.(?:" + ID + r"|\d+))+)\)", r"\1", text)
     # goals that are cited by their old names
     def cited(m):
@@ -262,6 +323,21 @@ def as_record(rest, fields):
         return rest[:at] + "\n    record {\n        " + inside + "\n    }"
     if re.match(r"\s*(search|omega|record|\?)", tail):
         return rest
+    t = tail.strip()
+    if t.startswith("rw ") and t.endswith(")"):
+        depth, k = 0, len(t)
+        while k > 0:
+            k -= 1
+            depth += t[k] in CLOSE
+            depth -= t[k] in OPEN
+            if depth == 0:
+                break
+        parts = parts_of(t[k:])
+        while parts and 1 < len(parts) < len(fields) and parts_of(parts[-1]) and len(parts_of(parts[-1])) > 1:
+            parts = parts[:-1] + parts_of(parts[-1])
+        if parts and len(parts) == len(fields):
+            inside = ";\n        ".join(f"{f} = {t[:k]}({x})" for f, x in zip(fields, parts))
+            return rest[:at] + "\n    record {\n        " + inside + "\n    }"
     path = lambda i: ".1" * i + ("" if i == len(fields) - 1 else ".0")
     inside = "; ".join(f"{f} = both{path(i)}" for i, f in enumerate(fields))
     return rest[:at] + "\n    let both = " + tail.strip() + " in\n    record { " + inside + " }"
@@ -443,15 +519,43 @@ def turn(folder, of, path, crate, params):
                 base = p.rstrip("₀")
                 sub[p] = f"l.initial.{base}" if p.endswith("₀") else f"l.{base}"
         def put(s):
-            return re.sub(r"(?<![\w.'-])(" + ID + r")(?![\w'-])", lambda m: sub.get(m.group(1), m.group(1)), s)
+            # a name that a λ or a `(x : T) →` binds is its own to the end of the group
+            bound = []
+            for m in re.finditer(r"λ ([^.]*?)\.|\(((?:" + ID + r" ?)+) :", s):
+                if m.group(1) is not None:
+                    names_ = re.findall(ID, re.sub(r":[^)]*", "", m.group(1)))
+                    start = m.start()
+                    depth, k = 0, m.end()
+                else:
+                    names_ = m.group(2).split()
+                    k, depth = m.start() + 1, 1
+                    while k < len(s) and depth:
+                        depth += s[k] in OPEN
+                        depth -= s[k] in CLOSE
+                        k += 1
+                    if not re.match(r"\s*(→|\(|×)", s[k:]):
+                        continue
+                    start, depth = m.start(), 0
+                while k < len(s):
+                    depth += s[k] in OPEN
+                    depth -= s[k] in CLOSE
+                    if depth < 0 or (depth == 0 and m.group(1) is not None and s[k] == ","):
+                        break
+                    k += 1
+                for x in names_:
+                    bound.append((x, start, k))
+            def one(m):
+                x = m.group(1)
+                if any(x == b and a <= m.start() < e for b, a, e in bound):
+                    return x
+                return sub.get(x, x)
+            return re.sub(r"(?<![\w.'-])(" + ID + r")(?![\w'-])", one, s)
         res = []
-        for l in out:
+        for k, l in enumerate(out):
             if isinstance(l, tuple):
-                res.append(l[0] + put(l[1]))
-            elif l.startswith("abbrev") or l.startswith("unfolding") or l.startswith("--"):
-                res.append(l)
-            else:
-                res.append(put(l))
+                res.append(l[0] + put("\n".join([l[1]] + out[k + 1:])))
+                break
+            res.append(l)
         inv_text.append("\n".join(res))
     mod = f"Rattle.{crate}.proofs.{path}"
     if inv_text:
@@ -470,6 +574,10 @@ def turn(folder, of, path, crate, params):
     if answers:
         t = "\n\n".join(parts)
         u = uses_in(uses, t)
+        if "(ap not " in t:
+            for m2, w2 in (("mathlib.Core.Path", "ap"), ("mathlib.Core.Bool", "not")):
+                if not any(re.search(r"[{, ]" + w2 + r"[,}]", x) for x in u):
+                    u.append(f"use {m2}.{{{w2}}}")
         u.append(f"use {mod}.Goals as goal")
         with open(os.path.join(folder, "Answers.antt"), "w", encoding="utf-8") as f:
             f.write("\n".join(u) + "\n\n" + t + "\n")
@@ -478,7 +586,9 @@ def turn(folder, of, path, crate, params):
 
 
 def main():
+    global CRATES
     crate, names = sys.argv[1].rstrip("/"), sys.argv[2]
+    CRATES = os.path.dirname(os.path.abspath(crate))
     lists = json.load(open(names, encoding="utf-8"))
     src = ""
     for d, _, fs in os.walk(os.path.join(crate, "src")):

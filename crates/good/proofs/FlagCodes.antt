@@ -84,6 +84,7 @@ module _ (n : ℕ) where
   keywords-codes : (u : Bool) (ks : List Keyword) → All GoodKeyword ks → All Long (texts_of ks) → Some (CodeUnder n) ks
       → Test n u (texts_of ks)
   unfolding texts_of
+  keywords-codes u [] g l x3 = elim x3 [ ]
   keywords-codes u (k ∷ ks) g l (here c) =
       (keyword-codes u k (texts_of ks) g.0 l).1 (inl ((flag-exactly (bib_place k.first)).1 c.named, c.code))
   keywords-codes u (k ∷ ks) g l (further s) =

@@ -3,11 +3,9 @@
 
 #![tactic(auto)]
 
-
-use libc::{STDIN_FILENO, STDOUT_FILENO};
 use number_reading::read::read_number;
 use paper_number::types::{Decimal, Reading};
-use program_text::{say, say_power};
+use program_text::{find, say, say_power};
 
 // A byte as a person can read it.
 fn shown(b: u8) -> u8 {
@@ -24,7 +22,7 @@ fn show_columns(s: &[u8]) {
     let mut i = 0;
     while i < s.len() {
         let one = [shown(s[i])];
-        io::write_all(STDOUT_FILENO, &one);
+        io::write_all(1, &one);
         i += 1;
     }
 }
@@ -34,17 +32,17 @@ fn show_value(v: Decimal) {
     let coefficient = v.coefficient;
     let power = v.power;
     if negative {
-        io::write_all(STDOUT_FILENO, b"-");
+        io::write_all(1, b"-");
     }
-    io::print_decimal(STDOUT_FILENO, coefficient);
-    io::write_all(STDOUT_FILENO, b" e");
+    io::print_decimal(1, coefficient);
+    io::write_all(1, b" e");
     say_power(power);
 }
 
 fn show_reading(r: Reading) {
     match r {
         Reading::Blank => {
-            io::write_all(STDOUT_FILENO, b"blank");
+            io::write_all(1, b"blank");
         }
         Reading::Number(v) => show_value(v),
         Reading::Refused(n) => {
@@ -54,15 +52,15 @@ fn show_reading(r: Reading) {
 }
 
 fn show_line(s: &[u8]) {
-    io::write_all(STDOUT_FILENO, b"[");
+    io::write_all(1, b"[");
     show_columns(s);
-    io::write_all(STDOUT_FILENO, b"] ");
+    io::write_all(1, b"] ");
     let field = read_number(s);
     let reading = field.reading;
     let digits = field.digits;
     show_reading(reading);
     say(b" digits ", digits as u64);
-    io::write_all(STDOUT_FILENO, b"\n");
+    io::write_all(1, b"\n");
 }
 
 fn show_lines(s: &[u8]) {
@@ -76,6 +74,6 @@ fn show_lines(s: &[u8]) {
 
 fn main() {
     let mut buf = io::large_buffer();
-    let n = io::read_full(STDIN_FILENO, &mut buf);
+    let n = io::read_full(0, &mut buf);
     show_lines(&buf[..n]);
 }

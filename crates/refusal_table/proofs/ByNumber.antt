@@ -44,6 +44,7 @@ leftmost-some [] k e l = absurd (omega arith)
 leftmost-some (j ∷ ks) k e l = here e
 
 pub on_some : (P : ℕ → Type 0) (b : Bool) (ks : List ℕ) → Some P (on b ks) → (b ≡ true) × Some P ks
+on_some P false ks s = elim s [ ]
 on_some P true ks s = (refl, s)
 
 module _ (t : Track) (s : Seen) (role : ℕ) (fs : List (List ℕ)) (r : List ℕ) where

@@ -90,6 +90,7 @@ module _ (s : List ℕ) (i : ℕ) where
 -- ---- from the refusal to what is wrong
 
 one-column : (b : Bool) (j k : ℕ) → Some (λ c. c ≡ k) (when b j) → when b j ≡ j ∷ []
+one-column false j k s = elim s [ ]
 one-column true j k s = refl
 
 some-10 : (bib : List ℕ) (t : Track) (fs : List (List ℕ)) (k : ℕ) → Some (λ c. c ≡ k) (rule10 bib t fs)

@@ -1,0 +1,11 @@
+use Rattle.paper_record.specs.Faults.{pointer_fault}
+use borrow.Author.Tests.{le-ltb, lt-ltb}
+use Rattle.record_faults.proofs.faults.is_pointer_fault.Goals as goal
+
+pub returns-then-k-used : goal.returns-then-k-used
+unfolding pointer_fault
+returns-then-k-used c = rw (lt-ltb _ _ c.if-k-used.true) c.bad_pointer.ensures
+
+pub returns : goal.returns
+unfolding pointer_fault
+returns c = rw (le-ltb _ _ c.if-k-used.false)

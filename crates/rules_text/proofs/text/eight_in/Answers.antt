@@ -1,0 +1,28 @@
+use Rattle.laws.proofs.Members.{look-done, look-found, look-next}
+use Prim.Native.Nat.{◌-◌}
+use Rattle.laws.proofs.Members.{look-all}
+use Rattle.paper_rules.specs.Text.{eights_of}
+use borrow.Author.Tests.{eq-eqb, ne_eqb}
+use mathlib.Core.Path.{◌∙◌, sym}
+use native.Mathlib.Omega.{arith}
+use borrow.Author.Rules.{rules}
+use Rattle.rules_text.proofs.text.eight_in.Goals as goal
+
+pub loop-i-init : goal.loop-i-init
+unfolding eights_of
+loop-i-init c = (search rules, look-all _)
+
+pub returns-then-number-here : goal.returns-then-number-here
+returns-then-number-here c =
+    look-found c.loop-i.invariant.1 (omega arith)
+    (eq-eqb _ _ (c.if-number-here.true ∙ c.eight_columns-here.ensures))
+
+pub loop-i-preserved : goal.loop-i-preserved
+loop-i-preserved c = (
+  search rules,
+  look-next c.loop-i.invariant.1 (omega arith)
+      (ne_eqb _ _ (λ e. c.if-number-here.false (e ∙ sym c.eight_columns-here.ensures))),
+)
+
+pub returns : goal.returns
+returns c = look-done c.loop-i.invariant.1 (omega arith)
