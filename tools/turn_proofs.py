@@ -21,6 +21,7 @@ def blocks(text):
     """The declarations of a file: lists of lines, each beginning in column 0 (comments go with what follows)."""
     out, cur = [], []
     name = None
+    text = re.sub(r"(?m)^use [^\n{]*\{[^}]*\}", lambda m: " ".join(x.strip() for x in m.group().split("\n")), text)
     for line in text.split("\n"):
         head = line[:1] not in ("", " ", "\t", ")", "]", "}")
         if head:
@@ -81,6 +82,7 @@ class Names:
         for a, b in of.get("args") or []:
             if a.startswith(".args "):
                 self.args[a.split(".")[-1].strip()] = b.split(".")[-1].strip()
+        self.params = of.get("params") or {}
         self.stem = of.get("stem")
 
     def arms(self, place):
@@ -195,15 +197,15 @@ def convert(segs, n, steps, params):
                         out += ["ensures", name]
                         i += 2 + took
                         continue
-                if p["callee"] and i + 2 < len(segs) and segs[i + 1] == "new" and segs[i + 2].isdigit():
-                    lent = lent_by(p["callee"])
+                if p["callee"] and i + 2 < len(segs) and segs[i + 1] in ("new", "auto") and segs[i + 2].isdigit():
+                    lent = n.params.get(p["callee"]) or lent_by(p["callee"])
                     j, k2 = 0, i + 2
                     while k2 < len(segs) and segs[k2] == "1":
                         j, k2 = j + 1, k2 + 1
                     if k2 < len(segs) and segs[k2] == "0":
                         k2 += 1
                     if j < len(lent):
-                        out += ["new", lent[j]]
+                        out += [segs[i + 1], lent[j]]
                         i = k2
                         continue
                 i += 1
@@ -229,6 +231,12 @@ PATH = re.compile(r"(?<![\w.'◌-])(" + ID + r")((?:\.(?:" + ID + r"|\d+))*)(?![
 LET = re.compile(r"let (" + ID + r") = (" + ID + r")((?:\.(?:" + ID + r"|\d+))*) in\b")
 
 
+def of_a_call(step, steps):
+    """Whether a test is `if !f(..)`: it now says of the answer itself what it said of its negation; of a field it does not."""
+    m = re.fullmatch(r"if-not-(.*?)(?:-\d+|-in-.*|-then-.*|-else-.*)?", step)
+    return bool(m) and any(v[1]["callee"] and v[1]["callee"].split("::")[-1] == m.group(1) for k, v in steps.items() if k)
+
+
 def rewrite(body, n, steps, params, goals):
     env = {"c": []}
     known = set(goals)
@@ -237,6 +245,9 @@ def rewrite(body, n, steps, params, goals):
         v, root, rest = m.group(1), m.group(2), m.group(3)
         if root in env:
             env[v] = env[root] + [x for x in rest.split(".") if x]
+    for m in re.finditer(r"let (" + ID + r") = rw [^;=]*? at (" + ID + r")((?:\.(?:" + ID + r"|\d+))*) in\b", body):
+        if m.group(2) in env and m.group(1) not in env:
+            env[m.group(1)] = env[m.group(2)] + [x for x in m.group(3).split(".") if x]
     def one(m):
         root, rest = m.group(1), m.group(2)
         segs = [x for x in rest.split(".") if x]
@@ -257,13 +268,13 @@ def rewrite(body, n, steps, params, goals):
             return m.group()
         segs = env[p.group(1)] + [x for x in p.group(2).split(".") if x]
         full = convert(env[p.group(1)], n, steps, params) + [x for x in p.group(2).split(".") if x]
-        return h if full and full[0].startswith(("if-not-", "if-not_")) else m.group()
+        return h if full and of_a_call(full[0], steps) else m.group()
     text = re.sub(r"(?<![\w'-])not-(?:true|false)\s+(" + ATOM + r")\s+(" + ATOM + r")", lambda m: "«" + plainly(m) + "»" if plainly(m) != m.group() else m.group(), text)
     def negated(m):
         if m.group(1) not in env:
             return m.group()
         full = convert(env[m.group(1)], n, steps, params) + [x for x in m.group(2).split(".") if x]
-        if len(full) == 2 and full[0].startswith("if-not-") and full[1] in ("true", "false"):
+        if len(full) == 2 and of_a_call(full[0], steps) and full[1] in ("true", "false"):
             return f"(ap not {m.group()})"
         return m.group()
     text = "".join(p if k % 2 else PATH.sub(negated, p) for k, p in enumerate(re.split("[«»]", text)))
@@ -304,7 +315,26 @@ def parts_of(text):
     return [x.strip() for x in parts]
 
 
-def as_record(rest, fields):
+def clauses_at(path, rest, n):
+    """The clause names of what a path of the new names leads to."""
+    parts = path.split(".")
+    seen = 0
+    while parts and parts[0] != "c" and seen < 9:
+        m = re.search(r"let " + re.escape(parts[0]) + r" = ([^ ]+) in\b", rest)
+        if not m or not re.fullmatch(ID + r"(?:\.(?:" + ID + r"|\d+))*", m.group(1)):
+            return None
+        parts = m.group(1).split(".") + parts[1:]
+        seen += 1
+    if parts[:2] == ["c", "requires"] and len(parts) == 2:
+        return n.pre
+    if len(parts) == 3 and parts[0] == "c" and parts[2] == "ensures":
+        for p in n.places.values():
+            if p["step"][1] == parts[1] and p["clauses"]:
+                return p["clauses"]["fields"]
+    return None
+
+
+def as_record(rest, fields, n):
     """The clauses of an answer that stood as a tuple, by their names."""
     at, depth = 0, 0
     for m in re.finditer(r"[(\[{)\]}]|\bin\b(?![\w'-])", rest):
@@ -324,6 +354,12 @@ def as_record(rest, fields):
     if re.match(r"\s*(search|omega|record|\?)", tail):
         return rest
     t = tail.strip()
+    end = re.search(r"(?<![\w.'-])(" + ID + r"(?:\.(?:" + ID + r"|\d+))*)$", t)
+    if end:
+        own = clauses_at(end.group(1), rest, n)
+        if own and len(own) == len(fields) and (end.start() == 0 or t.startswith("rw ")):
+            inside = ";\n        ".join(f"{f} = {t}.{o}" for f, o in zip(fields, own))
+            return rest[:at] + "\n    record {\n        " + inside + "\n    }"
     if t.startswith("rw ") and t.endswith(")"):
         depth, k = 0, len(t)
         while k > 0:
@@ -383,7 +419,7 @@ def turn(folder, of, path, crate, params):
     n = Names(of)
     bl = blocks(text)
     uses = [l for name, ls in bl if name == "use" for l in [" ".join(x.strip() for x in ls)]]
-    uses = [l for l in uses if not re.search(r"\.(Statement|Tie|Lts|Reads)\b", l)]
+    uses = [l for l in uses if not re.search(r"\.(Statement|Tie|Lts)\b|\.proofs\..*\.Reads\b", l)]
     spec = next((ls for name, ls in bl if any("tie.close" in l for l in ls)), None)
     m = re.search(r"tie\.spec\b([^)]*)\)", "\n".join(spec))
     order = m.group(1).split() if m else []
@@ -425,7 +461,7 @@ def turn(folder, of, path, crate, params):
                     break
             else:
                 settled = {plain(x) for x in of.get("settled") or []}
-                gone = key == "same-length" or "slice-aggregate" in key or key.startswith("enum-") or any(x in settled for x in (key, "overflow-step-" + key2.split("-")[-1]))
+                gone = key.startswith(("same-length", "part-")) or "slice-aggregate" in key or key.startswith("enum-") or any(x in settled for x in (key, "overflow-step-" + key2.split("-")[-1]))
                 if not gone:
                     note.append("no name for " + a)
     goalmap = {a: n.needs[k][1] for a, k in pair.items()}
@@ -467,7 +503,7 @@ def turn(folder, of, path, crate, params):
         t2 = rewrite(rest, n, steps, params, goalmap)
         fields = n.asked.get(n.needs[k][0])
         if fields and len(fields) > 1:
-            t2 = as_record(t2, fields)
+            t2 = as_record(t2, fields, n)
         whole = head + sep + t2
         if re.fullmatch(r"\s*search rules\s*", t2) and "unfolding" not in head and "--" not in head:
             trivial.append(whole)
@@ -521,7 +557,7 @@ def turn(folder, of, path, crate, params):
         def put(s):
             # a name that a λ or a `(x : T) →` binds is its own to the end of the group
             bound = []
-            for m in re.finditer(r"λ ([^.]*?)\.|\(((?:" + ID + r" ?)+) :", s):
+            for m in re.finditer(r"λ ([^.\n]*?)\.|\(((?:" + ID + r" )*" + ID + r") :", s):
                 if m.group(1) is not None:
                     names_ = re.findall(ID, re.sub(r":[^)]*", "", m.group(1)))
                     start = m.start()

@@ -47,6 +47,8 @@ other : (c n : ℕ) → within c c n ≡ false → n ≡ c → ⊥
 other c n e q = differ (sym (and_both (le-leb c n (omega arith)) (le-leb n c (omega arith))) ∙ e)
 
 when-some : (b : Bool) (c k : ℕ) → Some (λ x. x ≡ k) (when b c) → (b ≡ true) × (c ≡ k)
+when-some false c k x' = elim x' [ ]
+when-some true c k (further x6) = elim x6 [ ]
 when-some true c k (here e) = (refl, e)
 
 either-some : (a b : Bool) (c d k : ℕ) (X : Type 0) → Some (λ x. x ≡ k) (when a c ++ when b d)

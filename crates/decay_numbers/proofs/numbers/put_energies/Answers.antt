@@ -1,0 +1,88 @@
+use Prim.Native.Nat.{◌+◌, ◌-◌, ◌<◌}
+use mathlib.Core.Path.{refl}
+use mathlib.Core.List.{◌++◌}
+use native.Mathlib.Omega.{arith}
+use lib.ListN.{length, drop}
+use Rattle.paper_decay_run.specs.Run.{run_number}
+use Rattle.paper_decay_run.proofs.Shorter.{number-shorter}
+use Rattle.decay_numbers.proofs.Storing.{storing-begun, storing-more, storing-done}
+use Rattle.decay_numbers.proofs.Words.{between, between-long, run_numbers, numbers-last, numbers-next}
+use borrow.Author.Rules.{rules}
+use Rattle.decay_numbers.proofs.numbers.put_energies.Goals as goal
+
+-- src/numbers.rt:63:5
+pub loop-at-init : goal.loop-at-init
+loop-at-init c =
+    let a = c.args in
+    (refl, omega arith, omega arith, storing-begun a.out.now a.at (run_numbers a.text.now))
+
+-- src/numbers.rt:64:13
+pub find_byte-past-requires : goal.find_byte-past-requires
+find_byte-past-requires c = search rules
+
+-- src/numbers.rt:65:34
+pub slice_bounds-put_number-count : goal.slice_bounds-put_number-count
+slice_bounds-put_number-count c = search rules
+
+-- src/numbers.rt:65:9
+pub put_number-to-requires : goal.put_number-to-requires
+put_number-to-requires c =
+    let v = c.loop-at in
+    let found = c.find_byte-past in
+    let long = between-long c.args.text.now v.i found.result found.ensures.lower_bound.0 found.ensures.lower_bound.1 in
+    omega arith
+
+-- src/numbers.rt:67:13
+pub returns-then-past-n : goal.returns-then-past-n
+returns-then-past-n c =
+    let v = c.loop-at in
+    let a = c.args in
+    let found = c.find_byte-past in
+    let put = c.put_number-to in
+    let e = numbers-last a.text.now v.i found.result v.invariant.1 found.ensures.value c.if-past-n.true in
+    let both = storing-done v.invariant.3 _ _ _ e put.ensures.out_after put.ensures.value in
+    record { out_after = both.0; value = both.1 }
+
+-- src/numbers.rt:69:20
+pub overflow_add-next : goal.overflow_add-next
+overflow_add-next c = search rules
+
+-- src/numbers.rt:70:32
+pub slice_bounds-put_kept-count : goal.slice_bounds-put_kept-count
+slice_bounds-put_kept-count c = search rules
+
+-- src/numbers.rt:70:9
+pub put_kept-to-requires : goal.put_kept-to-requires
+put_kept-to-requires c =
+    let v = c.loop-at in
+    let l = c.args.text.now in
+    let found = c.find_byte-past in
+    let past = found.result in
+    let less : past < length l = omega (arith, c.if-past-n.false) in
+    let long = between-long l v.i past found.ensures.lower_bound.0 found.ensures.lower_bound.1 in
+    let one = between-long l past (past + 1) (omega arith) (omega arith) in
+    let short = number-shorter (between l v.i past) in
+    omega arith
+
+-- src/numbers.rt:63:5
+pub loop-at-smaller : goal.loop-at-smaller
+loop-at-smaller c = omega (arith, c.if-past-n.false)
+
+-- src/numbers.rt:63:5
+pub loop-at-preserved : goal.loop-at-preserved
+loop-at-preserved c =
+    let v = c.loop-at in
+    let l = c.args.text.now in
+    let found = c.find_byte-past in
+    let past = found.result in
+    let put = c.put_number-to in
+    let kept = c.put_kept-to in
+    let less : past < length l = omega (arith, c.if-past-n.false) in
+    let long = between-long l v.i past found.ensures.lower_bound.0 found.ensures.lower_bound.1 in
+    let one = between-long l past (past + 1) (omega arith) (omega arith) in
+    let short = number-shorter (between l v.i past) in
+    let rest = run_numbers (drop (past + 1) l) in
+    let e = numbers-next l v.i past v.invariant.1 found.ensures.value less in
+    let s = storing-more v.invariant.3 (run_number (between l v.i past)) (between l past (past + 1) ++ rest) _ _ e
+    put.ensures.out_after put.ensures.value in
+    (refl, omega arith, omega arith, storing-more s (between l past (past + 1)) rest _ _ refl kept.ensures.out_after kept.ensures.value)
