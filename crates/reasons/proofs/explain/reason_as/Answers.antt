@@ -48,11 +48,7 @@ returns-then-number-eq9 c =
 
 pub heading_reason-requires : goal.heading_reason-requires
 heading_reason-requires c =
-    let both = (
-      lying-of _ _ _ c.requires.stands,
-      c.requires.whole,
-    ) in
-    record { lying = both.0; whole = both.1.0; in_field = both.1.1 }
+    record { lying = lying-of _ _ _ c.requires.stands; whole = c.requires.whole; in_field = c.requires.in_field }
 
 pub returns : goal.returns
 unfolding reason_for
