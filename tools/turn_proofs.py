@@ -76,12 +76,25 @@ class Names:
         self.places = {}
         self.order = []
         for i, p in enumerate(of["places"]):
-            self.places[p[0]] = dict(parent=p[1], step=p[2], callee=p[3], clauses=of["clauses"][i], i=i)
+            self.places[p[0]] = dict(parent=p[1], step=p[2], callee=p[3], clauses=of["clauses"][i], i=i, arm=(of.get("arms") or [None] * len(of["places"]))[i])
         self.args = dict()
         for a, b in of.get("args") or []:
             if a.startswith(".args "):
                 self.args[a.split(".")[-1].strip()] = b.split(".")[-1].strip()
         self.stem = of.get("stem")
+
+    def arms(self, place):
+        out = {}
+        while place:
+            p = self.places.get(place)
+            if not p:
+                break
+            if p["arm"]:
+                for field, step, path in p["arm"][2]:
+                    if path:
+                        out.setdefault((plain(step),) + tuple(path), [p["arm"][0], field])
+            place = p["parent"]
+        return out
 
     def steps(self, place):
         out = {}
@@ -118,12 +131,18 @@ def convert(segs, n, steps, params):
     out = []
     i = 0
     segs = [s for s in segs if s != "before"]
+    arms = steps.get("") or {}
+    if segs:
+        key = tuple([plain(segs[0])] + segs[1:])
+        for k in range(len(key), 1, -1):
+            if key[:k] in arms:
+                return arms[key[:k]] + segs[k:]
     while i < len(segs):
         s = segs[i]
         if i == 0:
             k = plain(s)
-            if k not in steps and k[:1].isupper():
-                k = k[:1].lower() + k[1:]
+            if k not in steps:
+                k = next((x for x in steps if x.lower() == k.lower()), k)
             if k in steps:
                 new, p = steps[k]
                 out.append(new)
@@ -330,7 +349,7 @@ def turn(folder, of, path, crate, params):
                     break
             else:
                 settled = {plain(x) for x in of.get("settled") or []}
-                gone = key == "same-length" or "slice-aggregate" in key or any(x in settled for x in (key, "overflow-step-" + key2.split("-")[-1]))
+                gone = key == "same-length" or "slice-aggregate" in key or key.startswith("enum-") or any(x in settled for x in (key, "overflow-step-" + key2.split("-")[-1]))
                 if not gone:
                     note.append("no name for " + a)
     goalmap = {a: n.needs[k][1] for a, k in pair.items()}
@@ -359,10 +378,14 @@ def turn(folder, of, path, crate, params):
             body.append(l)
         place = n.asked_at[k][0] if k < len(n.asked_at) else None
         steps = n.steps(place) if place in n.places else {}
+        arms = n.arms(place) if place in n.places else {}
         if not steps:
             for p in n.places:
                 for kk, v in n.steps(p).items():
                     steps.setdefault(kk, v)
+                for kk, v in n.arms(p).items():
+                    arms.setdefault(kk, v)
+        steps[""] = arms
         t = "\n".join(body)
         head, sep, rest = t.partition(" c =")
         t2 = rewrite(rest, n, steps, params, goalmap)

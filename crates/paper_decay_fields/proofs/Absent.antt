@@ -14,7 +14,7 @@ use Rattle.paper_decay_fields.specs.Parts.{NO-PART, words_in}
 use Rattle.paper_decay_fields.specs.Asked.{is_code, NO-NUMBER, groups_in, head_of, types_at, energies_at, has_group}
 use Rattle.paper_decay_fields.specs.Asked.{NO-GROUP, group_of, type_of, energy_of}
 use Rattle.paper_decay_fields.specs.Claims.{NoneElse, NoneAtZero, NoneBehind}
-use Rattle.paper_decay_fields.proofs.Codes.{head_in, not-read}
+use Rattle.paper_decay_fields.proofs.Codes.{head_in_lem, not-read}
 
 no-group : (l : List ℕ) (k i : ℕ) → has_group l k ≡ false
     → (group_of l k ≡ NO-GROUP) × ((type_of l k i ≡ NO-PART) × (energy_of l k i ≡ NO-NUMBER))
@@ -55,7 +55,7 @@ above m n k h = and_none (leb m k) _ (lt-leb k n h)
 no_more : (l : List ℕ) (k : ℕ) → (head_of l).groups < k → (t : Bool) → is_code l ≡ t → has_group l k ≡ false
 unfolding has_group
 no_more l k h true e =
-    let n : (head_of l).groups ≡ groups_in l = ap (λ (x : Head). x.groups) (head_in l e) in
+    let n : (head_of l).groups ≡ groups_in l = ap (λ (x : Head). x.groups) (head_in_lem l e) in
     and_none (is_code l) _ (above _ (groups_in l) k (omega arith))
 no_more l k h false e = not_code l k e
 

@@ -3,10 +3,11 @@
 
 #![tactic(auto)]
 
+
 use libc::{STDIN_FILENO, STDOUT_FILENO};
 use number_reading::read::read_number;
 use paper_number::types::{Decimal, Reading};
-use program_text::{find, say, say_power};
+use program_text::{say, say_power};
 
 // A byte as a person can read it.
 fn shown(b: u8) -> u8 {
