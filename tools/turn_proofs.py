@@ -455,6 +455,8 @@ def turn(folder, of, path, crate, params):
         for a in args:
             key = plain(sig_of.get(a, "")[5:])
             key2 = re.sub(r"^overflow-", "", key)
+            for k, (old, new) in enumerate(n.needs):
+                byname.setdefault(plain(new), k)
             for kk in (key, key2):
                 if kk in byname:
                     pair[a] = byname[kk]

@@ -16,7 +16,6 @@
 mod asking;
 
 use crate::asking::{ask_back, ask_check, ask_line, ask_piece};
-
 use program_cases::text_room;
 use program_text::{byte_at, find, number_in};
 

@@ -20,7 +20,6 @@ mod fields;
 
 use crate::asking::ask_code;
 use crate::fields::say_fields;
-
 use program_cases::text_room;
 use program_text::{byte_at, find, number_in};
 

@@ -12,10 +12,10 @@ mod asking;
 mod changing;
 mod making;
 
-use program_text::find;
 use crate::asking::ask;
 use crate::changing::change;
 use crate::making::index_of;
+use program_text::find;
 
 // How many bytes the entry has, and how many numbers the index in hand.
 #[derive(Clone, Copy)]

@@ -28,6 +28,6 @@ returns c =
     c₃.put_digits.ensures.1
     ∙ ap (λ (x : ℕ). put l₂ at (digits_text (digits_n whole x))) c₁.put_digits-w.ensures.0 in
     record {
-        out_after = filled-body l l₁ l₂ l₃ at whole part v e₁ e₂ e₃ c₀.requires;
-        out_after_2 = body-stored l l₁ l₂ l₃ at whole part v e₁ e₂ e₃
+      out_after = filled-body l l₁ l₂ l₃ at whole part v e₁ e₂ e₃ c₀.requires;
+      out_after_2 = body-stored l l₁ l₂ l₃ at whole part v e₁ e₂ e₃;
     }

@@ -37,13 +37,13 @@ returns-then-raised c =
     let e₂ : l₂ ≡ put l₁ at (sign_byte below ∷ []) =
     c₂.put_byte.ensures ∙ ap (λ (s : ℕ). put l₁ at (s ∷ [])) c₂.sign_byte.ensures in
     record {
-        out_after = rw t (filled-exponent l l₁ l₂ at below long e e₁ e₂ h);
-        out_after_2 = rw t (exponent-stored l l₁ l₂ at below long e e₁ e₂)
+      out_after = rw t (filled-exponent l l₁ l₂ at below long e e₁ e₂ h);
+      out_after_2 = rw t (exponent-stored l l₁ l₂ at below long e e₁ e₂);
     }
 
 pub returns-else-raised : goal.returns-else-raised
 returns-else-raised c =
     record {
-        out_after = rw c.if-raised.false (sym (put-nothing c.args.out.now c.args.at));
-        out_after_2 = rw c.if-raised.false (sym (nothing_stored c.args.out.now))
+      out_after = rw c.if-raised.false (sym (put-nothing c.args.out.now c.args.at));
+      out_after_2 = rw c.if-raised.false (sym (nothing_stored c.args.out.now));
     }

@@ -55,9 +55,9 @@ loop-i-preserved c =
     let a = c.args in
     let stored : c.if-to-room.out ≡ set v.out (a.at + v.i) (get_or a.text.now v.i 0) =
     elim c.if-to-room.branch [
-      then-to-room w ↦ w.out-is
-    | else-to-room w ↦
-        w.out-is ∙ sym (set_out v.out (a.at + v.i) (get_or a.text.now v.i 0) (omega (arith, w.if-to-room.false)))
+      | then-to-room w ↦ w.out-is
+      | else-to-room w ↦
+          w.out-is ∙ sym (set_out v.out (a.at + v.i) (get_or a.text.now v.i 0) (omega (arith, w.if-to-room.false)))
     ] in
     (omega arith, inv.1, inv.2, byte_more a.out.now v.out c.if-to-room.out a.text.now a.at v.i (omega arith) inv.3 stored, ap length stored ∙ length-set v.out _ _ ∙ inv.4)
 
@@ -72,6 +72,6 @@ returns c =
     let a = c.args in
     let e : v.i ≡ length a.text.now = omega arith in
     record {
-        out_after = rw (e, take-length) at v.invariant.3;
-        value = rw v.invariant.1 refl
+      out_after = rw (e, take-length) at v.invariant.3;
+      value = rw v.invariant.1 refl;
     }

@@ -13,8 +13,8 @@ put_kept-requires c = search rules
 pub returns-then-text-gt11 : goal.returns-then-text-gt11
 returns-then-text-gt11 c =
     record {
-        out_after = rw (← run_long _ c.if-text-gt11.true) c.put_kept.ensures.out_after;
-        value = rw (← run_long _ c.if-text-gt11.true) c.put_kept.ensures.value
+      out_after = rw (← run_long _ c.if-text-gt11.true) c.put_kept.ensures.out_after;
+      value = rw (← run_long _ c.if-text-gt11.true) c.put_kept.ensures.value;
     }
 
 -- src/numbers.rt:45:9
@@ -31,8 +31,8 @@ put_value-requires c =
     let says = sym c.read_narrow-r.ensures ∙ c.in-Number.is in
     let k = number_fits _ _ says in
     record {
-        power_len_bound = rw (value_read _ _ says) (omega arith);
-        power_bound = rw (value_read _ _ says) (omega arith)
+      power_len_bound = rw (value_read _ _ says) (omega arith);
+      power_bound = rw (value_read _ _ says) (omega arith);
     }
 
 -- src/numbers.rt:49:32
@@ -44,8 +44,8 @@ pub returns-in-Blank : goal.returns-in-Blank
 returns-in-Blank c =
     let says = sym c.read_narrow-r.ensures ∙ c.in-Blank.is in
     record {
-        out_after = rw (← run-read _ _ (omega arith) says) c.put_kept-in-Blank.ensures.out_after;
-        value = rw (← run-read _ _ (omega arith) says) c.put_kept-in-Blank.ensures.value
+      out_after = rw (← run-read _ _ (omega arith) says) c.put_kept-in-Blank.ensures.out_after;
+      value = rw (← run-read _ _ (omega arith) says) c.put_kept-in-Blank.ensures.value;
     }
 
 -- src/numbers.rt:36:1
@@ -53,8 +53,8 @@ pub returns-in-Number : goal.returns-in-Number
 returns-in-Number c =
     let says = sym c.read_narrow-r.ensures ∙ c.in-Number.is in
     record {
-        out_after = rw (← run-read _ _ (omega arith) says, ← value_read _ _ says) c.put_value.ensures.out_after;
-        value = rw (← run-read _ _ (omega arith) says, ← value_read _ _ says) c.put_value.ensures.value
+      out_after = rw (← run-read _ _ (omega arith) says, ← value_read _ _ says) c.put_value.ensures.out_after;
+      value = rw (← run-read _ _ (omega arith) says, ← value_read _ _ says) c.put_value.ensures.value;
     }
 
 -- src/numbers.rt:36:1
@@ -62,6 +62,6 @@ pub returns-in-Refused : goal.returns-in-Refused
 returns-in-Refused c =
     let says = sym c.read_narrow-r.ensures ∙ c.in-Refused.is in
     record {
-        out_after = rw (← run-read _ _ (omega arith) says) c.put_kept-in-Refused.ensures.out_after;
-        value = rw (← run-read _ _ (omega arith) says) c.put_kept-in-Refused.ensures.value
+      out_after = rw (← run-read _ _ (omega arith) says) c.put_kept-in-Refused.ensures.out_after;
+      value = rw (← run-read _ _ (omega arith) says) c.put_kept-in-Refused.ensures.value;
     }

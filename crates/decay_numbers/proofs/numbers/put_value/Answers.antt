@@ -34,6 +34,6 @@ returns c =
     let e = c.canonical_field-field.ensures in
     let k = text-behind (value_of v.negative v.coefficient v.power) c.requires.power_len_bound in
     record {
-        out_after = rw (c.lead_of-first.ensures.value, e, k) at c.put_kept.ensures.out_after;
-        value = rw (c.lead_of-first.ensures.value, e, k) at c.put_kept.ensures.value
+      out_after = rw (c.lead_of-first.ensures.value, e, k) at c.put_kept.ensures.out_after;
+      value = rw (c.lead_of-first.ensures.value, e, k) at c.put_kept.ensures.value;
     }

@@ -13,8 +13,8 @@ pub returns-then-text-i : goal.returns-then-text-i
 returns-then-text-i c =
     let inv = c.loop-i.invariant in
     record {
-        value = scan-found inv.1 (omega arith) (eq-eqb _ _ c.if-text-i.true);
-        lower_bound = (inv.0, omega arith)
+      value = scan-found inv.1 (omega arith) (eq-eqb _ _ c.if-text-i.true);
+      lower_bound = (inv.0, omega arith);
     }
 
 pub loop-i-preserved : goal.loop-i-preserved
@@ -29,6 +29,6 @@ returns c =
     let low = inv.1.low in
     let z : i ≡ length c.args.text.now = omega arith in
     record {
-        value = z ∙ scan-done inv.1 (omega arith);
-        lower_bound = (inv.0, omega arith)
+      value = z ∙ scan-done inv.1 (omega arith);
+      lower_bound = (inv.0, omega arith);
     }

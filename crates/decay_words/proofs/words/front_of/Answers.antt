@@ -15,8 +15,8 @@ returns-then-not-is_capital c =
     let inv = c.loop-n.invariant in
     let e = front-stop text n (omega arith) inv.0 (sym c.is_capital.ensures ∙ c.if-not-is_capital.true) in
     record {
-        value = sym (inv.1 ∙ e);
-        upper_bound = inv.0
+      value = sym (inv.1 ∙ e);
+      upper_bound = inv.0;
     }
 
 pub loop-n-preserved : goal.loop-n-preserved
@@ -32,6 +32,6 @@ returns c =
     let n = c.loop-n.n in
     let z : n ≡ 0 = omega arith in
     record {
-        value = sym (rw z at c.loop-n.invariant.1);
-        upper_bound = omega arith
+      value = sym (rw z at c.loop-n.invariant.1);
+      upper_bound = omega arith;
     }

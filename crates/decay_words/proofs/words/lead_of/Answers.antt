@@ -19,8 +19,8 @@ returns-then-text-i-ne32 c =
     let inv = c.loop-i.invariant in
     let e = lead-stop text i (omega arith) c.if-text-i-ne32.true in
     record {
-        value = omega (arith, e, inv.1);
-        upper_bound = omega arith
+      value = omega (arith, e, inv.1);
+      upper_bound = omega arith;
     }
 
 pub loop-i-preserved : goal.loop-i-preserved
@@ -39,6 +39,6 @@ returns c =
     let inv = c.loop-i.invariant in
     let e = lead-end text i (omega arith) in
     record {
-        value = omega (arith, e, inv.1);
-        upper_bound = omega arith
+      value = omega (arith, e, inv.1);
+      upper_bound = omega arith;
     }

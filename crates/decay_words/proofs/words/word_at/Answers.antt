@@ -25,8 +25,8 @@ returns-then-end-n c =
     let inv = c.loop-i.invariant in
     let e = c.find_byte-end.ensures.value in
     record {
-        value = rw inv.0 (cutting-out x text k start (k - (i + 1)) (rw (less i k (omega arith)) at inv.1.1) (rw (← e) (omega arith)));
-        length_in_bounds = omega arith
+      value = rw inv.0 (cutting-out x text k start (k - (i + 1)) (rw (less i k (omega arith)) at inv.1.1) (rw (← e) (omega arith)));
+      length_in_bounds = omega arith;
     }
 
 pub loop-i-preserved : goal.loop-i-preserved
@@ -57,6 +57,6 @@ returns c =
     let e = c.find_byte-past.ensures.value in
     let z : k - i ≡ 0 = omega arith in
     record {
-        value = rw e (cutting-done x text k start (rw z at inv.1.1));
-        length_in_bounds = omega arith
+      value = rw e (cutting-done x text k start (rw z at inv.1.1));
+      length_in_bounds = omega arith;
     }

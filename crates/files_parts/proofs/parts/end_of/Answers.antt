@@ -12,8 +12,8 @@ loop-i-init c = (c.requires.n_value, end-scan c.args.bytes.now c.args.n c.requir
 pub named_at-requires : goal.named_at-requires
 named_at-requires c =
     record {
-        names_lent = c.requires.names_lent;
-        i_bound = (let n = c.loop-i.invariant.0 in omega arith)
+      names_lent = c.requires.names_lent;
+      i_bound = (let n = c.loop-i.invariant.0 in omega arith);
     }
 
 pub returns-then-named_at : goal.returns-then-named_at

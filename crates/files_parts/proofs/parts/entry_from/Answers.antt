@@ -11,8 +11,8 @@ returns-then-n-eq0 c =
     let z = sym c.entry_length-n.ensures.value ∙ c.if-n-eq0.true in
     let f = first-none a.file.now a.at z in
     record {
-        behind = record { block = refl; offset = omega arith };
-        result_value = sym (from-none a.file.now a.at z)
+      behind = record { block = refl; offset = omega arith };
+      result_value = sym (from-none a.file.now a.at z);
     }
 
 pub overflow_add-past : goal.overflow_add-past
@@ -37,6 +37,6 @@ returns c =
     let e = c.entry_length-n.ensures.value in
     let f = first-begun a.file.now a.at (λ z. c.if-n-eq0.false (e ∙ z)) in
     record {
-        behind = record { block = refl; offset = omega arith };
-        result_value = rw (add-sub_cancel_left, e) (sym (from-begun a.file.now a.at (λ z. c.if-n-eq0.false (e ∙ z))))
+      behind = record { block = refl; offset = omega arith };
+      result_value = rw (add-sub_cancel_left, e) (sym (from-begun a.file.now a.at (λ z. c.if-n-eq0.false (e ∙ z))));
     }

@@ -8,8 +8,8 @@ returns-then-file-at c =
     let z = length-past c.args.file.now c.args.at c.if-file-at.true in
     let u = length-there c.args.file.now c.args.at in
     record {
-        value = z;
-        at_in_bounds = omega arith
+      value = z;
+      at_in_bounds = omega arith;
     }
 
 pub returns : goal.returns
@@ -19,6 +19,6 @@ returns c =
     let z = length-by a.file.now a.at c.entry_records-n.result (sym n) in
     let u = length-there a.file.now a.at in
     record {
-        value = sym z;
-        at_in_bounds = omega arith
+      value = sym z;
+      at_in_bounds = omega arith;
     }

@@ -9,16 +9,16 @@ pub returns-then-n-eq0 : goal.returns-then-n-eq0
 returns-then-n-eq0 c =
     let s = c.args.bytes.now in
     record {
-        value = no-records s (sym c.few-n.ensures.value ∙ c.if-n-eq0.true);
-        result_in_bounds = omega arith
+      value = no-records s (sym c.few-n.ensures.value ∙ c.if-n-eq0.true);
+      result_in_bounds = omega arith;
     }
 
 pub named_at-requires : goal.named_at-requires
 named_at-requires c =
     let n = c.few-n.ensures.value in
     record {
-        names_lent = record { same = c.names-names.ensures };
-        i_bound = omega arith
+      names_lent = record { same = c.names-names.ensures };
+      i_bound = omega arith;
     }
 
 pub returns-then-not-named_at : goal.returns-then-not-named_at
@@ -26,16 +26,16 @@ returns-then-not-named_at c =
     let n = c.few-n.ensures.value in
     let s = c.args.bytes.now in
     record {
-        value = not_opened s (omega arith) (sym c.named_at.ensures ∙ c.if-not-named_at.true);
-        result_in_bounds = omega arith
+      value = not_opened s (omega arith) (sym c.named_at.ensures ∙ c.if-not-named_at.true);
+      result_in_bounds = omega arith;
     }
 
 pub end_of-last-requires : goal.end_of-last-requires
 end_of-last-requires c =
     let n = c.few-n.ensures.value in
     record {
-        names_lent = record { same = c.names-names.ensures };
-        n_value = n
+      names_lent = record { same = c.names-names.ensures };
+      n_value = n;
     }
 
 pub returns-then-last-n : goal.returns-then-last-n
@@ -47,8 +47,8 @@ returns-then-last-n c =
     let opens = sym c.named_at.ensures
     ∙ c.if-not-named_at.false in
     record {
-        value = rw e (sym (records-found s (omega arith) opens (omega arith)));
-        result_in_bounds = omega arith
+      value = rw e (sym (records-found s (omega arith) opens (omega arith)));
+      result_in_bounds = omega arith;
     }
 
 pub returns : goal.returns
@@ -59,6 +59,6 @@ returns c =
     let opens = sym c.named_at.ensures
     ∙ c.if-not-named_at.false in
     record {
-        value = not-ended s (omega arith) opens (omega arith);
-        result_in_bounds = omega arith
+      value = not-ended s (omega arith) opens (omega arith);
+      result_in_bounds = omega arith;
     }

@@ -31,6 +31,6 @@ pub returns : goal.returns
 returns c =
     let e : c.loop-i.i ≡ c.args.n = omega arith in
     record {
-        value = rw e at c.loop-i.invariant.2;
-        result_bound = rw e at c.loop-i.invariant.3
+      value = rw e at c.loop-i.invariant.2;
+      result_bound = rw e at c.loop-i.invariant.3;
     }

@@ -6,6 +6,6 @@ pub returns : goal.returns
 unfolding subentry_of
 returns c =
     record {
-        value = c.number_in-number.ensures.value;
-        upper_bound = omega (arith, c.number_in-number.ensures.result_bound)
+      value = c.number_in-number.ensures.value;
+      upper_bound = omega (arith, c.number_in-number.ensures.result_bound);
     }

@@ -17,8 +17,8 @@ returns-then-not-is_digit c =
     let e =
     scan-found c4.loop-j.invariant.1 (omega arith) (ap not (sym c.is_digit.ensures) ∙ (ap not c.if-not-is_digit.true)) in
     record {
-        value = e;
-        upper_bound = omega arith
+      value = e;
+      upper_bound = omega arith;
     }
 
 pub loop-j-preserved : goal.loop-j-preserved
@@ -31,6 +31,6 @@ loop-j-preserved c =
 pub returns : goal.returns
 returns c =
     record {
-        value = scan-done c.loop-j.invariant.1 (omega arith);
-        upper_bound = omega arith
+      value = scan-done c.loop-j.invariant.1 (omega arith);
+      upper_bound = omega arith;
     }

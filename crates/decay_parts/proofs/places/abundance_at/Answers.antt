@@ -1,0 +1,4 @@
+use Rattle.decay_parts.proofs.places.abundance_at.Goals as goal
+
+pub returns : goal.returns
+returns c = c.field_at.ensures

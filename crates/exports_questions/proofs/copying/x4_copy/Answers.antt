@@ -1,0 +1,11 @@
+use mathlib.Core.Path.{ap, ◌∙◌}
+use Rattle.exports_words.specs.Words.{answer_word}
+use Rattle.exports_questions.proofs.copying.x4_copy.Goals as goal
+
+pub returns : goal.returns
+returns c =
+    let e = c.copy.ensures in
+    record {
+      value = c.answer_word.ensures ∙ ap answer_word e.0;
+      out_after = e.1;
+    }

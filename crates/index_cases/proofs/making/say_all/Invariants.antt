@@ -1,0 +1,8 @@
+use Rattle.std.proofs.Common.{◌-◌, length}
+use Rattle.index_cases.proofs.making.say_all.Given as goal
+
+abbrev pub invariant-loop-i : goal.invariant-loop-i
+invariant-loop-i l = Unit {0}
+
+abbrev pub decreases-loop-i : goal.decreases-loop-i
+decreases-loop-i l = length l.index - l.i

@@ -1,0 +1,14 @@
+use lib.ListN.{length}
+use Prim.Native.Nat.{◌≤◌, ◌-◌}
+use mathlib.Core.Path.{◌≡◌}
+use Rattle.merges.proofs.read_cases.Given as goal
+
+abbrev pub invariant-loop-at : goal.invariant-loop-at
+invariant-loop-at l =
+    (l.at ≤ length l.text)
+    × (length l.whole ≡ length l.initial.whole)
+    × (length l.held ≡ length l.initial.held)
+    × (length l.revision ≡ length l.initial.revision)
+
+abbrev pub decreases-loop-at : goal.decreases-loop-at
+decreases-loop-at l = length l.text - l.at

@@ -1,0 +1,16 @@
+use Rattle.paper_questions.proofs.Parts.{passage-lies}
+use Rattle.paper_questions.specs.PartAnswers.{bytes_in}
+use Rattle.paper_questions.specs.Ask.{passage_asked}
+use mathlib.Core.Path.{◌∙◌, ap}
+use Rattle.questions.proofs.ask.passage_part.Goals as goal
+
+pub part_of-requires : goal.part_of-requires
+unfolding passage_asked
+part_of-requires c = rw c.passage-part.ensures (passage-lies _ _ _ _ _)
+
+pub returns : goal.returns
+returns c =
+    record {
+      behind = rw (← c.passage-part.ensures) c.part_of.ensures.behind;
+      result_value = c.part_of.ensures.result_value ∙ ap (bytes_in c.args.entry.now) c.passage-part.ensures;
+    }

@@ -1,0 +1,11 @@
+use Rattle.std.proofs.Common.{◌-◌, arith}
+use Rattle.write_fields.proofs.crossings.Goals as goal
+
+pub loop-k-init : goal.loop-k-init
+loop-k-init c = omega arith
+
+pub loop-k-preserved : goal.loop-k-preserved
+loop-k-preserved c = omega arith
+
+pub returns : goal.returns
+returns c = tt
