@@ -1,9 +1,9 @@
-//! Finds the archives of proved functions, made by `rt staticlib` of the crates `exports`, `exports_questions`,
+//! Finds the archives of proved functions, made by `host/archives` of the crates `exports`, `exports_questions`,
 //! `exports_files`, `exports_file_copies`, `exports_reasons`, `exports_index`, `exports_walk`, `exports_doubles`,
 //! `exports_reals`, `exports_cinda`, `exports_decay`, `exports_codes` and `exports_revisions`, and has them linked.
 //!
-//! `X4_ARCHIVES` names their folder and they must then be there; otherwise they are looked for where `rt` leaves them.
-//! `rt` makes archives for x86-64. For another processor than theirs, or where one is missing, nothing is linked, the
+//! `X4_ARCHIVES` names their folder and they must then be there; otherwise they are looked for where `archives`
+//! leaves them. They are made for x86-64. For another processor than theirs, or where one is missing, nothing is linked, the
 //! reference answers every call, and the build says so.
 
 use std::env;

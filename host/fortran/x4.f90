@@ -1,4 +1,4 @@
-! The functions of the proved archives (rt staticlib) for Fortran. The numbers are document 01's; the count of digits is
+! The functions of the proved archives (host/archives) for Fortran. The numbers are document 01's; the count of digits is
 ! that of document 02, M-104, refusal 17, a flag with an exponent or one that equals no code, that of M-105,
 ! transmissions are those of M-100, reasons those of M-108, the index of subentries is that of M-102, walks are those of
 ! M-112, doubles those of M-107, lines in the CINDA2001 layout those of M-113, codes under DECAY-DATA those of M-106, and

@@ -1,4 +1,4 @@
-/* The functions of the proved archives (rt staticlib) for C.
+/* The functions of the proved archives (host/archives) for C.
  *
  * A slice of bytes or of numbers is a pointer and a length. Every call answers for every argument: nothing has to be
  * tested before, but a pointer must be that of so many bytes or numbers. The numbers are document 01's; the count of
