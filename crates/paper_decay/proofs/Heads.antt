@@ -15,7 +15,7 @@ use Rattle.paper_decay.specs.declared.types.Scan.{Scan}
 use Rattle.paper_decay.specs.Scan.{fresh, nowhere, to_if, head, digits_next, before_nuclide, flag_digits, flag_step}
 use Rattle.paper_decay.specs.Scan.{digits_step, symbol_step, nuclide_step, head_step, inside_step, head_whole, is_whole}
 use Rattle.paper_decay.specs.Scan.{is_flag_point, close_step, next_place, comma_step, step_of}
-use Rattle.paper_decay.specs.Code.{Isomer, unsaid, ground, metastable, first, second, isomer_text, Nuclide, Short, Capital}
+use Rattle.paper_decay.specs.Code.{Isomer, unsaid, ground_state, metastable, first, second, isomer_text, Nuclide, Short, Capital}
 use Rattle.paper_decay.specs.Code.{GoodNuclide, Place, GoodPlaces, Code, write, Good}
 use Rattle.paper_decay.proofs.Cuts.{Figure}
 use Rattle.paper_decay.proofs.Inside.{capital-inside}
@@ -230,7 +230,7 @@ isomer-steps : (x : Isomer) (k : ℕ) (r : List ℕ) → 1 ≤ k → Behind k (i
 unfolding steps
 isomer-steps unsaid k r h =
     record { inner = 7; count = k; whole = counted-whole k h; other = λ e. omega arith; same = refl }
-isomer-steps ground k r h =
+isomer-steps ground_state k r h =
     record {
       inner = 10;
       count = 0;

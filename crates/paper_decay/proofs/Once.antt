@@ -9,7 +9,7 @@ use lib.ListN.{length}
 use Rattle.laws.specs.Walk.{All}
 use Rattle.laws.proofs.Booleans.{differ}
 use Rattle.paper_number.specs.Grammar.{blanks, Digits, digits_text}
-use Rattle.paper_decay.specs.Code.{Isomer, unsaid, ground, metastable, first, second, isomer_text, Nuclide, nuclide_text}
+use Rattle.paper_decay.specs.Code.{Isomer, unsaid, ground_state, metastable, first, second, isomer_text, Nuclide, nuclide_text}
 use Rattle.paper_decay.specs.Code.{Capital, GoodNuclide, Sort, after, Place, places_text, Fits, EmptyOr, Fitting}
 use Rattle.paper_decay.specs.Code.{Code, flag_text, write, Good}
 use Rattle.paper_decay.specs.Claims.{SpeltOnce}
@@ -105,34 +105,34 @@ isomer-once : (x y : Isomer) (r s : List ℕ) → Low r → Low s → isomer_tex
 isomer-once x y [] s hr hs e = absurd hr
 isomer-once x y (p ∷ r) [] hr hs e = absurd hs
 isomer-once unsaid unsaid (p ∷ r) (q ∷ s) hr hs e = (refl, e)
-isomer-once unsaid ground (p ∷ r) (q ∷ s) hr hs e = let z : p ≡ 45 = cc in absurd (not-45 p hr z)
+isomer-once unsaid ground_state (p ∷ r) (q ∷ s) hr hs e = let z : p ≡ 45 = cc in absurd (not-45 p hr z)
 isomer-once unsaid metastable (p ∷ r) (q ∷ s) hr hs e = let z : p ≡ 45 = cc in absurd (not-45 p hr z)
 isomer-once unsaid first (p ∷ r) (q ∷ s) hr hs e = let z : p ≡ 45 = cc in absurd (not-45 p hr z)
 isomer-once unsaid second (p ∷ r) (q ∷ s) hr hs e = let z : p ≡ 45 = cc in absurd (not-45 p hr z)
-isomer-once ground unsaid (p ∷ r) (q ∷ s) hr hs e = let z : q ≡ 45 = cc in absurd (not-45 q hs z)
-isomer-once ground ground (p ∷ r) (q ∷ s) hr hs e = (refl, cc)
-isomer-once ground metastable (p ∷ r) (q ∷ s) hr hs e = let z : ◌≡◌ {A = ℕ} 71 77 = cc in absurd (omega arith)
-isomer-once ground first (p ∷ r) (q ∷ s) hr hs e = let z : ◌≡◌ {A = ℕ} 71 77 = cc in absurd (omega arith)
-isomer-once ground second (p ∷ r) (q ∷ s) hr hs e = let z : ◌≡◌ {A = ℕ} 71 77 = cc in absurd (omega arith)
+isomer-once ground_state unsaid (p ∷ r) (q ∷ s) hr hs e = let z : q ≡ 45 = cc in absurd (not-45 q hs z)
+isomer-once ground_state ground_state (p ∷ r) (q ∷ s) hr hs e = (refl, cc)
+isomer-once ground_state metastable (p ∷ r) (q ∷ s) hr hs e = let z : ◌≡◌ {A = ℕ} 71 77 = cc in absurd (omega arith)
+isomer-once ground_state first (p ∷ r) (q ∷ s) hr hs e = let z : ◌≡◌ {A = ℕ} 71 77 = cc in absurd (omega arith)
+isomer-once ground_state second (p ∷ r) (q ∷ s) hr hs e = let z : ◌≡◌ {A = ℕ} 71 77 = cc in absurd (omega arith)
 isomer-once metastable unsaid (p ∷ r) (q ∷ s) hr hs e = let z : q ≡ 45 = cc in absurd (not-45 q hs z)
-isomer-once metastable ground (p ∷ r) (q ∷ s) hr hs e = let z : ◌≡◌ {A = ℕ} 77 71 = cc in absurd (omega arith)
+isomer-once metastable ground_state (p ∷ r) (q ∷ s) hr hs e = let z : ◌≡◌ {A = ℕ} 77 71 = cc in absurd (omega arith)
 isomer-once metastable metastable (p ∷ r) (q ∷ s) hr hs e = (refl, cc)
 isomer-once metastable first (p ∷ r) (q ∷ s) hr hs e = let z : p ≡ 49 = cc in absurd (not-49 p hr z)
 isomer-once metastable second (p ∷ r) (q ∷ s) hr hs e = let z : p ≡ 50 = cc in absurd (not-50 p hr z)
 isomer-once first unsaid (p ∷ r) (q ∷ s) hr hs e = let z : q ≡ 45 = cc in absurd (not-45 q hs z)
-isomer-once first ground (p ∷ r) (q ∷ s) hr hs e = let z : ◌≡◌ {A = ℕ} 77 71 = cc in absurd (omega arith)
+isomer-once first ground_state (p ∷ r) (q ∷ s) hr hs e = let z : ◌≡◌ {A = ℕ} 77 71 = cc in absurd (omega arith)
 isomer-once first metastable (p ∷ r) (q ∷ s) hr hs e = let z : q ≡ 49 = cc in absurd (not-49 q hs z)
 isomer-once first first (p ∷ r) (q ∷ s) hr hs e = (refl, cc)
 isomer-once first second (p ∷ r) (q ∷ s) hr hs e = let z : ◌≡◌ {A = ℕ} 49 50 = cc in absurd (omega arith)
 isomer-once second unsaid (p ∷ r) (q ∷ s) hr hs e = let z : q ≡ 45 = cc in absurd (not-45 q hs z)
-isomer-once second ground (p ∷ r) (q ∷ s) hr hs e = let z : ◌≡◌ {A = ℕ} 77 71 = cc in absurd (omega arith)
+isomer-once second ground_state (p ∷ r) (q ∷ s) hr hs e = let z : ◌≡◌ {A = ℕ} 77 71 = cc in absurd (omega arith)
 isomer-once second metastable (p ∷ r) (q ∷ s) hr hs e = let z : q ≡ 50 = cc in absurd (not-50 q hs z)
 isomer-once second first (p ∷ r) (q ∷ s) hr hs e = let z : ◌≡◌ {A = ℕ} 50 49 = cc in absurd (omega arith)
 isomer-once second second (p ∷ r) (q ∷ s) hr hs e = (refl, cc)
 
 isomer-stops : (x : Isomer) (r : List ℕ) → Low r → Stops Figure (isomer_text x ++ r)
 isomer-stops unsaid r h = low-stops Figure (λ p. omega (arith, p.0)) (λ p. omega (arith, p.0)) r h
-isomer-stops ground r h = λ p. omega (arith, p.0)
+isomer-stops ground_state r h = λ p. omega (arith, p.0)
 isomer-stops metastable r h = λ p. omega (arith, p.0)
 isomer-stops first r h = λ p. omega (arith, p.0)
 isomer-stops second r h = λ p. omega (arith, p.0)

@@ -17,7 +17,7 @@ use Rattle.paper_record.proofs.Within.{within-bounds}
 use Rattle.paper_decay.specs.declared.types.Scan.{Scan}
 use Rattle.paper_decay.specs.Scan.{fresh, nowhere, to_if, head, digits_next, before_nuclide, flag_digits, symbol_step}
 use Rattle.paper_decay.specs.Scan.{head_whole, step_of}
-use Rattle.paper_decay.specs.Code.{Isomer, unsaid, ground, metastable, first, second, isomer_text, Nuclide, Short, Capital}
+use Rattle.paper_decay.specs.Code.{Isomer, unsaid, ground_state, metastable, first, second, isomer_text, Nuclide, Short, Capital}
 use Rattle.paper_decay.specs.Code.{GoodNuclide, Place, GoodPlaces, Code, write, Good, Spells}
 use Rattle.paper_decay.proofs.Cuts.{Figure}
 use Rattle.paper_decay.proofs.Once.{rest, nuclide_then, core, flag_then, write-cut}
@@ -135,7 +135,7 @@ iso-8 (b ∷ m) h = by_end (inner-or b)
     by_tests i false e true f =
         let z : b ≡ 71 = eqb-true b 71 f in
         let t = iso-10 m (goes (head 8 0) (head 10 0) b m (in-8 b i ∙ rw (e, f) refl) h) in
-        record { isomer = ground; places = t.places; good = t.good; same = λ j. 45 ∷ sym z j ∷ t.same j }
+        record { isomer = ground_state; places = t.places; good = t.good; same = λ j. 45 ∷ sym z j ∷ t.same j }
     by_tests i false e false f = lost (head 8 0) b m (in-8 b i ∙ rw (e, f) refl) h
 
     by_end : Inner b ⊎ ((b ≡ 41) ⊎ (b ≡ 44)) → Iso (45 ∷ b ∷ m)

@@ -17,11 +17,11 @@ use Rattle.paper_decay.specs.Numerals.{Numeral}
 
 -- X: "G", "M", "M1", "M2", or none
 pub data Isomer : Type 0 where
-  unsaid ground metastable first second : Isomer
+  unsaid ground_state metastable first second : Isomer
 
 abbrev pub isomer_text : Isomer → List ℕ
 isomer_text unsaid = []
-isomer_text ground = 45 ∷ 71 ∷ []
+isomer_text ground_state = 45 ∷ 71 ∷ []
 isomer_text metastable = 45 ∷ 77 ∷ []
 isomer_text first = 45 ∷ 77 ∷ 49 ∷ []
 isomer_text second = 45 ∷ 77 ∷ 50 ∷ []

@@ -15,7 +15,7 @@ use Rattle.paper_decay.specs.Scan.{flag_digits, before_nuclide, flag_step, digit
 use Rattle.paper_decay.specs.Scan.{unit_step, mark_step, behind_number, half_number_step, half_step, type_step, numbers_step}
 use Rattle.paper_decay.specs.Scan.{place_step, field_step, inside_step, head_whole, is_whole, is_empty, is_flag_point}
 use Rattle.paper_decay.specs.Scan.{close_step, next_place, comma_step, step_of, text_turn, fresh, scan_text}
-use Rattle.paper_decay.specs.Code.{Isomer, unsaid, ground, metastable, Nuclide, Place, Code, write}
+use Rattle.paper_decay.specs.Code.{Isomer, unsaid, ground_state, metastable, Nuclide, Place, Code, write}
 use Rattle.paper_decay.specs.Fields.{canonical_number, canonical_code, run_of}
 
 abbrev nuclide : List ℕ → String → List ℕ → Isomer → Nuclide
@@ -48,7 +48,7 @@ rows =
     (made [] (nuclide (5 ∷ 9 ∷ []) "PR" (1 ∷ 4 ∷ 0 ∷ []) unsaid)
     (spaced "" ∷ bare "B+/EC" ∷ spaced "" ∷ bare "0.500" ∷ []))
     ∷ row "(25-MN-50-G, 0.286SEC, B+, 6610.)" "(25-MN-50-G, .286SEC, B+, 6610.)"
-    (made [] (nuclide (2 ∷ 5 ∷ []) "MN" (5 ∷ 0 ∷ []) ground) (spaced "0.286SEC" ∷ spaced "B+" ∷ spaced "6610." ∷ []))
+    (made [] (nuclide (2 ∷ 5 ∷ []) "MN" (5 ∷ 0 ∷ []) ground_state) (spaced "0.286SEC" ∷ spaced "B+" ∷ spaced "6610." ∷ []))
     ∷ row "(25-MN-50-M,1.76MIN,DG,785.,,B+)" "(25-MN-50-M,1.76MIN,DG,785.,,B+)"
     (made [] (nuclide (2 ∷ 5 ∷ []) "MN" (5 ∷ 0 ∷ []) metastable)
     (bare "1.76MIN" ∷ bare "DG" ∷ bare "785." ∷ bare "" ∷ bare "B+" ∷ []))

@@ -16,7 +16,7 @@ use Rattle.paper_number.specs.Reading.{read_field}
 use Rattle.paper_record.specs.Text.{is_capital}
 use Rattle.paper_record.proofs.Within.{within-bounds}
 use Rattle.paper_canonical.specs.Canonical.{one_more}
-use Rattle.paper_decay.specs.Code.{Isomer, unsaid, ground, metastable, first, second, isomer_text, Nuclide, nuclide_text, Capital}
+use Rattle.paper_decay.specs.Code.{Isomer, unsaid, ground_state, metastable, first, second, isomer_text, Nuclide, nuclide_text, Capital}
 use Rattle.paper_decay.specs.Code.{GoodNuclide, half_life, Place, Fits, EmptyOr, Fitting, Code, flag_text, write, Good}
 use Rattle.paper_decay.specs.Fields.{front, number_of, unit_of, cut_at, fields_of}
 use Rattle.paper_decay.proofs.Cuts.{Stops, Blank as IsBlank, Figure, figures, all_map}
@@ -126,21 +126,21 @@ nuclide-text c g =
 -- without its hyphen
 abbrev pub isomer_words : Isomer → List (List ℕ)
 isomer_words unsaid = []
-isomer_words ground = (71 ∷ []) ∷ []
+isomer_words ground_state = (71 ∷ []) ∷ []
 isomer_words metastable = (77 ∷ []) ∷ []
 isomer_words first = (77 ∷ 49 ∷ []) ∷ []
 isomer_words second = (77 ∷ 50 ∷ []) ∷ []
 
 cut-isomer : (a : List ℕ) (x : Isomer) → All (Not 45) a → cut_at 45 (a ++ isomer_text x) ≡ a ∷ isomer_words x
 cut-isomer a unsaid h = ap (cut_at 45) (append-nil a) ∙ cut-whole 45 a h
-cut-isomer a ground h = cut-first 45 a (71 ∷ []) h
+cut-isomer a ground_state h = cut-first 45 a (71 ∷ []) h
 cut-isomer a metastable h = cut-first 45 a (77 ∷ []) h
 cut-isomer a first h = cut-first 45 a (77 ∷ 49 ∷ []) h
 cut-isomer a second h = cut-first 45 a (77 ∷ 50 ∷ []) h
 
 isomer-word : (x : Isomer) → get_or (isomer_words x) 0 [] ≡ drop 1 (isomer_text x)
 isomer-word unsaid = refl
-isomer-word ground = refl
+isomer-word ground_state = refl
 isomer-word metastable = refl
 isomer-word first = refl
 isomer-word second = refl

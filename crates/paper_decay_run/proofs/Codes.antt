@@ -9,7 +9,7 @@ use lib.ListN.{length, length-append}
 use lib.Seq.{take_at, drop_at}
 use Rattle.laws.specs.Walk.{All}
 use Rattle.paper_number.specs.Grammar.{blanks, Digits, digits_text}
-use Rattle.paper_decay.specs.Code.{Isomer, unsaid, ground, metastable, first, second, isomer_text, Nuclide, nuclide_text}
+use Rattle.paper_decay.specs.Code.{Isomer, unsaid, ground_state, metastable, first, second, isomer_text, Nuclide, nuclide_text}
 use Rattle.paper_decay.specs.Code.{GoodNuclide, Capital, Sort, half_life, types, energies, abundance, after, Place, places_text}
 use Rattle.paper_decay.specs.Code.{split, Fits, EmptyOr, Fitting, Code, flag_text, write, Good}
 use Rattle.paper_decay.specs.Fields.{cut_at, canonical_places, canonical_code, run_of}
@@ -83,7 +83,7 @@ not-comma b h e = omega arith
 
 isomer-bare : (x : Isomer) → All Bare (isomer_text x)
 isomer-bare unsaid = tt
-isomer-bare ground = (not-comma 45 (omega arith), (not-comma 71 (omega arith), tt))
+isomer-bare ground_state = (not-comma 45 (omega arith), (not-comma 71 (omega arith), tt))
 isomer-bare metastable = (not-comma 45 (omega arith), (not-comma 77 (omega arith), tt))
 isomer-bare first = (not-comma 45 (omega arith), (not-comma 77 (omega arith), (not-comma 49 (omega arith), tt)))
 isomer-bare second = (not-comma 45 (omega arith), (not-comma 77 (omega arith), (not-comma 50 (omega arith), tt)))
