@@ -1,5 +1,5 @@
--- What the two calls of a walker promise. Their proofs go through their code by hand, and for such a call the kit makes no
--- `Post`; so the call's own `ensures` is read here with the kit's means. `tells` is what follows from it.
+-- What the two calls of a walker promise: the call's own `ensures`, read here with the kit's means. `tells` is what follows
+-- from it.
 use Rattle.std.specs.Prelude.{refl}
 use base.Logic.{emp}
 use contract.Lifetimes.{Lfts}

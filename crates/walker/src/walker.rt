@@ -1,5 +1,5 @@
-// The walker holds the entry and its place in it. The borrow checker covers no function over such a struct, so each takes it
-// apart and leaves the work to a covered function, and its proof goes through its code by hand.
+// The walker holds the entry and its place in it. Each function takes it apart and leaves the work to a function over plain
+// parameters.
 ghost use Rattle.std.specs.Prelude.{◌≡◌};
 ghost use Rattle.paper_walk.specs.Walk.{start_of, given_said};
 ghost use Rattle.walker.specs.Walker.{moved_to, next_of};
