@@ -1,4 +1,4 @@
-// Reads number fields from standard input, a line each, and says what each reads to, `145 e_3` being 145 times ten to the
+// Reads number fields from standard input, a line each, and says what each reads to, `145 e-3` being 145 times ten to the
 // power -3, and how many digits are written in it.
 
 #![tactic(auto)]
