@@ -19,7 +19,7 @@ use Rattle.paper_record.specs.declared.types.LineNo.{LineNo}
 use Rattle.paper_record.specs.declared.types.RecordNo.{RecordNo}
 use Rattle.paper_record.specs.Word.{pointer_of}
 use Rattle.paper_record.specs.System.{count_of}
-use Rattle.paper_record.specs.declared.types.Count.TheVariants.{Number}
+use Rattle.std.proofs.Common.{Some}
 use Rattle.paper_record.proofs.PlainDigits.{count-exactly}
 use Rattle.paper_rules.specs.Counts.{count_n1}
 use Rattle.paper_entry.specs.Judging.{judge_of}
@@ -279,7 +279,7 @@ values-long o n (row ∷ rows) h = (h.0.records, values-long o n rows h.1)
 
 laid-data : (t : Table) → GoodData t → Laid true t
 laid-data t g =
-    let e : count_of (n2 (fields_of t.opening)) ≡ Number (length t.lines) =
+    let e : count_of (n2 (fields_of t.opening)) ≡ Some (length t.lines) =
     (count-exactly 11 (n2 (fields_of t.opening)) (length t.lines)).1 g.lines in
     record {
       table = g.table;

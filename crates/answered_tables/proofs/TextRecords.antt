@@ -11,7 +11,7 @@ use Rattle.laws.specs.Blocks.{block_at}
 use Rattle.paper_record.specs.Fields.{field_at, fields_of, n2}
 use Rattle.paper_record.proofs.ReadColumns.{field-of}
 use Rattle.paper_record.specs.System.{count_of}
-use Rattle.paper_record.specs.declared.types.Count.TheVariants.{Number}
+use Rattle.std.proofs.Common.{Some}
 use Rattle.paper_record.proofs.PlainDigits.{count-exactly}
 use Rattle.paper_rules.specs.Text.{place_in_part}
 use Rattle.paper_entry.specs.Contexts.{context_at}
@@ -51,7 +51,7 @@ module _ (s : List ℕ) (g : GoodBytes s) (n : ℕ) (b : Bib) (r : BibReached g.
 
   pub announced : texts_from s a ≡ length texts
   announced =
-      let e : count_of (n2 (fields_of b.opening)) ≡ Number (length texts) =
+      let e : count_of (n2 (fields_of b.opening)) ≡ Some (length texts) =
       (count-exactly 11 (n2 (fields_of b.opening)) (length texts)).1 good.records in
       rw (at_opening, e)
 

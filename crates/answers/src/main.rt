@@ -8,7 +8,6 @@
 #![tactic(auto)]
 
 use paper_record::types::LineNo;
-use paper_walk::types::Given;
 use program_answer::{say_answer, say_given, say_part, say_value};
 use program_text::{find, number_in};
 use questions::ask::{heading, heading_part, passage, passage_part, unit, unit_part, value};
@@ -54,14 +53,6 @@ fn ask_passage(entry: &[u8], line: &[u8]) {
     say_part(p, passage_part(entry, n, keyword, pointer));
 }
 
-// Whether a walk is done.
-fn is_done(given: Given) -> bool {
-    match given {
-        Given::At(_, _, _) => false,
-        Given::Done => true,
-    }
-}
-
 // A walk: its answer, each value with its line and column, and twice that it is done. No table of these cases has so many.
 fn ask_walk(entry: &[u8], line: &[u8]) {
     let n = number_in(line, 1, 11);
@@ -70,19 +61,17 @@ fn ask_walk(entry: &[u8], line: &[u8]) {
     let a = walk.answer;
     say_answer(a);
     io::write_all(1, b"\n");
-    let mut i: usize = 0;
-    while i < 2000 {
+    for _ in 0..2000 {
         let step = one_on(entry, walk);
         let given = step.given;
         walk = step.walk;
         say_given(given);
-        if is_done(given) {
+        if given.is_none() {
             let again = one_on(entry, walk);
             let last = again.given;
             say_given(last);
             return;
         }
-        i += 1;
     }
 }
 

@@ -14,9 +14,9 @@ use Rattle.paper_record.specs.Columns.{has_line_feed}
 use Rattle.paper_record.specs.Fields.{fields_of}
 use Rattle.paper_record.specs.Class.{is_permitted, not_permitted}
 use Rattle.paper_record.specs.Identifier.{identifier_of}
-use Rattle.paper_faults.specs.declared.types.Fault.TheVariants.{At}
-use Rattle.paper_faults.specs.Fault.{leftmost, Finding, finding, first_fault}
+use Rattle.paper_faults.specs.Fault.{leftmost, Finding, finding, first_fault, fault_at}
 use Rattle.paper_rules.specs.Roles.{NOT-DUE}
+use Rattle.paper_faults.proofs.Least.{same-fault}
 use Rattle.paper_faults.proofs.Leftmost.{leftmost-where}
 use Rattle.paper_rules.specs.declared.types.Phase.{Phase}
 use Rattle.paper_rules.specs.declared.types.Phase.TheVariants.{Start, Opened, InSubentry, InBib, AfterBib, InCommon}
@@ -99,21 +99,21 @@ module _ (r : List ℕ) (fs : List Finding) where
   abbrev not_due : List Finding
   not_due = finding 2 (rule2 r) ∷ finding 3 (rule3 r) ∷ finding 4 (rule4 NOT-DUE) ∷ fs
 
-  fault2 : has_line_feed r ≡ false → first_fault not_due ≡ At 2 81
+  fault2 : has_line_feed r ≡ false → first_fault not_due ≡ fault_at 2 81
   unfolding first_fault rule2
   fault2 e = rw e refl
 
-  fault3 : (i : ℕ) → has_line_feed r ≡ true → leftmost (rule3 r) ≡ i + 1 → first_fault not_due ≡ At 3 (i + 1)
+  fault3 : (i : ℕ) → has_line_feed r ≡ true → leftmost (rule3 r) ≡ i + 1 → first_fault not_due ≡ fault_at 3 (i + 1)
   unfolding first_fault rule2
   fault3 i e h = rw (e, h, ne_eqb (i + 1) 0 (λ z. omega arith)) refl
 
-  fault4 : has_line_feed r ≡ true → leftmost (rule3 r) ≡ 0 → first_fault not_due ≡ At 4 1
+  fault4 : has_line_feed r ≡ true → leftmost (rule3 r) ≡ 0 → first_fault not_due ≡ fault_at 4 1
   unfolding first_fault rule2 rule4
   fault4 e h = rw (e, h) refl
 
   -- and what is found there is that
   pub behind-fault : (n k : ℕ) → BehindEnd r n k
-      → first_fault (finding 2 (rule2 r) ∷ finding 3 (rule3 r) ∷ finding 4 (rule4 NOT-DUE) ∷ fs) ≡ At n k
+      → first_fault (finding 2 (rule2 r) ∷ finding 3 (rule3 r) ∷ finding 4 (rule4 NOT-DUE) ∷ fs) ≡ fault_at n k
   behind-fault n k (no_line_feed e) = fault2 e
   behind-fault n k (not-permitted i e h p b) =
       fault3 i e
@@ -146,7 +146,7 @@ module _ (c : Context) (r : List ℕ) (done : is_done c.phase ≡ true) where
     pub said : BehindEnd r number column
     pub least : Least (found_in c r) number column
 
-  said_here : (n k : ℕ) → BehindEnd r n k → fault_of c.track c.seen (role_of c r) (fields_of r) r ≡ At n k
+  said_here : (n k : ℕ) → BehindEnd r n k → fault_of c.track c.seen (role_of c r) (fields_of r) r ≡ fault_at n k
   unfolding fault_of
   said_here n k b = rw no-role (behind-fault r _ n k b)
 
@@ -165,7 +165,4 @@ module _ (c : Context) (r : List ℕ) (done : is_done c.phase ≡ true) where
 
 pub one-behind : OneBehind
 one-behind r n k m j a b =
-    let e : At n k ≡ At m j = sym (behind-fault r [] n k a) ∙ behind-fault r [] m j b in
-    let p : n ≡ m = cc in
-    let q : k ≡ j = cc in
-    (p, q)
+    same-fault n k m j (sym (behind-fault r [] n k a) ∙ behind-fault r [] m j b)

@@ -3,7 +3,8 @@
 use mathlib.Core.Path.{◌≡◌, refl, sym, ap, ◌∙◌}
 use mathlib.Core.Bool.{Bool, true, false, cond}
 use mathlib.Core.List.{List, ◌++◌}
-use Prim.Native.Nat.{ℕ, ◌+◌, ◌-◌, ◌<◌, ◌≤◌}
+use Prim.Native.Nat.{ℕ, ◌-◌, ◌<◌, ◌≤◌}
+use Rattle.std.specs.Prelude.{Ok, Err}
 use borrow.Author.Tests.{le-leb, lt-leb, eq-eqb, ne_eqb, eqb-true}
 use lib.Dec.{leb, eqb}
 use lib.ListN.{length}
@@ -13,12 +14,11 @@ use Rattle.paper_number.specs.Grammar.{blanks, write}
 use Rattle.paper_number.specs.Value.{value_of}
 use Rattle.paper_number.proofs.Laws.{value_found}
 use Rattle.paper_canonical.specs.declared.types.Prepared.{Prepared}
-use Rattle.paper_canonical.specs.declared.types.Written.{Written}
-use Rattle.paper_canonical.specs.declared.types.Written.TheVariants.{Done, Refused}
+use Rattle.paper_canonical.specs.declared.types.WriteError.TheVariants.{NotEleven, NoField}
 use Rattle.paper_canonical.specs.Closed.{laid_out, shortest}
 use Rattle.paper_canonical.specs.Closed.{canonical_text, canonical_field}
 use Rattle.paper_canonical.specs.Storing.{prepared_of, layout_columns, field_text}
-use Rattle.paper_canonical.specs.Writing.{answered, stored_field, written, bytes, refusal_number, writing_refusal}
+use Rattle.paper_canonical.specs.Writing.{Written, answered, stored_field, written, bytes, refusal_number, writing_refusal}
 use Rattle.paper_canonical.proofs.Layouts.{text-layout}
 
 -- ---- what is answered and stored
@@ -32,7 +32,7 @@ module _ (l : List ℕ) (n : Bool) (c : ℕ) (p : ℤ) (q : Prepared) (e : q ≡
       text-layout v (value_found n c p).normal
       ∙ ap (λ (r : Prepared). layout_columns r.negative r.layout) (sym e)
 
-  pub refused-wide : length l < layout_columns q.negative q.layout → (Refused 41 ≡ answered l v)
+  pub refused-wide : length l < layout_columns q.negative q.layout → (Err NoField ≡ answered l v)
       × (l ≡ stored_field l v)
   unfolding answered stored_field
   refused-wide h =
@@ -48,7 +48,7 @@ module _ (l : List ℕ) (n : Bool) (c : ℕ) (p : ℤ) (q : Prepared) (e : q ≡
 
   pub done-wide : (m : List ℕ) → layout_columns q.negative q.layout ≤ length l
       → m ≡ field_text (length l) q.negative q.coefficient q.layout
-      → (Done ≡ answered l v) × (m ≡ stored_field l v)
+      → (Ok tt ≡ answered l v) × (m ≡ stored_field l v)
   unfolding answered stored_field
   done-wide m h f =
       let t = le-leb (length (canonical_text v)) (length l) (rw long h) in
@@ -62,18 +62,18 @@ unfolding written answered writing_refusal
 number-of l v = by (eqb (length l) 11) refl (leb (length (canonical_text v)) (length l)) refl
   where
     by : (t : Bool) → eqb (length l) 11 ≡ t → (u : Bool) → leb (length (canonical_text v)) (length l) ≡ u
-        → refusal_number (cond t (cond u Done (Refused 41)) (Refused 40))
+        → refusal_number (cond t (cond u (Ok tt) (Err NoField)) (Err NotEleven))
         ≡ cond t (cond (leb (length (canonical_text v)) 11) 0 41) 40
     by false e u d = refl
     by true e u d =
         rw (ap (λ (n : ℕ). leb (length (canonical_text v)) n) (sym (eqb-true (length l) 11 e)) ∙ d) (either u)
       where
-        either : (u : Bool) → refusal_number (cond u Done (Refused 41)) ≡ cond u 0 41
+        either : (u : Bool) → refusal_number (cond u (Ok tt) (Err NoField)) ≡ cond u 0 41
         either true = refl
         either false = refl
 
 module _ (l : List ℕ) (v : Decimal) where
-  pub not_eleven : (length l ≡ 11 → ⊥) → (Refused 40 ≡ written l v) × (l ≡ bytes l v)
+  pub not_eleven : (length l ≡ 11 → ⊥) → (Err NotEleven ≡ written l v) × (l ≡ bytes l v)
   unfolding written bytes
   not_eleven h = let e = ne_eqb (length l) 11 h in (rw e refl, rw e refl)
 

@@ -15,16 +15,11 @@ pub fn put_plain(out: &mut [u8], at: usize, field: &[u8])
     requires { at + length field.now ≤ length out.old }
     ensures { out.new ≡ paste out.old at field.now (length field.now) }
 {
-    let n = field.len();
-    let mut i = 0;
-    while i < n {
-        let to = at + i;
-        out[to] = field[i];
-        i += 1;
-    }
+    let past = at + field.len();
+    out[at..past].copy_from_slice(field);
 }
 
-// The canonical field of a value in n columns.
+// The canonical field of a value in n columns; where there is none, they stay.
 fn put_number(out: &mut [u8], at: usize, n: usize, v: Decimal)
     requires { (n ≤ 11) × (at + n ≤ length out.old) }
     ensures { out.new
@@ -32,7 +27,7 @@ fn put_number(out: &mut [u8], at: usize, n: usize, v: Decimal)
         (stored_field (take n (drop at out.old)) (value_of v.negative v.coefficient v.power)) n }
 {
     let past = at + n;
-    write_columns(v.negative, v.coefficient, v.power, &mut out[at..past]);
+    let _ = write_columns(v.negative, v.coefficient, v.power, &mut out[at..past]);
 }
 
 // A number becomes its canonical field of as many columns; what is no number stays.

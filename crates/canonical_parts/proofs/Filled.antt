@@ -1,16 +1,18 @@
 -- A buffer that was filled part by part holds the field.
 -- Assumes nothing.
 use mathlib.Core.Path.{◌≡◌, refl, sym, ap, ◌∙◌}
-use mathlib.Core.Bool.{Bool, true, false}
+use mathlib.Core.Bool.{Bool}
 use mathlib.Core.List.{List, [], ◌∷◌, ◌++◌, append_assoc}
 use Prim.Native.Nat.{ℕ, suc, ◌+◌, ◌-◌, ◌*◌, ◌^◌, ◌≤◌}
 use native.Mathlib.Nat.{zero-add}
 use native.Mathlib.Omega.{arith}
 use lib.ListN.{length, length-append, length-replicate}
 use Rattle.paper_number.specs.Grammar.{blanks, digits_text, sign_byte, sign_text, tail_text, write}
+use Rattle.std.specs.Prelude.{Option, Some, None}
+use Rattle.paper_canonical.specs.declared.types.Exponent.{Exponent}
 use Rattle.paper_canonical.specs.declared.types.Layout.{Layout}
 use Rattle.paper_canonical.specs.Closed.{digits_n, shift, sign_of, tail_of, laid_out}
-use Rattle.paper_canonical.specs.Storing.{one_if, layout_columns, put, body_text, field_text}
+use Rattle.paper_canonical.specs.Storing.{one_if, exponent_columns, layout_columns, put, body_text, field_text}
 use Rattle.paper_canonical.proofs.Digits.{digits-wide}
 use Rattle.paper_canonical.proofs.Laid.{sign-width}
 use Rattle.canonical_parts.proofs.Puts.{put_front, put_all}
@@ -34,22 +36,23 @@ module _ (l l₁ l₂ l₃ : List ℕ) (at whole part v : ℕ) where
 
 -- ---- a sign and the digits of an exponent
 
-pub filled-exponent : (l l₁ l₂ : List ℕ) (at : ℕ) (s : Bool) (n e : ℕ) → l₁ ≡ put l (at + 1) (digits_text (digits_n n e))
-    → l₂ ≡ put l₁ at (sign_byte s ∷ []) → at + (1 + n) ≤ length l → l₂ ≡ put l at (tail_text (tail_of true s n e))
-filled-exponent l l₁ l₂ at s n e e₁ e₂ h =
-    put_front l l₁ l₂ at 1 (sign_byte s ∷ []) (digits_text (digits_n n e)) e₁ e₂ refl (omega arith)
+pub filled-exponent : (l l₁ l₂ : List ℕ) (at : ℕ) (x : Exponent)
+    → l₁ ≡ put l (at + 1) (digits_text (digits_n x.long x.size)) → l₂ ≡ put l₁ at (sign_byte x.below ∷ [])
+    → at + (1 + x.long) ≤ length l → l₂ ≡ put l at (tail_text (tail_of (Some x)))
+filled-exponent l l₁ l₂ at x e₁ e₂ h =
+    put_front l l₁ l₂ at 1 (sign_byte x.below ∷ []) (digits_text (digits_n x.long x.size)) e₁ e₂ refl (omega arith)
 
 -- ---- the whole field
 
 blanks-length : (k : ℕ) → length (blanks k) ≡ k
 blanks-length k = length-replicate k 32
 
-pub tail-width : (t s : Bool) (n e : ℕ) → length (tail_text (tail_of t s n e)) ≡ one_if t (1 + n)
-tail-width true s n e = ap suc (digits-wide n e) ∙ omega arith
-tail-width false s n e = refl
+pub tail-width : (x : Option Exponent) → length (tail_text (tail_of x)) ≡ exponent_columns x
+tail-width (Some e) = ap suc (digits-wide e.long e.size) ∙ omega arith
+tail-width None = refl
 
 pub column-parts : (n : Bool) (p : Layout)
-    → layout_columns n p ≡ one_if n 1 + (p.whole + (1 + (p.part + one_if p.raised (1 + p.long))))
+    → layout_columns n p ≡ one_if n 1 + (p.whole + (1 + (p.part + exponent_columns p.exponent)))
 unfolding layout_columns
 column-parts n p = refl
 
@@ -77,7 +80,7 @@ module _ (n : Bool) (c : ℕ) (p : Layout) (l l₁ l₂ l₃ l₄ : List ℕ) (h
   body = body_text p.whole p.part (c * 10 ^ p.zeros)
 
   abbrev tail : List ℕ
-  tail = tail_text (tail_of p.raised p.below p.long p.exponent)
+  tail = tail_text (tail_of p.exponent)
 
   body-width : length body ≡ p.whole + (1 + p.part)
   body-width =
@@ -96,7 +99,7 @@ module _ (n : Bool) (c : ℕ) (p : Layout) (l l₁ l₂ l₃ l₄ : List ℕ) (h
       → l₃ ≡ put l₂ lead sign → l₄ ≡ put l₃ 0 (blanks lead) → l₄ ≡ field_text (length l) n c p
   placed e₁ e₂ e₃ e₄ =
       let C = layout_columns n p in
-      let t = one_if p.raised (1 + p.long) in
+      let t = exponent_columns p.exponent in
       let q₂ = put_front l l₁ l₂ (lead + one_if n 1) (p.whole + (1 + p.part)) body tail e₁ e₂ body-width
       (room₁ (length l) C (one_if n 1) p.whole p.part t h (column-parts n p)) in
       let q₃ = put_front l l₂ l₃ lead (one_if n 1) sign (body ++ tail) q₂ e₃ (sign-width n)
@@ -112,7 +115,7 @@ module _ (n : Bool) (c : ℕ) (p : Layout) (l l₁ l₂ l₃ l₄ : List ℕ) (h
         length-append body tail,
         sign-width n,
         body-width,
-        tail-width p.raised p.below p.long p.exponent,
+        tail-width p.exponent,
       )
       (room₄ (length l) C (one_if n 1) p.whole p.part t h (column-parts n p)) in
       q₄ ∙ put_all l (blanks lead ++ (sign ++ (body ++ tail))) w ∙ ap (λ (x : List ℕ). blanks lead ++ x) whole-text

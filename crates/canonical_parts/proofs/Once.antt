@@ -1,7 +1,7 @@
 -- The pieces that the writer stores fill the columns and do not overlap.
 -- Assumes nothing.
 use mathlib.Core.Path.{◌≡◌, refl, ap, ◌∙◌}
-use mathlib.Core.Bool.{Bool, true, false}
+use mathlib.Core.Bool.{Bool}
 use mathlib.Core.List.{List, [], ◌∷◌, ◌++◌}
 use Prim.Native.Nat.{ℕ, ◌+◌, ◌-◌, ◌*◌, ◌^◌, ◌<◌, ◌≤◌}
 use native.Mathlib.Decide.{dec_lt}
@@ -11,9 +11,11 @@ use borrow.Author.Tests.{lt-ltb, le-ltb, le-leb, lt-leb}
 use lib.Dec.{ltb}
 use lib.ListN.{length, length-replicate}
 use Rattle.paper_number.specs.Grammar.{blanks, digits_text, sign_byte, sign_text}
+use Rattle.std.specs.Prelude.{Option, Some, None}
+use Rattle.paper_canonical.specs.declared.types.Exponent.{Exponent}
 use Rattle.paper_canonical.specs.declared.types.Layout.{Layout}
 use Rattle.paper_canonical.specs.Closed.{digits_n, shift, sign_of}
-use Rattle.paper_canonical.specs.Storing.{put, one_if, layout_columns}
+use Rattle.paper_canonical.specs.Storing.{put, one_if, exponent_columns, layout_columns}
 use Rattle.paper_canonical.proofs.Digits.{digits-wide}
 use Rattle.paper_canonical.proofs.Laid.{sign-width}
 use Rattle.canonical_parts.specs.Once.{Piece, piece, exponent_pieces, body_pieces, front_pieces, pieces}
@@ -59,13 +61,13 @@ module _ (i : ℕ) where
       (behind (at + whole) (at + (whole + 1)) (46 ∷ []) (piece at d ∷ qs) (omega arith)
       (behind at (at + whole) d qs (ap (λ (k : ℕ). at + k) (digits-wide whole (shift part v))) h))
 
-  exponent-once : (at : ℕ) (raised below : Bool) (long e : ℕ) (qs : List Piece) → Once qs at
-      → Once (exponent_pieces at raised below long e ++ qs) (at + one_if raised (1 + long))
-  exponent-once at true below long e qs h =
-      behind (at + 1) (at + (1 + long)) (digits_text (digits_n long e)) (piece at (sign_byte below ∷ []) ∷ qs)
-      (ap (λ (k : ℕ). at + 1 + k) (digits-wide long e) ∙ omega arith)
-      (behind at (at + 1) (sign_byte below ∷ []) qs refl h)
-  exponent-once at false below long e qs h = rw (add-zero at) h
+  exponent-once : (at : ℕ) (x : Option Exponent) (qs : List Piece) → Once qs at
+      → Once (exponent_pieces at x ++ qs) (at + exponent_columns x)
+  exponent-once at (Some e) qs h =
+      behind (at + 1) (at + (1 + e.long)) (digits_text (digits_n e.long e.size)) (piece at (sign_byte e.below ∷ []) ∷ qs)
+      (ap (λ (k : ℕ). at + 1 + k) (digits-wide e.long e.size) ∙ omega arith)
+      (behind at (at + 1) (sign_byte e.below ∷ []) qs refl h)
+  exponent-once at None qs h = rw (add-zero at) h
 
   full : (w C s a b t : ℕ) → C ≤ w → C ≡ s + (a + (1 + (b + t))) → w - C + s + (a + (1 + b)) + t ≡ w
   full w C s a b t h k = omega arith
@@ -76,9 +78,9 @@ stored-once w negative c p h i =
     let lead = w - layout_columns negative p in
     let at = lead + one_if negative 1 in
     let last = at + (p.whole + (1 + p.part)) in
-    let t = one_if p.raised (1 + p.long) in
+    let t = exponent_columns p.exponent in
     let b = body_pieces at p.whole p.part (c * 10 ^ p.zeros) ++ front_pieces lead negative in
-    exponent-once i last p.raised p.below p.long p.exponent b
+    exponent-once i last p.exponent b
     (body-once i at p.whole p.part (c * 10 ^ p.zeros) (front_pieces lead negative) (front-once i lead negative))
     ∙ ap (λ (n : ℕ). one_if (ltb i n) 1)
     (full i w (layout_columns negative p) (one_if negative 1) p.whole p.part t h (column-parts negative p))
@@ -100,11 +102,11 @@ pub body-stored : (l l₁ l₂ l₃ : List ℕ) (at whole part v : ℕ)
 unfolding stored
 body-stored l l₁ l₂ l₃ at whole part v e₁ e₂ e₃ = rw (← e₁, ← e₂) e₃
 
-pub exponent-stored : (l l₁ l₂ : List ℕ) (at : ℕ) (below : Bool) (long e : ℕ)
-    → l₁ ≡ put l (at + 1) (digits_text (digits_n long e)) → l₂ ≡ put l₁ at (sign_byte below ∷ [])
-    → l₂ ≡ stored l (exponent_pieces at true below long e)
+pub exponent-stored : (l l₁ l₂ : List ℕ) (at : ℕ) (x : Exponent)
+    → l₁ ≡ put l (at + 1) (digits_text (digits_n x.long x.size)) → l₂ ≡ put l₁ at (sign_byte x.below ∷ [])
+    → l₂ ≡ stored l (exponent_pieces at (Some x))
 unfolding stored
-exponent-stored l l₁ l₂ at below long e e₁ e₂ = rw (← e₁) e₂
+exponent-stored l l₁ l₂ at x e₁ e₂ = rw (← e₁) e₂
 
 front-stored : (l l₁ l₂ : List ℕ) (lead : ℕ) (negative : Bool) → l₁ ≡ put l lead (sign_text (sign_of negative))
     → l₂ ≡ put l₁ 0 (blanks lead) → l₂ ≡ stored l (front_pieces lead negative)
@@ -114,7 +116,7 @@ front-stored l l₁ l₂ lead negative e₁ e₂ = rw (← e₁) e₂
 -- by the places that the code worked out
 module _ (l l₁ l₂ l₃ l₄ : List ℕ) (w : ℕ) (negative : Bool) (c : ℕ) (p : Layout) (lead at : ℕ) where
   abbrev exponent_at : ℕ → List Piece
-  exponent_at i = exponent_pieces (i + (p.whole + (1 + p.part))) p.raised p.below p.long p.exponent
+  exponent_at i = exponent_pieces (i + (p.whole + (1 + p.part))) p.exponent
 
   abbrev body_at : ℕ → List Piece
   body_at i = body_pieces i p.whole p.part (c * 10 ^ p.zeros)

@@ -55,9 +55,18 @@ pub put_one : (l : List ℕ) (at b : ℕ) → at < length l → set l at b ≡ p
 unfolding put
 put_one l at b h = rw (add-one at) (set_split l at b h)
 
-pub put-blanks : (l : List ℕ) (n : ℕ) → blanks n ++ drop n l ≡ put l 0 (blanks n)
+put-blanks : (l : List ℕ) (n : ℕ) → blanks n ++ drop n l ≡ put l 0 (blanks n)
 unfolding put
 put-blanks l n = rw (zero-add, length-replicate) refl
+
+-- the first n places, filled one after the other
+pub blanks-out : (l m : List ℕ) (n i : ℕ) → n ≤ length l → length (take n l) ≤ i → i ≤ length (take n l)
+    → m ≡ blanks i ++ drop i (take n l) → m ++ drop n l ≡ put l 0 (blanks n)
+blanks-out l m n i h a b e =
+    let w = length-take-le n l h in
+    let q : i ≡ n = omega arith in
+    let z : length (take n l) ≤ n = omega arith in
+    rw (e, q, drop_of_length-le (take n l), append-nil) (put-blanks l n)
 
 drop-set : (l : List ℕ) (i a : ℕ) → i < length l → drop i (set l i a) ≡ a ∷ drop (suc i) l
 drop-set l i a h =

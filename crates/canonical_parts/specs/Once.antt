@@ -6,8 +6,9 @@
 -- the left. Their places and lengths are those of the layout, which is known before the first byte is stored. The
 -- promises of `put_exponent`, `put_body` and `put_field` cite the list; that each column is stored once is the law
 -- `stored-once` about it.
-use Rattle.std.specs.Prelude.{Bool, true, false, ◌&&◌, List, [], ◌∷◌, ◌++◌, ◌≡◌, ℕ, ◌+◌, ◌-◌, ◌*◌, ◌^◌, ◌≤◌, leb, ltb, length}
+use Rattle.std.specs.Prelude.{Bool, ◌&&◌, List, [], ◌∷◌, ◌++◌, ◌≡◌, ℕ, ◌+◌, ◌-◌, ◌*◌, ◌^◌, ◌≤◌, leb, ltb, length, Option, Some, None}
 use Rattle.paper_number.specs.Grammar.{blanks, digits_text, sign_byte, sign_text}
+use Rattle.paper_canonical.specs.declared.types.Exponent.{Exponent}
 use Rattle.paper_canonical.specs.declared.types.Layout.{Layout}
 use Rattle.paper_canonical.specs.Closed.{digits_n, shift, sign_of}
 use Rattle.paper_canonical.specs.Storing.{put, one_if, layout_columns}
@@ -23,10 +24,10 @@ abbrev pub piece : ℕ → List ℕ → Piece
 piece at text = record { at = at; text = text }
 
 -- the digits of an exponent and its sign; without an exponent none
-abbrev pub exponent_pieces : ℕ → Bool → Bool → ℕ → ℕ → List Piece
-exponent_pieces at true below long e =
-    piece (at + 1) (digits_text (digits_n long e)) ∷ piece at (sign_byte below ∷ []) ∷ []
-exponent_pieces at false below long e = []
+abbrev pub exponent_pieces : ℕ → Option Exponent → List Piece
+exponent_pieces at (Some e) =
+    piece (at + 1) (digits_text (digits_n e.long e.size)) ∷ piece at (sign_byte e.below ∷ []) ∷ []
+exponent_pieces at None = []
 
 -- the digits behind the point, the point, and the digits before it
 abbrev pub body_pieces : ℕ → ℕ → ℕ → ℕ → List Piece
@@ -43,7 +44,7 @@ front_pieces lead negative = piece lead (sign_text (sign_of negative)) ∷ piece
 -- all of them, `lead` blanks in front
 abbrev pub pieces_from : ℕ → Bool → ℕ → Layout → List Piece
 pieces_from lead negative c p =
-    exponent_pieces (lead + one_if negative 1 + (p.whole + (1 + p.part))) p.raised p.below p.long p.exponent
+    exponent_pieces (lead + one_if negative 1 + (p.whole + (1 + p.part))) p.exponent
     ++ (body_pieces (lead + one_if negative 1) p.whole p.part (c * 10 ^ p.zeros) ++ front_pieces lead negative)
 
 -- those of a layout in w columns

@@ -2,10 +2,10 @@
 ghost use Rattle.std.specs.Prelude.{◌≡◌, [], ◌∷◌, ◌+◌, ◌-◌, ◌*◌, ◌<◌, ◌≤◌, ◌^◌, length};
 ghost use Rattle.paper_number.specs.Grammar.{blanks, digits_text, sign_byte, sign_text, tail_text};
 ghost use Rattle.paper_canonical.specs.Closed.{digits_n, shift, sign_of, tail_of};
-ghost use Rattle.paper_canonical.specs.Storing.{put, one_if, layout_columns, body_text};
+ghost use Rattle.paper_canonical.specs.Storing.{put, one_if, exponent_columns, layout_columns, body_text};
 ghost use Rattle.canonical_parts.specs.Once.{exponent_pieces, body_pieces, stored};
 
-use paper_canonical::types::Layout;
+use paper_canonical::types::{Exponent, Layout};
 
 fn put_byte(out: &mut [u8], at: usize, b: u8)
     requires { at < length out.old }
@@ -18,8 +18,8 @@ pub fn put_blanks(out: &mut [u8], n: usize)
     requires { n ≤ length out.old }
     ensures { out.new ≡ put out.old 0 (blanks n) }
 {
-    for i in 0usize..n {
-        out[i] = 32;
+    for b in &mut out[..n] {
+        *b = b' ';
     }
 }
 
@@ -29,11 +29,9 @@ fn put_digits(out: &mut [u8], at: usize, n: usize, v: u64) -> u64
     ensures { (result ≡ shift n v) × (out.new ≡ put out.old at (digits_text (digits_n n v))) }
 {
     let mut w = v;
-    let mut k = n;
-    while 0 < k {
-        k -= 1;
-        out[at + k] = 48 + (w % 10) as u8;
-        w = w / 10;
+    for k in (0..n).rev() {
+        out[at + k] = b'0' + (w % 10) as u8;
+        w /= 10;
     }
     w
 }
@@ -45,28 +43,28 @@ pub fn sign_columns(negative: bool) -> usize
     if negative { 1 } else { 0 }
 }
 
-fn exponent_columns(raised: bool, long: usize) -> usize
-    requires { long ≤ 20 }
-    ensures { result ≡ one_if raised (1 + long) }
+fn exponent_columns(exponent: Option<Exponent>) -> usize
+    requires { exponent_columns exponent ≤ 21 }
+    ensures { result ≡ exponent_columns exponent }
 {
-    if raised { 1 + long } else { 0 }
+    match exponent {
+        Some(e) => 1 + e.long,
+        None => 0,
+    }
 }
 
 // How many columns a layout takes.
 pub fn layout_columns(negative: bool, p: Layout) -> usize
-    requires { (p.whole ≤ 100) × ((p.part ≤ 100) × (p.long ≤ 20)) }
+    requires { (p.whole ≤ 100) × ((p.part ≤ 100) × (exponent_columns p.exponent ≤ 21)) }
     ensures { result ≡ layout_columns negative p }
 {
-    let whole = p.whole;
-    let part = p.part;
-    let e = exponent_columns(p.raised, p.long);
-    sign_columns(negative) + (whole + (1 + (part + e)))
+    sign_columns(negative) + p.whole + 1 + p.part + exponent_columns(p.exponent)
 }
 
 fn sign_byte(below: bool) -> u8
     ensures { result ≡ sign_byte below }
 {
-    if below { 45 } else { 43 }
+    if below { b'-' } else { b'+' }
 }
 
 pub fn put_sign(out: &mut [u8], at: usize, negative: bool)
@@ -74,7 +72,7 @@ pub fn put_sign(out: &mut [u8], at: usize, negative: bool)
     ensures { out.new ≡ put out.old at (sign_text (sign_of negative)) }
 {
     if negative {
-        put_byte(out, at, 45);
+        put_byte(out, at, b'-');
     }
 }
 
@@ -85,18 +83,18 @@ pub fn put_body(out: &mut [u8], at: usize, whole: usize, part: usize, v: u64)
     ensures out_after_2 { out.new ≡ stored out.old (body_pieces at whole part v) }
 {
     let w = put_digits(out, at + (whole + 1), part, v);
-    put_byte(out, at + whole, 46);
+    put_byte(out, at + whole, b'.');
     put_digits(out, at, whole, w);
 }
 
-pub fn put_exponent(out: &mut [u8], at: usize, raised: bool, below: bool, long: usize, e: u64)
-    requires { at + one_if raised (1 + long) ≤ length out.old }
-    ensures out_after { out.new ≡ put out.old at (tail_text (tail_of raised below long e)) }
-    ensures out_after_2 { out.new ≡ stored out.old (exponent_pieces at raised below long e) }
+pub fn put_exponent(out: &mut [u8], at: usize, exponent: Option<Exponent>)
+    requires { at + exponent_columns exponent ≤ length out.old }
+    ensures out_after { out.new ≡ put out.old at (tail_text (tail_of exponent)) }
+    ensures out_after_2 { out.new ≡ stored out.old (exponent_pieces at exponent) }
 {
-    if raised {
-        put_digits(out, at + 1, long, e);
-        put_byte(out, at, sign_byte(below));
+    if let Some(e) = exponent {
+        put_digits(out, at + 1, e.long, e.size);
+        put_byte(out, at, sign_byte(e.below));
     }
 }
 
@@ -105,11 +103,9 @@ pub fn with_zeros(c: u64, zeros: usize) -> u64
     requires { (zeros ≤ 2) × (c * 10 ^ zeros < 2 ^ 64) }
     ensures { result ≡ c * 10 ^ zeros }
 {
-    if zeros == 0 {
-        return c;
+    match zeros {
+        0 => c,
+        1 => c * 10,
+        _ => c * 100,
     }
-    if zeros == 1 {
-        return c * 10;
-    }
-    c * 100
 }

@@ -14,24 +14,16 @@ pub fn put_field(out: &mut [u8], negative: bool, c: u64, p: Layout)
     ensures out_after { out.new ≡ field_text (length out.old) negative c p }
     ensures out_after_2 { out.new ≡ stored out.old (pieces (length out.old) negative c p) }
 {
-    let whole = p.whole;
-    let part = p.part;
-    let zeros = p.zeros;
-    let raised = p.raised;
-    let below = p.below;
-    let long = p.long;
-    let exponent = p.exponent;
     let lead = out.len() - layout_columns(negative, p);
     let at = lead + sign_columns(negative);
-    let v = with_zeros(c, zeros);
-    put_exponent(
-        out,
-        at + (whole + (1 + part)),
-        raised,
-        below,
-        long,
+    let Layout {
+        whole,
+        part,
+        zeros,
         exponent,
-    );
+    } = p;
+    let v = with_zeros(c, zeros);
+    put_exponent(out, at + (whole + (1 + part)), exponent);
     put_body(out, at, whole, part, v);
     put_sign(out, lead, negative);
     put_blanks(out, lead);

@@ -1,5 +1,6 @@
 -- Lines written back, taken apart and asked for: every answer is the same, but for the count of digits.
 -- Assumes nothing.
+use Rattle.paper_faults.specs.Fault.{faultless}
 use Prim.Native.Nat.{ℕ, ◌+◌, ◌-◌, ◌*◌, ◌<◌, ◌≤◌}
 use mathlib.Core.Path.{◌≡◌, refl, sym, ◌∙◌}
 use mathlib.Core.Bool.{Bool, true, false, cond}
@@ -11,7 +12,6 @@ use lib.Dec.{eqb}
 use lib.ListN.{take, drop}
 use Rattle.paper_number.specs.Digits.{field_read}
 use Rattle.paper_record.specs.Columns.{columns_at}
-use Rattle.paper_faults.specs.declared.types.Fault.TheVariants.{Fine}
 use Rattle.paper_cinda.specs.declared.types.CindaNo.{CindaNo}
 use Rattle.paper_cinda.specs.declared.types.Piece.{Piece}
 use Rattle.paper_cinda.specs.declared.types.Piece.TheVariants.{Whole, Reaction, Quantity, Institute, Reference, Comment}
@@ -55,7 +55,7 @@ apart-same l m a =
       month = number_behind l m o 83 2 (omega arith);
     }
 
-back-alike : (l : List ℕ) → line_fault l ≡ Fine → AlikeLines (line_back l) l
+back-alike : (l : List ℕ) → line_fault l ≡ faultless → AlikeLines (line_back l) l
 back-alike l fine =
     record {
       outside = back-outside l fine;

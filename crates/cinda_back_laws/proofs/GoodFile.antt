@@ -1,5 +1,7 @@
 -- Good lines: one or more, whole, and each without a fault; the answer about them is 0 with no line and no column.
 -- Assumes nothing.
+use Rattle.std.specs.Prelude.{Ok, Err}
+use Rattle.paper_faults.specs.Fault.{Checked, fault_at, faultless}
 use Prim.Native.Nat.{ℕ, ◌+◌, ◌*◌, ◌<◌, ◌≤◌}
 use mathlib.Core.Path.{◌≡◌, refl}
 use mathlib.Core.Bool.{Bool, true, false, cond}
@@ -10,8 +12,6 @@ use Rattle.laws.specs.Turns.{Turn, go, out, after}
 use Rattle.laws.specs.Walk.{walk, Goes, All}
 use Rattle.laws.proofs.Walk.{goes-walk, walk-goes, all-at}
 use Rattle.laws.proofs.Blocks.{length-blocks, block-at}
-use Rattle.paper_faults.specs.declared.types.Fault.{Fault}
-use Rattle.paper_faults.specs.declared.types.Fault.TheVariants.{Fine, At}
 use Rattle.paper_faults.proofs.Least.{first-least, first-bounds}
 use Rattle.paper_cinda.specs.declared.types.LinesAnswer.{LinesAnswer}
 use Rattle.paper_cinda.specs.Layout.{LINE, lines_count, line_at, lines_in}
@@ -23,10 +23,10 @@ use Rattle.paper_cinda.proofs.Lines.{whole-lines}
 -- ---- one line
 
 abbrev pub FineLine : List ℕ → Type 0
-FineLine l = line_fault l ≡ Fine
+FineLine l = line_fault l ≡ faultless
 
 -- the number of a fault
-pub fault-number : (l : List ℕ) (n k : ℕ) → line_fault l ≡ At n k → (70 < n) × (n ≤ 77)
+pub fault-number : (l : List ℕ) (n k : ℕ) → line_fault l ≡ fault_at n k → (70 < n) × (n ≤ 77)
 unfolding line_fault
 fault-number l n k e =
     let b = first-bounds 70 (findings l) (findings-rise l) n k (first-least 70 (findings l) (findings-rise l) n k e) in
@@ -38,19 +38,19 @@ turn-number : (u : Unit {0}) (i : ℕ) (l : List ℕ) (v : LinesAnswer) → line
 unfolding line_turn
 turn-number u i l v e = by-fault (line_fault l) refl e
   where
-    by-fault : (f : Fault) → line_fault l ≡ f → on_fault i f ≡ out v → (70 < v.number) × (v.number ≤ 77)
-    by-fault Fine q h = let z : ◌≡◌ {A = ℕ} 0 1 = cc in absurd (omega arith)
-    by-fault (At n k) q h =
-        let same : v ≡ said_at n (i + 1) k = cc in
-        rw same (fault-number l n k q)
+    by-fault : (f : Checked) → line_fault l ≡ f → on_fault i f ≡ out v → (70 < v.number) × (v.number ≤ 77)
+    by-fault (Ok u) q h = let z : ◌≡◌ {A = ℕ} 0 1 = cc in absurd (omega arith)
+    by-fault (Err fault) q h =
+        let same : v ≡ said_at fault.number (i + 1) fault.column = cc in
+        rw same (fault-number l fault.number fault.column q)
 
 turn-fine : (u : Unit {0}) (i : ℕ) (l : List ℕ) (d : Unit {0}) → line_turn u i l ≡ go d → FineLine l
 unfolding line_turn
 turn-fine u i l d e = by-fault (line_fault l) e refl
   where
-    by-fault : (f : Fault) → on_fault i f ≡ go d → line_fault l ≡ f → line_fault l ≡ Fine
-    by-fault Fine h q = q
-    by-fault (At n k) h q = let z : ◌≡◌ {A = ℕ} 0 1 = cc in absurd (omega arith)
+    by-fault : (f : Checked) → on_fault i f ≡ go d → line_fault l ≡ f → line_fault l ≡ faultless
+    by-fault (Ok u) h q = q
+    by-fault (Err fault) h q = let z : ◌≡◌ {A = ℕ} 0 1 = cc in absurd (omega arith)
 
 fine-turn : (i : ℕ) (l : List ℕ) → FineLine l → line_turn tt i l ≡ go tt
 unfolding line_turn

@@ -11,8 +11,7 @@ use lib.ListN.{length, drop, get_or}
 use lib.Seq.{get_or-take, get_or-drop}
 use Rattle.laws.specs.Walk.{All}
 use Rattle.laws.proofs.Search.{either}
-use Rattle.paper_faults.specs.Fault.{finding}
-use Rattle.paper_faults.specs.declared.types.Fault.TheVariants.{Fine}
+use Rattle.paper_faults.specs.Fault.{finding, faultless}
 use Rattle.paper_faults.proofs.Least.{Empty, first-none, none_first}
 use Rattle.paper_faults.proofs.NoColumns.{when-none, whens-none, where-none, none-where}
 use Rattle.paper_number.specs.declared.types.Reading.{Reading}
@@ -82,13 +81,13 @@ pub record NoFinding (l : List ℕ) : Type 0 where
   pub none76 : rule76 l ≡ []
   pub none77 : rule77 l ≡ []
 
-pub fine-none : (l : List ℕ) → line_fault l ≡ Fine → NoFinding l
+pub fine-none : (l : List ℕ) → line_fault l ≡ faultless → NoFinding l
 unfolding line_fault
 fine-none l fine =
     let (a, (b, (c, (d, (e, (f, (g, z))))))) = first-none 70 (findings l) (findings-rise l) fine in
     record { none71 = a; none72 = b; none73 = c; none74 = d; none75 = e; none76 = f; none77 = g }
 
-pub none-fine : (l : List ℕ) → NoFinding l → line_fault l ≡ Fine
+pub none-fine : (l : List ℕ) → NoFinding l → line_fault l ≡ faultless
 unfolding line_fault
 none-fine l n =
     let last : All Empty (finding 77 (rule77 l) ∷ []) = (n.none77, tt) in
@@ -98,7 +97,7 @@ none-fine l n =
 
 -- ---- a line without a fault
 
-module _ (l : List ℕ) (fine : line_fault l ≡ Fine) where
+module _ (l : List ℕ) (fine : line_fault l ≡ faultless) where
   nothing : NoFinding l
   nothing = fine-none l fine
 
@@ -160,7 +159,7 @@ module _ (l : List ℕ) (fine : line_fault l ≡ Fine) where
 
   -- ---- no rule finds anything
 
-  pub back-fine : line_fault (line_back l) ≡ Fine
+  pub back-fine : line_fault (line_back l) ≡ faultless
   back-fine =
       let o = back-outside in
       none-fine (line_back l)
@@ -190,7 +189,7 @@ pub record AlikeLines (l m : List ℕ) : Type 0 where
   pub least : read_field (energy_at l 42) ≡ read_field (energy_at m 42)
   pub greatest : read_field (energy_at l 49) ≡ read_field (energy_at m 49)
 
-module _ (l m : List ℕ) (p : line_fault l ≡ Fine) (q : line_fault m ≡ Fine) where
+module _ (l m : List ℕ) (p : line_fault l ≡ faultless) (q : line_fault m ≡ faultless) where
   as_wide : (n : ℕ) → n ≤ 48 → length (columns_at n 7 l) ≡ length (columns_at n 7 m)
   as_wide n h =
       let a = good-long l p in

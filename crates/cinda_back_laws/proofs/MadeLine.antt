@@ -1,5 +1,6 @@
 -- A made line, checked and written back by computing.
 -- Assumes nothing.
+use Rattle.paper_faults.specs.Fault.{faultless}
 use Prim.Native.Nat.{ℕ, ◌+◌, ◌<◌}
 use mathlib.Core.Path.{◌≡◌, refl, sym, ◌∙◌, ap}
 use mathlib.Core.Bool.{true}
@@ -10,7 +11,6 @@ use Rattle.laws.specs.Search.{first}
 use Rattle.laws.specs.Members.{any_of}
 use Rattle.laws.specs.Blocks.{blocks, joined}
 use Rattle.laws.proofs.Table.{at}
-use Rattle.paper_faults.specs.declared.types.Fault.TheVariants.{Fine}
 use Rattle.paper_faults.proofs.NoColumns.{none-where}
 use Rattle.paper_number.specs.Reading.{read_field, finish}
 use Rattle.paper_number.specs.Value.{trim_from, trim, value_of}
@@ -44,7 +44,7 @@ characters : rule72 made_line ≡ []
 unfolding rule72
 characters = none-where (not_permitted made_line) (λ i. i + 1) 125 (λ k h. rw (letters k h) refl)
 
-fine : line_fault made_line ≡ Fine
+fine : line_fault made_line ≡ faultless
 unfolding rule71 rule73 rule74 rule75 rule76 rule77 is_operation is_many good_z good_mass good_isomer good_block good_date
     first trim_from trim value_of finish read_field equal_to digits_in number_in integer_of
 fine =

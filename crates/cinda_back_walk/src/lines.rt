@@ -48,11 +48,9 @@ pub fn put_lines(lines: &[u8], out: &mut [u8])
         ≡ lines_back lines.now ++ drop (length lines.now) out.old }
 {
     let n = lines.len() / 126;
-    let mut i = 0;
-    while i < n {
+    for i in 0..n {
         let at = i * 126;
         let past = at + 126;
         put_line(out, at, &lines[at..past]);
-        i += 1;
     }
 }

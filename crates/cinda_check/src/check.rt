@@ -3,22 +3,15 @@ ghost use Rattle.std.specs.Prelude.{◌≡◌};
 ghost use Rattle.paper_cinda.specs.Check.{good_length, said_at, check_of};
 
 use cinda_rules::order::line_fault;
-use classes::class::classes;
-use number::form::{kinds, nexts};
+use classes::class::Classes;
+use number::form::NumberTables;
 use paper_cinda::types::{CindaNo, LinesAnswer};
-use paper_faults::types::Fault;
 
 // Whole lines, 1 to 20,000 of them.
 pub fn length_good(bytes: usize) -> bool
     ensures { result ≡ good_length bytes }
 {
-    if bytes == 0 {
-        return false;
-    }
-    if bytes % 126 != 0 {
-        return false;
-    }
-    bytes <= 2520000
+    bytes != 0 && bytes % 126 == 0 && bytes <= 2520000
 }
 
 // An answer with a number, a line and a column; lines are numbered from 1.
@@ -41,21 +34,17 @@ pub fn check(lines: &[u8]) -> LinesAnswer
         return said_at(70, 0, 0);
     }
     let n = bytes / 126;
-    let classes = classes();
-    let kinds = kinds();
-    let nexts = nexts();
-    let mut i = 0;
-    while i < n {
+    let classes = Classes::new();
+    let numbers = NumberTables::new();
+    for i in 0..n {
         let first = i * 126;
         let past = first + 126;
-        let fault = line_fault(&classes, &kinds, &nexts, &lines[first..past]);
-        match fault {
-            Fault::Fine => {
-                i += 1;
-            }
-            Fault::At(number, column) => {
+        let found = line_fault(&classes, &numbers, &lines[first..past]);
+        match found {
+            Ok(_) => {}
+            Err(fault) => {
                 let line = (i + 1) as u32;
-                return said_at(number, line, column);
+                return said_at(fault.number, line, fault.column);
             }
         }
     }

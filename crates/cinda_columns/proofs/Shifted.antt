@@ -3,11 +3,11 @@
 use Prim.Native.Nat.{ℕ, zero, suc, ◌+◌, ◌-◌, ◌<◌, ◌≤◌}
 use mathlib.Core.Path.{◌≡◌, refl, sym, ap, ◌∙◌}
 use mathlib.Core.Bool.{Bool, true, false, cond, not}
-use mathlib.Core.List.{List, ◌++◌, append-nil}
+use mathlib.Core.List.{List, ◌++◌}
 use native.Mathlib.Omega.{arith}
 use lib.Dec.{eqb}
-use lib.ListN.{length, get_or, take, drop, length-replicate, get_or-replicate, replicate-append-replicate, get_or-append}
-use lib.Seq.{get_or-take, get_or-drop, get_or-append-add, paste, take_at}
+use lib.ListN.{length, get_or, take, drop, length-replicate, get_or-replicate, get_or-append}
+use lib.Seq.{get_or-take, get_or-drop, get_or-append-add}
 use borrow.Author.Tests.{eqb-true, eqb-false, eq-eqb, ne_eqb}
 use Rattle.laws.specs.Search.{first}
 use Rattle.paper_number.specs.Grammar.{blanks}
@@ -121,11 +121,3 @@ integer-wider k w f =
       digits-later g f k s (w - s) (λ j l. behind-blanks k f j),
       number-later g f k s (w - s) (λ j l. behind-blanks k f j),
     )
-
--- w columns stored behind the blanks of eleven are blanks and these columns
-pub pasted : (w : ℕ) (f : List ℕ) (k : ℕ) → k + w ≡ 11 → paste (blanks 11) k f w ≡ blanks (11 - w) ++ take w f
-pasted w f k e =
-    let front : take k (blanks 11) ≡ blanks k =
-    rw (replicate-append-replicate {A = ℕ} k w 32, e) at (take_at (blanks k) (blanks w) k (length-replicate k 32)) in
-    let z : 11 - w ≡ k = omega arith in
-    rw (e, z, front) (append-nil (blanks k ++ take w f))

@@ -32,9 +32,5 @@ pub fn is_date(line: &[u8]) -> bool
     ensures { result ≡ good_date line.now }
 {
     let f = field(line, 79);
-    if !digits_in(f, 0, 6) {
-        return false;
-    }
-    let month = month_of(line);
-    is_within(1, 12, month)
+    digits_in(f, 0, 6) && is_within(1, 12, month_of(line))
 }

@@ -4,7 +4,6 @@ ghost use Rattle.paper_number.specs.Grammar.{blanks};
 ghost use Rattle.paper_record.specs.Columns.{columns_at};
 ghost use Rattle.paper_record.specs.System.{integer_of, is_count};
 
-use paper_record::types::Count;
 use record::system::{count_of, is_count};
 
 // `w` columns of a line behind the first `at`, with blanks in front of them.
@@ -14,19 +13,14 @@ fn right_adjusted(line: &[u8], at: usize, w: usize) -> [u8; 11]
     ensures { result ≡ blanks (11 - w) ++ columns_at at w line.now }
 {
     let front = 11 - w;
+    let past = at + w;
     let mut f = [b' '; 11];
-    let mut i = 0;
-    while i < w {
-        let to = front + i;
-        let from = at + i;
-        f[to] = line[from];
-        i += 1;
-    }
+    f[front..].copy_from_slice(&line[at..past]);
     f
 }
 
 // The whole number in `w` columns of a line behind the first `at`.
-pub fn integer_at(line: &[u8], at: usize, w: usize) -> Count
+pub fn integer_at(line: &[u8], at: usize, w: usize) -> Option<u64>
     requires w_bound { w ≤ 11 }
     requires w_in_bounds { at + w ≤ length line.now }
     ensures { result ≡ integer_of w (columns_at at w line.now) }

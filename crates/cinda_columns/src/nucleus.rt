@@ -12,8 +12,7 @@ pub fn is_many(line: &[u8]) -> bool
     requires { WholeLine line.now }
     ensures { result ≡ is_many line.now }
 {
-    let many = [b'M', b'N', b'Y'];
-    equal_to(&line[4..7], &many, 3)
+    equal_to(&line[4..7], b"MNY", 3)
 }
 
 // Whether columns 2 to 4 are 999.
@@ -21,6 +20,5 @@ pub fn is_nines(line: &[u8]) -> bool
     requires { WholeLine line.now }
     ensures { result ≡ equal_to 3 (columns_in line.now 2 3) (text "999") }
 {
-    let nines = [b'9', b'9', b'9'];
-    equal_to(&line[1..4], &nines, 3)
+    equal_to(&line[1..4], b"999", 3)
 }

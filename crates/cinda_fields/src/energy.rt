@@ -1,13 +1,12 @@
 // Refusal 76, energy. The rule gives the leftmost column at fault, 0 where there is none.
 ghost use Rattle.std.specs.Prelude.{◌≡◌, true, ◌+◌, ◌≤◌, length};
-ghost use Rattle.paper_number.specs.Form.{Tables};
 ghost use Rattle.paper_record.specs.Columns.{columns_at};
 ghost use Rattle.paper_record.specs.Numbers.{form_at, no_value};
 ghost use Rattle.paper_faults.specs.Fault.{leftmost};
 ghost use Rattle.paper_cinda.specs.Layout.{WholeLine};
 ghost use Rattle.paper_cinda.specs.Rules.{rule76};
 
-use number::form::form_of_columns;
+use number::form::NumberTables;
 use paper_number::types::Form;
 
 fn is_malformed(form: Form) -> bool
@@ -21,26 +20,24 @@ fn is_malformed(form: Form) -> bool
 }
 
 // Whether seven columns behind the first `at` are neither a number nor blank.
-fn is_bad_energy(kinds: &[u8; 256], nexts: &[u8; 88], line: &[u8], at: usize) -> bool
-    requires tables { Tables kinds.now nexts.now }
-    requires at_in_bounds { at + 7 ≤ length line.now }
+fn is_bad_energy(numbers: &NumberTables, line: &[u8], at: usize) -> bool
+    requires { at + 7 ≤ length line.now }
     ensures { result ≡ no_value true (form_at (columns_at at 7 line.now)) }
 {
     let past = at + 7;
-    let form = form_of_columns(kinds, nexts, &line[at..past]);
+    let form = numbers.form_of_columns(&line[at..past]);
     is_malformed(form)
 }
 
 // Energy.
-pub fn rule76(kinds: &[u8; 256], nexts: &[u8; 88], line: &[u8]) -> u8
-    requires tables { Tables kinds.now nexts.now }
-    requires whole_line { WholeLine line.now }
+pub fn rule76(numbers: &NumberTables, line: &[u8]) -> u8
+    requires { WholeLine line.now }
     ensures { result ≡ leftmost (rule76 line.now) }
 {
-    if is_bad_energy(kinds, nexts, line, 41) {
+    if is_bad_energy(numbers, line, 41) {
         return 42;
     }
-    if is_bad_energy(kinds, nexts, line, 48) {
+    if is_bad_energy(numbers, line, 48) {
         return 49;
     }
     0

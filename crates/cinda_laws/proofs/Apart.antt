@@ -18,7 +18,6 @@ use Rattle.paper_number.specs.Digits.{digit_count, field_read}
 use Rattle.paper_number.proofs.Laws.{value_found, reads-exactly, says_exactly, says-once}
 use Rattle.paper_number.proofs.DigitLaws as D
 use Rattle.paper_record.specs.Text.{text}
-use Rattle.paper_record.specs.declared.types.Count.TheVariants as C
 use Rattle.paper_record.specs.System.{number_of, number_in}
 use Rattle.paper_record.specs.Plain.{DigitsSay, CountSays}
 use Rattle.paper_record.proofs.PlainColumns.{all_there, taken-exactly}

@@ -12,8 +12,7 @@ use borrow.Author.Tests.{eqb-true, eq-eqb, le-leb}
 use Rattle.laws.specs.Search.{first}
 use Rattle.laws.proofs.Booleans.{differ, and_left, and_right, and_both, or-first, or-second, or-either}
 use Rattle.laws.proofs.Search.{either, first-pass, pass-first}
-use Rattle.paper_record.specs.declared.types.Count.{Count}
-use Rattle.paper_record.specs.declared.types.Count.TheVariants.{Number, Bad}
+use Rattle.std.proofs.Common.{Option, Some, None}
 use Rattle.paper_record.specs.Text.{text, within, is_blank, is_digit, is_capital}
 use Rattle.paper_record.specs.Word.{equal_to}
 use Rattle.paper_record.specs.Same.{SameColumns}
@@ -51,9 +50,9 @@ operation-exactly b = (operation-said b, said-operation b)
 
 -- ---- integers
 
-integer-said : (l : List ℕ) (k w : ℕ) (x : Count) → integer_of w (in_columns l k w) ≡ x → is_count x ≡ true → IntegerAt l k w
-integer-said l k w (Number m) e t = (m, (count-exactly w (in_columns l k w) m).0 e)
-integer-said l k w Bad e t = differ (sym t)
+integer-said : (l : List ℕ) (k w : ℕ) (x : Option ℕ) → integer_of w (in_columns l k w) ≡ x → is_count x ≡ true → IntegerAt l k w
+integer-said l k w (Some m) e t = (m, (count-exactly w (in_columns l k w) m).0 e)
+integer-said l k w None e t = differ (sym t)
 
 pub integer-exactly : IntegerExactly
 integer-exactly l k w = (

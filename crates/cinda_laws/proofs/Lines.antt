@@ -1,5 +1,6 @@
 -- What is answered of lines is the first in the order, and nothing else is.
 -- Assumes nothing.
+use Rattle.std.specs.Prelude.{Ok, Err}
 use Prim.Native.Nat.{ℕ, zero, suc, ◌+◌, ◌/◌, ◌%◌, ◌<◌}
 use mathlib.Core.Path.{◌≡◌, refl, sym, subst, ◌∙◌}
 use mathlib.Core.Bool.{Bool, true, false, cond}
@@ -13,9 +14,7 @@ use Rattle.laws.specs.Walk.{walk}
 use Rattle.laws.specs.Blocks.{blocks}
 use Rattle.laws.proofs.Blocks.{run-walk}
 use Rattle.laws.proofs.Booleans.{differ}
-use Rattle.paper_faults.specs.declared.types.Fault.{Fault}
-use Rattle.paper_faults.specs.declared.types.Fault.TheVariants.{Fine, At}
-use Rattle.paper_faults.specs.Fault.{Finding}
+use Rattle.paper_faults.specs.Fault.{Finding, Checked}
 use Rattle.paper_faults.specs.Least.{Least, Nothing}
 use Rattle.paper_faults.specs.First.{NoneBefore, Foremost}
 use Rattle.paper_faults.proofs.Least as L
@@ -111,16 +110,16 @@ module _ (s : List ℕ) (whole : WholeLines s) where
   unfolding run line_turn line_fault
   one_more m i l h next = by-fault (line_fault (the_line s i)) refl
     where
-      by-fault : (x : Fault) → line_fault (the_line s i) ≡ x
+      by-fault : (x : Checked) → line_fault (the_line s i) ≡ x
           → LinesSaid s (after (on_fault i x) (λ u. run turn_at all_passed u (i + 1) m))
-      by-fault Fine e =
+      by-fault (Ok u) e =
           next (nothing-next (found_on s) i h (first-nothing (found_on s i) (findings-rise (the_line s i)) e))
-      by-fault (At n k) e =
-          foremost-said i n k
+      by-fault (Err fault) e =
+          foremost-said i fault.number fault.column
           (record {
             there = l;
             earlier = h;
-            least = L.first-least 70 (found_on s i) (findings-rise (the_line s i)) n k e;
+            least = L.first-least 70 (found_on s i) (findings-rise (the_line s i)) fault.number fault.column e;
           })
 
   first-from : (m i : ℕ) → i + m ≡ lines_count s → NoneBefore (found_on s) i

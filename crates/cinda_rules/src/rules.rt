@@ -1,11 +1,10 @@
 // Refusals 71 to 73: line end, character, operation. Each rule gives the leftmost column at fault, 0 where there is none.
 ghost use Rattle.std.specs.Prelude.{◌≡◌};
-ghost use Rattle.paper_record.specs.Class.{ClassesLent};
 ghost use Rattle.paper_faults.specs.Fault.{leftmost};
 ghost use Rattle.paper_cinda.specs.Layout.{WholeLine};
 ghost use Rattle.paper_cinda.specs.Rules.{rule71, rule72, is_operation, rule73};
 
-use classes::class::permitted_in;
+use classes::class::Classes;
 
 // Line end.
 pub(crate) fn rule71(line: &[u8]) -> u8
@@ -19,12 +18,11 @@ pub(crate) fn rule71(line: &[u8]) -> u8
 }
 
 // Character.
-pub(crate) fn rule72(classes: &[u8; 256], line: &[u8]) -> u8
-    requires classes_lent { ClassesLent classes.now }
-    requires whole_line { WholeLine line.now }
+pub(crate) fn rule72(classes: &Classes, line: &[u8]) -> u8
+    requires { WholeLine line.now }
     ensures { result ≡ leftmost (rule72 line.now) }
 {
-    let n = permitted_in(classes, line, 125);
+    let n = classes.permitted_in(line, 125);
     if n < 125 {
         let column = (n + 1) as u8;
         return column;

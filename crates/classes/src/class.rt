@@ -1,6 +1,6 @@
 // The class of each byte, and the first column that is not permitted.
 ghost use Rattle.std.specs.Prelude.{◌≡◌, ◌≤◌, length};
-ghost use Rattle.paper_record.specs.Class.{class_of, class_table, ClassesLent, permitted_in, permitted_to};
+ghost use Rattle.paper_record.specs.Class.{class_of, class_table, permitted_in, permitted_to};
 ghost use Rattle.paper_record.specs.Columns.{Whole};
 
 // 0 not permitted, 1 blank, 2 digit, 3 capital, 4 small, 5 special; beside each the byte.
@@ -263,42 +263,45 @@ const CLASSES: [u8; 256] = [
     0, // 255
 ];
 
-// The table of classes. It is written out at each use, so a caller takes it once and lends it.
-pub fn classes() -> [u8; 256]
-    ensures { result ≡ class_table }
-{
-    CLASSES
+// The table of classes. It is written out where it is made, so a caller makes it once and lends it.
+#[derive(Drop)]
+pub struct Classes {
+    table: [u8; 256],
+    ghost same: { table ≡ class_table },
 }
 
-// The class of a byte.
-pub fn class_of(t: &[u8; 256], b: u8) -> u8
-    requires { ClassesLent t.now }
-    ensures { result ≡ class_of b }
-{
-    t[b as usize]
-}
-
-// How many of the first `w` columns of a part stand before the first that is not permitted, or `w`.
-pub fn permitted_in(t: &[u8; 256], part: &[u8], w: usize) -> usize
-    requires classes_lent { ClassesLent t.now }
-    requires w_in_bounds { w ≤ length part.now }
-    ensures { result ≡ permitted_in w part.now }
-{
-    let mut i = 0;
-    while i < w {
-        if class_of(t, part[i]) == 0 {
-            return i;
-        }
-        i += 1;
+impl Classes {
+    pub fn new() -> Self
+        ensures { result.table ≡ class_table }
+    {
+        Classes { table: CLASSES }
     }
-    w
-}
 
-// How many columns of a record stand before the first that is not permitted, or 80.
-pub fn permitted_to(t: &[u8; 256], rec: &[u8]) -> usize
-    requires classes_lent { ClassesLent t.now }
-    requires whole { Whole rec.now }
-    ensures { result ≡ permitted_to rec.now }
-{
-    permitted_in(t, rec, 80)
+    // The class of a byte.
+    pub fn class_of(&self, b: u8) -> u8
+        ensures { result ≡ class_of b }
+    {
+        self.table[b as usize]
+    }
+
+    // How many of the first `w` columns of a part stand before the first that is not permitted, or `w`.
+    pub fn permitted_in(&self, part: &[u8], w: usize) -> usize
+        requires { w ≤ length part.now }
+        ensures { result ≡ permitted_in w part.now }
+    {
+        for (i, &b) in part[..w].iter().enumerate() {
+            if self.class_of(b) == 0 {
+                return i;
+            }
+        }
+        w
+    }
+
+    // How many columns of a record stand before the first that is not permitted, or 80.
+    pub fn permitted_to(&self, rec: &[u8]) -> usize
+        requires { Whole rec.now }
+        ensures { result ≡ permitted_to rec.now }
+    {
+        self.permitted_in(rec, 80)
+    }
 }

@@ -7,5 +7,5 @@ pub fn has_line_feed(rec: &[u8]) -> bool
     requires { Whole rec.now }
     ensures { result ≡ has_line_feed rec.now }
 {
-    rec[80] == 10
+    rec[80] == b'\n'
 }

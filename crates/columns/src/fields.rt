@@ -1,26 +1,24 @@
 // Columns 1 to 66 of a record as six fields of eleven columns.
-ghost use Rattle.std.specs.Prelude.{◌≡◌, ℕ};
+ghost use Rattle.std.specs.Prelude.{◌≡◌, ◌+◌, ◌≤◌, length};
 ghost use Rattle.paper_record.specs.Columns.{Whole, columns_at};
 ghost use Rattle.paper_record.specs.Fields.{fields_of, Holds};
+
+// The `N` columns of a part from `at` on.
+pub fn columns_at<const N: usize>(part: &[u8], at: usize) -> [u8; N]
+    requires { at + N ≤ length part.now }
+    ensures { result ≡ columns_at at N part.now }
+{
+    let mut columns = [0; N];
+    columns.copy_from_slice(&part[at..at + N]);
+    columns
+}
 
 // The eleven columns of a part from `at` on.
 pub fn field(part: &[u8], at: usize) -> [u8; 11]
     requires { Holds part.now at }
     ensures { result ≡ columns_at at 11 part.now }
 {
-    [
-        part[at],
-        part[at + 1],
-        part[at + 2],
-        part[at + 3],
-        part[at + 4],
-        part[at + 5],
-        part[at + 6],
-        part[at + 7],
-        part[at + 8],
-        part[at + 9],
-        part[at + 10],
-    ]
+    columns_at(part, at)
 }
 
 // The six fields of a record.
@@ -28,11 +26,12 @@ pub fn fields(rec: &[u8]) -> [[u8; 11]; 6]
     requires { Whole rec.now }
     ensures { result ≡ fields_of rec.now }
 {
-    let a = field(rec, 0);
-    let b = field(rec, 11);
-    let c = field(rec, 22);
-    let d = field(rec, 33);
-    let e = field(rec, 44);
-    let f = field(rec, 55);
-    [a, b, c, d, e, f]
+    [
+        field(rec, 0),
+        field(rec, 11),
+        field(rec, 22),
+        field(rec, 33),
+        field(rec, 44),
+        field(rec, 55),
+    ]
 }

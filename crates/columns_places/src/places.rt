@@ -10,25 +10,21 @@ pub fn record_of(i: Index) -> RecordNo
     requires { Counted i }
     ensures { result ≡ record_of i }
 {
-    let number = i.0 + 1;
-    RecordNo(number)
+    RecordNo(i.0 + 1)
 }
 
 // The first byte of that record.
 pub fn offset_of(i: Index) -> usize
     ensures { result ≡ offset_of i }
 {
-    let before = i.0 as usize;
-    before * 81
+    i.0 as usize * 81
 }
 
 // How many records hold one row of a table.
 pub fn records_for(columns: u32) -> u32
     ensures { result ≡ records_for columns }
 {
-    let wide = columns as u64;
-    let k = (wide + 5) / 6;
-    k as u32
+    columns.div_ceil(6)
 }
 
 // The record and the field of a column in a line of the table that a system record opens.
@@ -36,12 +32,12 @@ pub fn place_of(section: RecordNo, columns: u32, line: LineNo, column: u32) -> P
     requires { InTable section columns line column }
     ensures { result ≡ place_of section columns line column }
 {
-    let k = records_for(columns) as u64;
-    let above = line.0 as u64 - 1;
+    let k = u64::from(records_for(columns));
+    let above = u64::from(line.0) - 1;
     let left = column - 1;
-    let part = (left / 6) as u64 + 1;
+    let part = u64::from(left / 6) + 1;
     let lines = above * k + part;
-    let number = section.0 as u64 + (2 * k + lines);
+    let number = u64::from(section.0) + (2 * k + lines);
     let at = RecordNo(number as u32);
     let field = left % 6;
     Place { at, field }

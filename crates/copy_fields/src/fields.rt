@@ -12,7 +12,7 @@ pub fn put_field(out: &mut [u8], at: usize, number: bool, f: [u8; 11])
 {
     if number {
         put_canonical(out, at, &f);
-        return;
+    } else {
+        put_plain(out, at, &f);
     }
-    put_plain(out, at, &f);
 }

@@ -12,13 +12,7 @@ use rules_state::state::used;
 fn is_value_field(t: Track, role: usize, k: usize) -> bool
     ensures { result ≡ value_field t role k }
 {
-    if role == COMMON_VALUE {
-        return k < used(t);
-    }
-    if role == DATA_VALUE {
-        return k < used(t);
-    }
-    false
+    (role == COMMON_VALUE || role == DATA_VALUE) && k < used(t)
 }
 
 // Whether it is a number field: none under FLAG or DECAY-FLAG is one.
@@ -26,8 +20,5 @@ pub fn is_number_field(t: Track, table: &[u8], role: usize, k: usize) -> bool
     requires { WholeRecords table.now × (k < 6) }
     ensures { result ≡ number_in table.now t role k }
 {
-    if !is_value_field(t, role, k) {
-        return false;
-    }
-    !is_flag_column(t, table, k)
+    is_value_field(t, role, k) && !is_flag_column(t, table, k)
 }

@@ -20,14 +20,12 @@ fn copy_fields<'a>(out: &mut [u8], at: usize, t: Track, table: &'a [u8], role: u
         ≡ paste out.old at
         (replaced copy_field (mask (number_in table.now t role) 0 6) rec.now) 66 }
 {
-    let mut k = 0;
-    while k < 6 {
+    for k in 0..6 {
         let column = k * 11;
         let f = field(rec, column);
         let place = at + column;
         let number = is_number_field(t, table, role, k);
         put_field(out, place, number, f);
-        k += 1;
     }
 }
 
@@ -36,13 +34,7 @@ pub fn copy_columns(out: &mut [u8], at: usize, rec: &[u8], from: usize, n: usize
     requires { (at + n ≤ length out.old) × (from + n ≤ length rec.now) }
     ensures { out.new ≡ paste out.old at (drop from rec.now) n }
 {
-    let mut i = 0;
-    while i < n {
-        let column = from + i;
-        let to = at + i;
-        out[to] = rec[column];
-        i += 1;
-    }
+    out[at..at + n].copy_from_slice(&rec[from..from + n]);
 }
 
 // A record with its role, in its place. Only a value record has number fields.

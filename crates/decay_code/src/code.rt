@@ -7,7 +7,7 @@ ghost use Rattle.paper_codes.specs.Asked.{code_in, stored_in};
 use crate::opening::opening;
 use decay_records::records::scan_records;
 use decay_run::records::put_records;
-use number::form::{kinds, nexts};
+use number::form::NumberTables;
 use paper_codes::types::CodeIn;
 use paper_decay::types::Coded;
 
@@ -18,9 +18,8 @@ fn coded_from(passage: &[u8], first: usize) -> Coded
 {
     let n = passage.len() / 81;
     if first < n {
-        let kinds = kinds();
-        let nexts = nexts();
-        return scan_records(&kinds, &nexts, passage, first, n);
+        let numbers = NumberTables::new();
+        return scan_records(&numbers, passage, first, n);
     }
     Coded {
         number: 36,

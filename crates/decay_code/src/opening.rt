@@ -7,10 +7,7 @@ fn left_behind(left: u32, b: u8) -> u32
     requires { 1 ≤ left }
     ensures { result ≡ cond (eqb b 40) (left - 1) left }
 {
-    if b == b'(' {
-        return left - 1;
-    }
-    left
+    if b == b'(' { left - 1 } else { left }
 }
 
 // The index of the record; how many records there are where no record opens code j.
@@ -22,8 +19,7 @@ pub fn opening(passage: &[u8], j: u32) -> usize
         return n;
     }
     let mut left = j;
-    let mut i = 0;
-    while i < n {
+    for i in 0..n {
         let at = i * 81 + 11;
         let b = passage[at];
         let behind = left_behind(left, b);
@@ -31,7 +27,6 @@ pub fn opening(passage: &[u8], j: u32) -> usize
             return i;
         }
         left = behind;
-        i += 1;
     }
     n
 }

@@ -4,7 +4,7 @@ ghost use Rattle.paper_decay_fields.specs.Asked.{read, is_code, goes_to, has_gro
 
 use decay_parts::places::groups_in;
 use decay_scan::scan::scan_text;
-use number::form::{kinds, nexts};
+use number::form::NumberTables;
 use paper_decay::types::{Scan, Stop};
 use record_words::word::is_within;
 
@@ -12,8 +12,7 @@ use record_words::word::is_within;
 fn read_run(run: &[u8]) -> Stop
     ensures { (result ≡ read run.now) × (result.at ≤ length run.now) }
 {
-    let kinds = kinds();
-    let nexts = nexts();
+    let numbers = NumberTables::new();
     let start = Scan {
         place: 0,
         inner: 0,
@@ -21,7 +20,7 @@ fn read_run(run: &[u8]) -> Stop
         again: false,
         filled: false,
     };
-    scan_text(&kinds, &nexts, start, run)
+    scan_text(&numbers, start, run)
 }
 
 // Whether they close at the last of them.

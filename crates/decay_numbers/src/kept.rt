@@ -8,15 +8,12 @@ pub fn put_kept(out: &mut [u8], at: usize, text: &[u8]) -> usize
     ensures out_after { out.new ≡ overlay out.old at text.now }
     ensures value { result ≡ at + length text.now }
 {
-    let n = text.len();
     let room = out.len();
-    let mut i = 0;
-    while i < n {
+    for (i, b) in text.iter().enumerate() {
         let to = at + i;
         if to < room {
-            out[to] = text[i];
+            out[to] = *b;
         }
-        i += 1;
     }
-    at + n
+    at + text.len()
 }

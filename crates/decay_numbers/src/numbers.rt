@@ -19,7 +19,7 @@ fn canonical_field(v: Decimal) -> [u8; 11]
     ensures { result ≡ canonical_field 11 (value_of v.negative v.coefficient v.power) }
 {
     let mut field = [b' '; 11];
-    write_columns(v.negative, v.coefficient, v.power, &mut field);
+    let _ = write_columns(v.negative, v.coefficient, v.power, &mut field);
     field
 }
 

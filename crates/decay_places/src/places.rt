@@ -1,11 +1,11 @@
 // One character of a place behind the nuclide: half-life, types, energies, abundance.
 ghost use Rattle.std.specs.Prelude.{◌≡◌};
-ghost use Rattle.paper_number.specs.Form.{Tables};
 ghost use Rattle.paper_decay.specs.Scan.{standing, nowhere, half, unit_step, mark_step, behind_number, half_number_step};
 ghost use Rattle.paper_decay.specs.Scan.{half_step, type_step, numbers_step, place_step, field_step, is_empty};
 
 use decay_states::numbers::{number_more, number_next, number_whole};
 use decay_states::states::{is_capital, is_type, nowhere, standing, to_if};
+use number::form::NumberTables;
 use paper_decay::types::Scan;
 
 fn half(inner: u8, count: u8) -> Scan
@@ -26,14 +26,13 @@ fn in_unit(count: u8, b: u8) -> Scan
     nowhere()
 }
 
-fn in_mark(kinds: &[u8; 256], nexts: &[u8; 88], count: u8, b: u8) -> Scan
-    requires { Tables kinds.now nexts.now }
+fn in_mark(numbers: &NumberTables, count: u8, b: u8) -> Scan
     ensures { result ≡ mark_step count b }
 {
     if is_capital(b) {
         return half(12, 2);
     }
-    let n = number_next(kinds, nexts, 6, count, b);
+    let n = number_next(numbers, 6, count, b);
     number_more(1, n, count, false, false)
 }
 
@@ -50,28 +49,26 @@ fn behind_number(next: u8, count: u8, b: u8) -> Scan
     number_more(1, next, count, false, false)
 }
 
-fn in_half_number(kinds: &[u8; 256], nexts: &[u8; 88], inner: u8, count: u8, b: u8) -> Scan
-    requires { Tables kinds.now nexts.now }
+fn in_half_number(numbers: &NumberTables, inner: u8, count: u8, b: u8) -> Scan
     ensures { result ≡ half_number_step inner count b }
 {
-    let n = number_next(kinds, nexts, inner, count, b);
+    let n = number_next(numbers, inner, count, b);
     if number_whole(inner) {
         return behind_number(n, count, b);
     }
     number_more(1, n, count, false, false)
 }
 
-fn in_half(kinds: &[u8; 256], nexts: &[u8; 88], inner: u8, count: u8, b: u8) -> Scan
-    requires { Tables kinds.now nexts.now }
+fn in_half(numbers: &NumberTables, inner: u8, count: u8, b: u8) -> Scan
     ensures { result ≡ half_step inner count b }
 {
     if inner == 12 {
         return in_unit(count, b);
     }
     if inner == 11 {
-        return in_mark(kinds, nexts, count, b);
+        return in_mark(numbers, count, b);
     }
-    in_half_number(kinds, nexts, inner, count, b)
+    in_half_number(numbers, inner, count, b)
 }
 
 fn in_types(inner: u8, again: bool, filled: bool, b: u8) -> Scan
@@ -86,8 +83,7 @@ fn in_types(inner: u8, again: bool, filled: bool, b: u8) -> Scan
     nowhere()
 }
 
-fn in_numbers(kinds: &[u8; 256], nexts: &[u8; 88], s: Scan, b: u8) -> Scan
-    requires { Tables kinds.now nexts.now }
+fn in_numbers(numbers: &NumberTables, s: Scan, b: u8) -> Scan
     ensures { result ≡ numbers_step s b }
 {
     let place = s.place;
@@ -101,7 +97,7 @@ fn in_numbers(kinds: &[u8; 256], nexts: &[u8; 88], s: Scan, b: u8) -> Scan
         }
         return nowhere();
     }
-    let n = number_next(kinds, nexts, inner, count, b);
+    let n = number_next(numbers, inner, count, b);
     number_more(place, n, count, again, filled)
 }
 
@@ -118,27 +114,25 @@ pub fn is_empty(s: Scan) -> bool
     false
 }
 
-fn in_place(kinds: &[u8; 256], nexts: &[u8; 88], s: Scan, b: u8) -> Scan
-    requires { Tables kinds.now nexts.now }
+fn in_place(numbers: &NumberTables, s: Scan, b: u8) -> Scan
     ensures { result ≡ place_step s b }
 {
     let place = s.place;
     if place == 1 {
-        return in_half(kinds, nexts, s.inner, s.count, b);
+        return in_half(numbers, s.inner, s.count, b);
     }
     if place == 2 {
         return in_types(s.inner, s.again, s.filled, b);
     }
-    in_numbers(kinds, nexts, s, b)
+    in_numbers(numbers, s, b)
 }
 
 // A blank stays where a field begins.
-pub fn in_field(kinds: &[u8; 256], nexts: &[u8; 88], s: Scan, b: u8) -> Scan
-    requires { Tables kinds.now nexts.now }
+pub fn in_field(numbers: &NumberTables, s: Scan, b: u8) -> Scan
     ensures { result ≡ field_step s b }
 {
     if b == b' ' {
         return to_if(is_empty(s), s);
     }
-    in_place(kinds, nexts, s, b)
+    in_place(numbers, s, b)
 }

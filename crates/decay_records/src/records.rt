@@ -1,10 +1,10 @@
 // A code in the records of its passage: it breaks only after a comma and goes on in column 12.
 ghost use Rattle.std.specs.Prelude.{◌≡◌, ℕ, ◌+◌, ◌*◌, ◌≤◌, ◌<◌, length};
-ghost use Rattle.paper_number.specs.Form.{Tables};
 ghost use Rattle.paper_decay.specs.Scan.{fresh};
 ghost use Rattle.paper_decay.specs.Records.{filled_to, said, turned_out, turned_on, behind_text, turned_of, scan_records, Records};
 
 use decay_scan::scan::scan_text;
+use number::form::NumberTables;
 use paper_decay::types::{Coded, Scan, Stop, Turned};
 
 // How many columns there are up to the last that is filled.
@@ -13,13 +13,11 @@ pub fn filled_to(text: &[u8]) -> usize
     ensures upper_bound { result ≤ length text.now }
 {
     let n = text.len();
-    let mut i = 0;
-    while i < n {
+    for i in 0..n {
         let at = n - 1 - i;
         if text[at] != b' ' {
             return n - i;
         }
-        i += 1;
     }
     0
 }
@@ -79,28 +77,22 @@ fn behind_text(stop: Stop, at: usize, filled: usize, last: u8) -> Turned
 }
 
 // The text of one record, columns 12 to 66.
-fn turned_at(kinds: &[u8; 256], nexts: &[u8; 88], s: Scan, text: &[u8], at: usize) -> Turned
-    requires { Tables kinds.now nexts.now × (length text.now ≤ 55) }
+fn turned_at(numbers: &NumberTables, s: Scan, text: &[u8], at: usize) -> Turned
+    requires { length text.now ≤ 55 }
     ensures { result ≡ turned_of s text.now at }
 {
     let filled = filled_to(text);
     if filled == 0 {
         return turned_out(said(50, at, 12));
     }
-    let stop = scan_text(kinds, nexts, s, &text[0..filled]);
+    let stop = scan_text(numbers, s, &text[0..filled]);
     let last = text[filled - 1];
     behind_text(stop, at, filled, last)
 }
 
 // The code that the record with the index `first` opens, in the records up to `past`.
-pub fn scan_records(
-    kinds: &[u8; 256],
-    nexts: &[u8; 88],
-    entry: &[u8],
-    first: usize,
-    past: usize,
-) -> Coded
-    requires { Tables kinds.now nexts.now × Records entry.now first past }
+pub fn scan_records(numbers: &NumberTables, entry: &[u8], first: usize, past: usize) -> Coded
+    requires { Records entry.now first past }
     ensures { result ≡ scan_records entry.now first past }
 {
     let mut s = Scan {
@@ -110,17 +102,15 @@ pub fn scan_records(
         again: false,
         filled: false,
     };
-    let mut i = first;
-    while i < past {
+    for i in first..past {
         let from = i * 81 + 11;
         let to = from + 55;
-        let t = turned_at(kinds, nexts, s, &entry[from..to], i);
+        let t = turned_at(numbers, s, &entry[from..to], i);
         let going = t.going;
         if !going {
             return t.coded;
         }
         s = t.scan;
-        i += 1;
     }
     said(50, past, 0)
 }

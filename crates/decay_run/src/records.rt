@@ -30,14 +30,12 @@ pub fn put_records(out: &mut [u8], entry: &[u8], first: usize, last: usize, colu
 {
     let mut to = 0;
     let mut place = 0;
-    let mut i = first;
-    while i < last {
+    for i in first..last {
         let from = i * 81 + 11;
         let past = from + 55;
         let put = put_filled(out, to, &entry[from..past], place);
         to = put.at;
         place = put.place;
-        i += 1;
     }
     let from = last * 81 + 11;
     let past = last * 81 + column;

@@ -1,9 +1,9 @@
 // The reading of a text, character by character.
 ghost use Rattle.std.specs.Prelude.{◌≡◌, ℕ, ◌≤◌, length};
-ghost use Rattle.paper_number.specs.Form.{Tables};
 ghost use Rattle.paper_decay.specs.Scan.{scan_text, stopped};
 
 use crate::step::step;
+use number::form::NumberTables;
 use paper_decay::types::{Scan, Stop};
 
 fn is_stopped(s: Scan) -> bool
@@ -13,20 +13,20 @@ fn is_stopped(s: Scan) -> bool
 }
 
 // From a state over a text, up to the character that closes the code or that no code can have there.
-pub fn scan_text(kinds: &[u8; 256], nexts: &[u8; 88], from: Scan, text: &[u8]) -> Stop
-    requires { Tables kinds.now nexts.now }
+pub fn scan_text(numbers: &NumberTables, from: Scan, text: &[u8]) -> Stop
     ensures value { result ≡ scan_text text.now from }
     ensures at_in_bounds { result.at ≤ length text.now }
 {
     let mut s = from;
-    let mut i = 0;
-    while i < text.len() {
-        let t = step(kinds, nexts, s, text[i]);
+    for (i, b) in text.iter().enumerate() {
+        let t = step(numbers, s, *b);
         if is_stopped(t) {
             return Stop { scan: t, at: i };
         }
         s = t;
-        i += 1;
     }
-    Stop { scan: s, at: i }
+    Stop {
+        scan: s,
+        at: text.len(),
+    }
 }

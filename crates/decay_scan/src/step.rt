@@ -1,6 +1,5 @@
 // One character of a code: the state before it, and behind it.
 ghost use Rattle.std.specs.Prelude.{◌≡◌};
-ghost use Rattle.paper_number.specs.Form.{Tables};
 ghost use Rattle.paper_decay.specs.Scan.{fresh, nowhere, head, inside_step, is_whole, is_flag_point, close_step, next_place};
 ghost use Rattle.paper_decay.specs.Scan.{comma_step, step_of};
 
@@ -8,10 +7,10 @@ use decay_nuclide::nuclide::{head, head_whole, in_head};
 use decay_places::places::{in_field, is_empty};
 use decay_states::numbers::number_whole;
 use decay_states::states::{fresh, nowhere, to_if};
+use number::form::NumberTables;
 use paper_decay::types::Scan;
 
-fn inside(kinds: &[u8; 256], nexts: &[u8; 88], s: Scan, b: u8) -> Scan
-    requires { Tables kinds.now nexts.now }
+fn inside(numbers: &NumberTables, s: Scan, b: u8) -> Scan
     ensures { result ≡ inside_step s b }
 {
     let place = s.place;
@@ -19,7 +18,7 @@ fn inside(kinds: &[u8; 256], nexts: &[u8; 88], s: Scan, b: u8) -> Scan
         return in_head(s.inner, s.count, b);
     }
     if place < 5 {
-        return in_field(kinds, nexts, s, b);
+        return in_field(numbers, s, b);
     }
     nowhere()
 }
@@ -103,8 +102,7 @@ fn comma(s: Scan) -> Scan
 }
 
 // The state behind one character more.
-pub fn step(kinds: &[u8; 256], nexts: &[u8; 88], s: Scan, b: u8) -> Scan
-    requires { Tables kinds.now nexts.now }
+pub fn step(numbers: &NumberTables, s: Scan, b: u8) -> Scan
     ensures { result ≡ step_of s b }
 {
     if b == b',' {
@@ -113,5 +111,5 @@ pub fn step(kinds: &[u8; 256], nexts: &[u8; 88], s: Scan, b: u8) -> Scan
     if b == b')' {
         return close(s);
     }
-    inside(kinds, nexts, s, b)
+    inside(numbers, s, b)
 }

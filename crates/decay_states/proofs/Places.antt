@@ -1,11 +1,10 @@
--- The tables of the number layer say where its reading goes.
+-- The number layer's places, by number.
 -- Assumes nothing.
-use mathlib.Core.Path.{◌≡◌, refl}
-use Prim.Native.Nat.{ℕ, zero, suc, ◌+◌, ◌*◌, ◌<◌}
+use mathlib.Core.Path.{◌≡◌, refl, sym}
+use Prim.Native.Nat.{ℕ, zero, suc, ◌<◌}
 use native.Mathlib.Omega.{arith}
-use lib.ListN.{get_or}
-use Rattle.paper_number.specs.Form.{place_number, place_at, kind_table, next_table}
-use Rattle.number.proofs.Tables.{next-right}
+use Rattle.paper_number.specs.Form.{place_number, place_at}
+use Rattle.paper_number.specs.Reading.{Scan, scan_step, column_of}
 use Rattle.paper_decay.specs.Scan.{next_of}
 
 pub place_at_lem : (n : ℕ) → n < 11 → place_number (place_at n) ≡ n
@@ -22,6 +21,9 @@ place_at_lem (suc (suc (suc (suc (suc (suc (suc (suc (suc zero))))))))) h = refl
 place_at_lem (suc (suc (suc (suc (suc (suc (suc (suc (suc (suc zero)))))))))) h = refl
 place_at_lem (suc (suc (suc (suc (suc (suc (suc (suc (suc (suc (suc n))))))))))) h = absurd (omega arith)
 
-pub next-table : (inner b : ℕ) → inner < 11 → b < 256 → get_or next_table (inner * 8 + get_or kind_table b 0) 0 ≡ next_of inner b
+-- what the number layer says of a place and a byte, at the place that has a number
+pub next-place : (inner b : ℕ) {next : ℕ} → inner < 11
+    → ((t : Scan) → inner ≡ place_number t → next ≡ place_number (scan_step t (column_of b)))
+    → next ≡ next_of inner b
 unfolding next_of
-next-table inner b h k = rw (place_at_lem inner h) at (next-right (place_at inner) b k)
+next-place inner b h said = said (place_at inner) (sym (place_at_lem inner h))

@@ -1,9 +1,9 @@
 // A number within a code, by the number layer's places: at most eleven characters, and no blank.
 ghost use Rattle.std.specs.Prelude.{◌≡◌, ◌≤◌};
-ghost use Rattle.paper_number.specs.Form.{Tables};
 ghost use Rattle.paper_decay.specs.Scan.{standing, nowhere, need_of, number_next, number_whole, number_more};
 
 use crate::states::{nowhere, standing};
+use number::form::NumberTables;
 use paper_decay::types::Scan;
 
 // How many characters a number needs at least from a place of its reading; twelve where it has none or a blank.
@@ -32,8 +32,7 @@ fn need_of(inner: u8) -> u8
 }
 
 // Where one character more leads, 10 where no number of at most eleven characters has it there.
-pub fn number_next(kinds: &[u8; 256], nexts: &[u8; 88], inner: u8, count: u8, b: u8) -> u8
-    requires { Tables kinds.now nexts.now }
+pub fn number_next(numbers: &NumberTables, inner: u8, count: u8, b: u8) -> u8
     ensures { result ≡ number_next inner count b }
 {
     if b == b' ' {
@@ -45,9 +44,7 @@ pub fn number_next(kinds: &[u8; 256], nexts: &[u8; 88], inner: u8, count: u8, b:
     if 10 < count {
         return 10;
     }
-    let k = kinds[b as usize];
-    let at = (inner as usize) * 8 + (k as usize);
-    let next = nexts[at];
+    let next = numbers.next_place(inner, b);
     let need = need_of(next);
     if 10 < count + need {
         return 10;

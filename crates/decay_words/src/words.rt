@@ -14,14 +14,12 @@ pub fn lead_of(text: &[u8]) -> usize
     ensures value { result ≡ lead_of text.now }
     ensures upper_bound { result ≤ length text.now }
 {
-    let mut i = 0;
-    while i < text.len() {
-        if text[i] != b' ' {
+    for (i, b) in text.iter().enumerate() {
+        if *b != b' ' {
             return i;
         }
-        i += 1;
     }
-    i
+    text.len()
 }
 
 fn is_capital(b: u8) -> bool
@@ -52,14 +50,12 @@ pub fn find_byte(text: &[u8], from: usize, c: u8) -> usize
     ensures value { result ≡ first (λ (i : ℕ). eqb (get_or text.now i 0) c) from (length text.now - from) }
     ensures lower_bound { (from ≤ result) × (result ≤ length text.now) }
 {
-    let mut i = from;
-    while i < text.len() {
+    for i in from..text.len() {
         if text[i] == c {
             return i;
         }
-        i += 1;
     }
-    i
+    text.len()
 }
 
 // The word k, counted from 0, of a text that is cut at a character.
@@ -69,8 +65,7 @@ pub fn word_at(text: &[u8], c: u8, k: usize) -> Part
 {
     let n = text.len();
     let mut start = 0;
-    let mut i = 0;
-    while i < k {
+    for _word in 0..k {
         let end = find_byte(text, start, c);
         if end == n {
             return Part {
@@ -79,7 +74,6 @@ pub fn word_at(text: &[u8], c: u8, k: usize) -> Part
             };
         }
         start = end + 1;
-        i += 1;
     }
     let past = find_byte(text, start, c);
     Part {
@@ -101,10 +95,8 @@ pub fn count_words(text: &[u8], c: u8) -> usize
     ensures { result ≡ length (cut_at c text.now) }
 {
     let mut count = 1;
-    let mut i = 0;
-    while i < text.len() {
-        count = one_more(count, text[i], c);
-        i += 1;
+    for b in text {
+        count = one_more(count, *b, c);
     }
     count
 }

@@ -14,11 +14,9 @@ use Rattle.paper_number.specs.declared.types.Reading.TheVariants.{Number}
 use Rattle.paper_number.specs.Value.{Normal, Value, value_of}
 use Rattle.paper_number.specs.Reading.{read_field}
 use Rattle.paper_number.proofs.Laws.{value_found, value-one, reads-exactly}
-use Rattle.paper_canonical.specs.declared.types.Written.{Written}
-use Rattle.paper_canonical.specs.declared.types.Written.TheVariants.{Refused}
 use Rattle.paper_canonical.specs.Canonical.{Best}
 use Rattle.paper_canonical.specs.Closed.{canonical_text}
-use Rattle.paper_canonical.specs.Writing.{written, bytes}
+use Rattle.paper_canonical.specs.Writing.{written, bytes, refusal_number}
 use Rattle.paper_canonical.proofs.Laws.{canonical-one, canonical-best, best-one, none_reads, written-fits, written-wide}
 use Rattle.paper_canonical.proofs.Laws.{written-short}
 use Rattle.demand2.specs.Writing.{NoneReads, Writes, its_field, no_field, no_room, WrittenSo, WrittenAlone}
@@ -30,10 +28,10 @@ module _ (v : Decimal) (l : List ℕ) where
   abbrev columns : ℕ
   columns = length (canonical_text v)
 
-  writes : Normal v → Writes v l (written l v) (bytes l v)
+  writes : Normal v → Writes v l (refusal_number (written l v)) (bytes l v)
   writes h = by_tests (eqb (length l) 11) (leb columns 11) refl refl
     where
-      by_tests : (t u : Bool) → eqb (length l) 11 ≡ t → leb columns 11 ≡ u → Writes v l (written l v) (bytes l v)
+      by_tests : (t u : Bool) → eqb (length l) 11 ≡ t → leb columns 11 ≡ u → Writes v l (refusal_number (written l v)) (bytes l v)
       by_tests true true e d =
           let w = eqb-true (length l) 11 e in
           let k = leb-true columns 11 d in
@@ -54,7 +52,7 @@ module _ (v : Decimal) (l : List ℕ) where
   read_back : (m : List ℕ) → Best 11 v m → read_field m ≡ Number v
   read_back m b = (reads-exactly m v).1 b.reads
 
-  one_way : {r q : Written} {m k : List ℕ} → Writes v l r m → Writes v l q k → (r ≡ q) × (m ≡ k)
+  one_way : {r q : ℕ} {m k : List ℕ} → Writes v l r m → Writes v l q k → (r ≡ q) × (m ≡ k)
   one_way (its_field x w b) (its_field y z c) = (refl, best-one 11 v x y b c)
   one_way (its_field x w b) (no_field z none) = absurd (none x b.wide (read_back x b))
   one_way (its_field x w b) (no_room z) = absurd (z w)
@@ -65,10 +63,10 @@ module _ (v : Decimal) (l : List ℕ) where
   one_way (no_room w) (no_field z none) = absurd (w z)
   one_way (no_room w) (no_room z) = (refl, refl)
 
-  refused_none : {r : Written} {m : List ℕ} → Writes v l r m → r ≡ Refused 41 → NoneReads v
-  refused_none (its_field x w b) e = let z : ◌≡◌ {A = ℕ} 0 1 = cc in absurd (omega arith)
+  refused_none : {r : ℕ} {m : List ℕ} → Writes v l r m → r ≡ 41 → NoneReads v
+  refused_none (its_field x w b) e = absurd (omega arith)
   refused_none (no_field w none) e = none
-  refused_none (no_room w) e = let z : ◌≡◌ {A = ℕ} 40 41 = cc in absurd (omega arith)
+  refused_none (no_room w) e = absurd (omega arith)
 
 -- ---- any sign, coefficient and power
 
@@ -76,8 +74,8 @@ module _ (negative : Bool) (a : ℕ) (p : ℤ) (v : Decimal) (h : Value negative
   same : v ≡ value_of negative a p
   same = value-one negative a p v (value_of negative a p) h (value_found negative a p)
 
-  so : (l : List ℕ) → Writes v l (written l (value_of negative a p)) (bytes l (value_of negative a p))
-  so l = subst (λ (u : Decimal). Writes v l (written l u) (bytes l u)) same (writes v l h.normal)
+  so : (l : List ℕ) → Writes v l (refusal_number (written l (value_of negative a p))) (bytes l (value_of negative a p))
+  so l = subst (λ (u : Decimal). Writes v l (refusal_number (written l u)) (bytes l u)) same (writes v l h.normal)
 
 pub written_so : WrittenSo
 written_so negative a p v h l = so negative a p v h l
@@ -92,5 +90,5 @@ one_wins w v l e r =
 pub refused_exactly : RefusedExactly
 refused_exactly negative a p v h l w = (
   refused_none v l (so negative a p v h l),
-  λ none. sym (written_alone negative a p v h l (Refused 41) l (no_field w none)).0,
+  λ none. sym (written_alone negative a p v h l 41 l (no_field w none)).0,
 )

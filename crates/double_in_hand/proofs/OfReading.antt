@@ -21,10 +21,11 @@ use Rattle.paper_number.proofs.Laws.{reads-exactly, eleven-read, others-refused}
 use Rattle.paper_record.specs.declared.types.LineNo.{LineNo}
 use Rattle.paper_questions.specs.declared.types.ValueAnswer.{ValueAnswer}
 use Rattle.paper_questions.specs.Ask.{value_asked}
-use Rattle.paper_walk.specs.declared.types.Given.TheVariants.{At, Done}
+use Rattle.std.specs.Prelude.{None}
 use Rattle.paper_walk.specs.declared.types.Step.{Step}
-use Rattle.paper_walk.specs.Walk.{start_of, stands, onward, field_next, step_of, given_at}
+use Rattle.paper_walk.specs.Walk.{start_of, stands, onward, field_next, step_of, given_at, at_place}
 use Rattle.paper_walk.specs.Claims.{value_there}
+use Rattle.paper_walk.proofs.Steps.{same_place}
 use Rattle.walk_laws.proofs.Walked.{walk-gives, walk-once}
 use Rattle.paper_double.specs.Double.{simple_of, doubled}
 use Rattle.paper_double_asking.specs.Ask.{double_asked, double_from_row, double_by_index}
@@ -84,25 +85,25 @@ unfolding step_of field_read
 hand-step s w line column field d = by-stands (stands w)
   where
     by-stands : (t : Bool)
-        → (cond {A = Step} t (record { walk = onward w; given = At w.line w.column (field_read (field_next s w)) })
-        (record { walk = w; given = Done })).given
-        ≡ At line column field
+        → (cond {A = Step} t (record { walk = onward w; given = at_place w.line w.column (field_read (field_next s w)) })
+        (record { walk = w; given = None })).given
+        ≡ at_place line column field
         → field.reading ≡ Number d → of_decimal d ≡ doubled field.reading
     by-stands true g e =
-        let q : field_read (field_next s w) ≡ field = cc in
+        let q : field_read (field_next s w) ≡ field = (same_place w.line line w.column column _ field g).1.1 in
         read_same (field_next s w) d field.reading (ap (λ (f : FieldRead). f.reading) q ∙ e) e
     by-stands false g e = let z : ◌≡◌ {A = ℕ} 0 1 = cc in absurd (omega arith)
 
 -- what a walk gives is what the value question says there
 pub walked-value : (s : List ℕ) (n section : ℕ) → (start_of s n section).answer.number ≡ 0
     → (i : ℕ) (line : LineNo) (column : ℕ) (field : FieldRead)
-    → given_at s (start_of s n section) i ≡ At line column field
+    → given_at s (start_of s n section) i ≡ at_place line column field
     → (value_asked s n section line column).value ≡ field.reading
 walked-value s n section made i line column field g =
     let (t, p) = walk-once s n section made i line column field g in
     let v = value_there s n section line column in
-    let h : At line column v ≡ At line column field = sym (rw (← t) at (walk-gives s n section made line column p)) ∙ g in
-    let same : v ≡ field = cc in
+    let h : at_place line column v ≡ at_place line column field = sym (rw (← t) at (walk-gives s n section made line column p)) ∙ g in
+    let same : v ≡ field = (same_place line line column column v field h).1.1 in
     ap (λ (f : FieldRead). f.reading) same
 
 pub hand-walked : HandWalked

@@ -13,8 +13,7 @@ use Rattle.paper_questions.specs.Ask.{value_asked}
 use Rattle.paper_index.specs.TableAnswers.{value_from_row}
 use Rattle.paper_index.specs.ByIndex.{value_by_index}
 use Rattle.paper_walk.specs.declared.types.Walk.{Walk}
-use Rattle.paper_walk.specs.declared.types.Given.TheVariants.{At}
-use Rattle.paper_walk.specs.Walk.{start_of, step_of, given_at}
+use Rattle.paper_walk.specs.Walk.{start_of, step_of, given_at, at_place}
 use Rattle.paper_double.specs.declared.types.Simple.{Simple}
 use Rattle.paper_double.specs.Double.{doubled}
 use Rattle.paper_double_asking.specs.Ask.{double_asked, double_from_row, double_by_index}
@@ -55,12 +54,12 @@ HandByIndex =
 abbrev pub HandStep : Type 0
 HandStep =
     (s : List ℕ) (w : Walk) (line : LineNo) (column : ℕ) (field : FieldRead) (d : Decimal)
-    → (step_of s w).given ≡ At line column field → field.reading ≡ Number d
+    → (step_of s w).given ≡ at_place line column field → field.reading ≡ Number d
     → of_decimal d ≡ doubled field.reading
 
 abbrev pub HandWalked : Type 0
 HandWalked =
     (s : List ℕ) (n section : ℕ) → (start_of s n section).answer.number ≡ 0
     → (i : ℕ) (line : LineNo) (column : ℕ) (field : FieldRead) (d : Decimal)
-    → given_at s (start_of s n section) i ≡ At line column field → field.reading ≡ Number d
+    → given_at s (start_of s n section) i ≡ at_place line column field → field.reading ≡ Number d
     → of_decimal d ≡ (double_asked s n section line column).value

@@ -9,8 +9,7 @@ use Rattle.paper_number.specs.Digits.{number_read}
 use Rattle.paper_record.specs.declared.types.LineNo.{LineNo}
 use Rattle.paper_questions.specs.Ask.{value_asked}
 use Rattle.paper_index.specs.ByIndex.{value_by_index}
-use Rattle.paper_walk.specs.declared.types.Given.TheVariants.{At}
-use Rattle.paper_walk.specs.Walk.{start_of, given_at}
+use Rattle.paper_walk.specs.Walk.{start_of, given_at, at_place}
 use Rattle.paper_double.specs.declared.types.Simple.{Simple}
 use Rattle.paper_double.specs.Double.{doubled}
 use Rattle.paper_double_asking.specs.Ask.{double_asked, double_by_index}
@@ -48,5 +47,5 @@ abbrev pub StoredWalked : Type 0
 StoredWalked =
     (s before : List ℕ) (n section : ℕ) → (start_of s n section).answer.number ≡ 0
     → (i : ℕ) (line : LineNo) (column : ℕ) (field : FieldRead) (d : Decimal)
-    → given_at s (start_of s n section) i ≡ At line column field → field.reading ≡ Number d
+    → given_at s (start_of s n section) i ≡ at_place line column field → field.reading ≡ Number d
     → of_numbers (given_stored before (given_at s (start_of s n section) i)) ≡ (double_asked s n section line column).value

@@ -3,8 +3,9 @@
 use mathlib.Core.Path.{◌≡◌, sym, ap, ◌∙◌}
 use Rattle.paper_number.specs.declared.types.FieldRead.{FieldRead}
 use Rattle.index_answers.proofs.Same.{same-value}
-use Rattle.paper_walk.specs.declared.types.Given.TheVariants.{At}
+use Rattle.paper_walk.specs.Walk.{at_place}
 use Rattle.paper_walk.specs.Claims.{value_there}
+use Rattle.paper_walk.proofs.Steps.{same_place}
 use Rattle.paper_walk.proofs.Started.{walk-places}
 use Rattle.walk_laws.proofs.Walked.{walk-gives, walk-once}
 use Rattle.paper_double.specs.Double.{doubled}
@@ -20,8 +21,8 @@ unfolding double_asked
 walk-doubles s n section e i line column field g =
     let (t, p) = walk-once s n section e i line column field g in
     let v = value_there s n section line column in
-    let h : At line column v ≡ At line column field = sym (rw (← t) at (walk-gives s n section e line column p)) ∙ g in
-    let same : field ≡ v = cc in
+    let h : at_place line column v ≡ at_place line column field = sym (rw (← t) at (walk-gives s n section e line column p)) ∙ g in
+    let same : field ≡ v = sym (same_place line line column column v field h).1.1 in
     record {
       answered = (walk-places s n section e line column).1 p;
       value = ap (λ (f : FieldRead). doubled f.reading) same;

@@ -4,8 +4,7 @@ use Rattle.paper_number.specs.declared.types.FieldRead.{FieldRead}
 use Rattle.paper_record.specs.declared.types.LineNo.{LineNo}
 use Rattle.paper_entry.specs.Judging.{Accepted}
 use Rattle.paper_index.specs.Rows.{index_of}
-use Rattle.paper_walk.specs.declared.types.Given.TheVariants.{At}
-use Rattle.paper_walk.specs.Walk.{start_of, given_at}
+use Rattle.paper_walk.specs.Walk.{start_of, given_at, at_place}
 use Rattle.paper_double_asking.specs.declared.types.DoubleAnswer.{DoubleAnswer}
 use Rattle.paper_double.specs.Double.{doubled}
 use Rattle.paper_double_asking.specs.Ask.{double_asked, double_by_index}
@@ -25,5 +24,5 @@ pub record WalkedDouble (field : FieldRead) (a : DoubleAnswer) : Type 0 where
 abbrev pub WalkDoubles : Type 0
 WalkDoubles =
     (s : List ℕ) (n section : ℕ) → (start_of s n section).answer.number ≡ 0
-    → (i : ℕ) (line : LineNo) (column : ℕ) (field : FieldRead) → given_at s (start_of s n section) i ≡ At line column field
+    → (i : ℕ) (line : LineNo) (column : ℕ) (field : FieldRead) → given_at s (start_of s n section) i ≡ at_place line column field
     → WalkedDouble field (double_asked s n section line column)

@@ -19,6 +19,7 @@ use rules_roles::roles::{TEXT, is_heading, is_system, is_unit, is_value, opens_s
 use rules_state::state::{counted, with_accession, with_table};
 
 // What is counted after a system record.
+#[tactic(auto, unfolding(paper_entry::specs::Counted::after_system))]
 fn after_system(t: Track, role: usize, fs: [[u8; 11]; 6], rec: &[u8]) -> Track
     requires bounded { Bounded t }
     requires whole { Whole rec.now }
@@ -27,49 +28,44 @@ fn after_system(t: Track, role: usize, fs: [[u8; 11]; 6], rec: &[u8]) -> Track
     let f = fs[1];
     let g = fs[2];
     if role == ENTRY {
-        return with_accession(t, accession(rec));
-    }
-    if opens_subentry(role) {
-        return open_subentry(t, subentry_of(f));
-    }
-    if role == BIB {
-        return open_bib(t, number_of(count_of(f)), number_of(count_of(g)));
-    }
-    if role == COMMON {
+        with_accession(t, accession(rec))
+    } else if opens_subentry(role) {
+        open_subentry(t, subentry_of(f))
+    } else if role == BIB {
+        open_bib(t, number_of(count_of(f)), number_of(count_of(g)))
+    } else if role == COMMON {
         let columns = count_to(MOST_COLUMNS as u32, f);
-        return open_table(t, columns, 1);
-    }
-    if role == DATA {
+        open_table(t, columns, 1)
+    } else if role == DATA {
         let columns = count_to(MOST_COLUMNS as u32, f);
         let last = count_to(MOST_LINES as u32, g);
-        return open_table(t, columns, last);
+        open_table(t, columns, last)
+    } else {
+        t
     }
-    t
 }
 
 // What is counted after a record inside a section.
+#[tactic(auto, unfolding(paper_entry::specs::Counted::after_inside))]
 fn after_inside(t: Track, role: usize, fs: [[u8; 11]; 6], numbers: u32) -> Track
     requires bounded { Bounded t }
     requires numbers_bound { numbers ≤ 6 }
     ensures { result ≡ after_inside t role fs numbers }
 {
-    let f = fs[0];
-    let x = t.table;
     if role == TEXT {
-        return text_read(t, f);
+        text_read(t, fs[0])
+    } else if is_heading(role) {
+        with_table(t, headings_read(t.table))
+    } else if is_unit(role) {
+        with_table(t, units_read(t.table))
+    } else if is_value(role) {
+        numbers_read(t, role, numbers)
+    } else {
+        t
     }
-    if is_heading(role) {
-        return with_table(t, headings_read(x));
-    }
-    if is_unit(role) {
-        return with_table(t, units_read(x));
-    }
-    if is_value(role) {
-        return numbers_read(t, role, numbers);
-    }
-    t
 }
 
+#[tactic(auto, unfolding(paper_entry::specs::Counted::track_after))]
 pub fn track_after(t: Track, role: usize, fs: [[u8; 11]; 6], values: Values, rec: &[u8]) -> Track
     requires bounded { Bounded t }
     requires records_bound { t.records.0 < MOST-RECORDS }
@@ -81,6 +77,5 @@ pub fn track_after(t: Track, role: usize, fs: [[u8; 11]; 6], values: Values, rec
     if is_system(role) {
         return after_system(u, role, fs, rec);
     }
-    let numbers = values.numbers;
-    after_inside(u, role, fs, numbers)
+    after_inside(u, role, fs, values.numbers)
 }

@@ -1,5 +1,7 @@
 -- The judge by ranges is the judge of the definitions: the two go over the same records, and keep that the numbers
 -- stand for the context. Assumes nothing.
+use Rattle.std.specs.Prelude.{Ok, Err}
+use Rattle.paper_faults.specs.Fault.{Checked}
 use Prim.Native.Nat.{ℕ, ◌+◌, ◌*◌, ◌/◌, ◌%◌, ◌<◌, ◌≤◌}
 use mathlib.Core.Path.{◌≡◌, refl, sym, ◌∙◌}
 use mathlib.Core.Bool.{Bool, true, false, cond, not, ◌&&◌}
@@ -16,8 +18,6 @@ use Rattle.laws.proofs.Agree.{Agree, runs-agree}
 use Rattle.laws.proofs.Blocks.{run-walk}
 use Rattle.paper_record.specs.Places.{record_of}
 use Rattle.paper_record.specs.Fields.{fields_of}
-use Rattle.paper_faults.specs.declared.types.Fault.{Fault}
-use Rattle.paper_faults.specs.declared.types.Fault.TheVariants.{Fine, At}
 use Rattle.paper_rules.specs.State.{Context, start_context}
 use Rattle.paper_rules.specs.Limits.{MOST-RECORDS}
 use Rattle.paper_rules.specs.Ranging.{Bounded, AllPlaced, seen_of}
@@ -73,12 +73,12 @@ module _ (s : List ℕ) (n : ℕ) (whole : length s ≡ n * 81) (few : n ≤ MOS
       → let b = take (i * 81) s in
       let r = block_at 81 s i in
       let role = role_of (context_of b j) r in
-      (x : Fault)
+      (x : Checked)
       → Agree (Standing (i + 1))
       (on_fault (record_of j.track.records) x (context_after (context_of b j) role (fields_of r) r))
-      (on_step (record_of j.track.records) (step_for x j (judge_after j role (fields_of r) r)))
-  turn i c j l k Fine = goes_on i j l c k
-  turn i c j l k (At number column) = refl
+      (on_step (record_of j.track.records) (step_for x (judge_after j role (fields_of r) r)))
+  turn i c j l k (Ok u) = goes_on i j l c k
+  turn i c j l k (Err fault) = refl
 
   pub turns : (i : ℕ) (c : Context) (j : Judge) → i < n → Standing i c j
       → Agree (Standing (i + 1)) (turn_of c i (block_at 81 s i)) (step_turn s j i)

@@ -1,16 +1,14 @@
 // One record of an entry that is judged already: its role and the next state, and no rule asked. Every way over an
 // accepted entry takes this step.
 ghost use Rattle.std.specs.Prelude.{◌≡◌, ◌+◌, ◌-◌, ◌*◌, ◌/◌, ◌<◌, length};
-ghost use Rattle.paper_number.specs.Form.{Tables};
 ghost use Rattle.paper_record.specs.Columns.{Whole};
-ghost use Rattle.paper_record.specs.Identifier.{NamesLent};
 ghost use Rattle.paper_rules.specs.Limits.{MOST-RECORDS};
 ghost use Rattle.paper_rules.specs.Ranging.{Bounded};
 ghost use Rattle.entry_step.specs.Pass.{pass_of, Walking, PassedAt};
 
 use crate::step::Judge;
 use columns::fields::fields;
-use record_names::identifier::{Names, identifier_of};
+use judge_tables::tables::Tables;
 use rules_due::role::role;
 use rules_values::values::values;
 
@@ -22,9 +20,7 @@ pub struct Passed {
 }
 
 impl Judge {
-    fn pass_record(self, names: &Names, kinds: &[u8; 256], nexts: &[u8; 88], rec: &[u8]) -> Passed
-        requires names_lent { NamesLent names.now }
-        requires tables { Tables kinds.now nexts.now }
+    fn pass_record(self, tables: &Tables, rec: &[u8]) -> Passed
         requires bounded { Bounded self.track }
         requires records_bound { self.track.records.0 < MOST-RECORDS }
         requires whole { Whole rec.now }
@@ -32,32 +28,23 @@ impl Judge {
     {
         let fs = fields(rec);
         let f = fs[0];
-        let k = identifier_of(names, f);
+        let k = tables.names.identifier_of(f);
         let t = self.track;
         let p = self.phase;
-        let role = role(t, names, p, k);
-        let values = values(t, kinds, nexts, role, fs);
+        let role = role(t, &tables.names, p, k);
+        let values = values(t, &tables.numbers, role, fs);
         let next = self.after(rec, role, fs, values);
         Passed { role, next }
     }
 
     // The record with the index i, from the state before it.
-    pub fn pass(
-        self,
-        names: &Names,
-        kinds: &[u8; 256],
-        nexts: &[u8; 88],
-        entry: &[u8],
-        i: usize,
-    ) -> Passed
-        requires names_lent { NamesLent names.now }
-        requires tables { Tables kinds.now nexts.now }
+    pub fn pass(self, tables: &Tables, entry: &[u8], i: usize) -> Passed
         requires walking { Walking self entry.now i }
         requires i_in_bounds { i < length entry.now / 81 }
         ensures { PassedAt result entry.now i }
     {
         let from = i * 81;
         let past = from + 81;
-        self.pass_record(names, kinds, nexts, &entry[from..past])
+        self.pass_record(tables, &entry[from..past])
     }
 }

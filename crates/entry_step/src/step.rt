@@ -1,9 +1,6 @@
 // One record: each step takes the state so far and hands back the next.
 ghost use Rattle.std.specs.Prelude.{◌≡◌, ◌-◌, ◌<◌};
-ghost use Rattle.paper_number.specs.Form.{Tables};
-ghost use Rattle.paper_record.specs.Class.{ClassesLent};
 ghost use Rattle.paper_record.specs.Columns.{Whole};
-ghost use Rattle.paper_record.specs.Identifier.{NamesLent};
 ghost use Rattle.paper_rules.specs.Limits.{MOST-RECORDS};
 ghost use Rattle.paper_rules.specs.Ranging.{Bounded};
 ghost use Rattle.paper_rules.specs.Values.{values_for};
@@ -13,10 +10,10 @@ use columns::fields::fields;
 use entry_counted::counted::track_after;
 use entry_next::due::phase_after;
 use entry_next::parts::ranges_after;
+use judge_tables::tables::Tables;
 use paper_faults::types::Fault;
 use paper_record::types::{Index, Values};
 use paper_rules::types::{Phase, Range, Ranges, Track};
-use record_names::identifier::{Names, identifier_of};
 use rules::order::fault;
 use rules_due::role::role;
 use rules_state::state::start_track;
@@ -28,13 +25,6 @@ pub struct Judge {
     pub phase: Phase,
     pub track: Track,
     pub ranges: Ranges,
-}
-
-// The fault of a record, and the state after it; a record at fault leaves the state as it was.
-#[derive(Clone, Copy)]
-pub struct Step {
-    pub fault: Fault,
-    pub next: Judge,
 }
 
 impl Judge {
@@ -84,64 +74,34 @@ impl Judge {
     // A record that has the role and these fields.
     fn step_as<'a>(
         self,
-        classes: &[u8; 256],
-        names: &Names,
-        kinds: &[u8; 256],
-        nexts: &[u8; 88],
+        tables: &Tables,
         before: &'a [u8],
         rec: &'a [u8],
         role: usize,
         fs: [[u8; 11]; 6],
-    ) -> Step
-        requires classes_lent { ClassesLent classes.now }
-        requires names_lent { NamesLent names.now }
-        requires tables { Tables kinds.now nexts.now }
-        requires ready { Ready self before.now rec.now }
+    ) -> Result<Self, Fault>
+        requires { Ready self before.now rec.now }
         ensures { SteppedAs result self before.now rec.now role fs }
     {
         let t = self.track;
         let g = self.ranges;
-        let values = values(t, kinds, nexts, role, fs);
-        let found = fault(
-            t, classes, names, kinds, nexts, g, before, rec, role, fs, values,
-        );
-        match found {
-            Fault::Fine => {
-                let next = self.after(rec, role, fs, values);
-                Step {
-                    fault: Fault::Fine,
-                    next,
-                }
-            }
-            Fault::At(number, column) => Step {
-                fault: Fault::At(number, column),
-                next: self,
-            },
-        }
+        let values = values(t, &tables.numbers, role, fs);
+        fault(t, tables, g, before, rec, role, fs, values)?;
+        let next = self.after(rec, role, fs, values);
+        Ok(next)
     }
 
-    // One record, with all that stands before it.
-    pub fn step<'a>(
-        self,
-        classes: &[u8; 256],
-        names: &Names,
-        kinds: &[u8; 256],
-        nexts: &[u8; 88],
-        before: &'a [u8],
-        rec: &'a [u8],
-    ) -> Step
-        requires classes_lent { ClassesLent classes.now }
-        requires names_lent { NamesLent names.now }
-        requires tables { Tables kinds.now nexts.now }
-        requires ready { Ready self before.now rec.now }
+    // One record, with all that stands before it: the state after it, or its fault.
+    pub fn step<'a>(self, tables: &Tables, before: &'a [u8], rec: &'a [u8]) -> Result<Self, Fault>
+        requires { Ready self before.now rec.now }
         ensures { Stepped result self before.now rec.now }
     {
         let fs = fields(rec);
         let f = fs[0];
-        let k = identifier_of(names, f);
+        let k = tables.names.identifier_of(f);
         let t = self.track;
         let p = self.phase;
-        let role = role(t, names, p, k);
-        self.step_as(classes, names, kinds, nexts, before, rec, role, fs)
+        let role = role(t, &tables.names, p, k);
+        self.step_as(tables, before, rec, role, fs)
     }
 }

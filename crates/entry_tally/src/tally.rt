@@ -1,5 +1,5 @@
 // What one record adds to the counts, by what it is.
-ghost use Rattle.std.specs.Prelude.{◌≡◌, ◌&&◌, ◌+◌, ◌-◌, ◌*◌, ◌≤◌, ◌<◌, eqb};
+ghost use Rattle.std.specs.Prelude.{◌≡◌, ◌+◌, ◌-◌, ◌*◌, ◌≤◌, ◌<◌};
 ghost use Rattle.paper_rules.specs.Limits.{MOST-RECORDS};
 ghost use Rattle.paper_rules.specs.Ranging.{Bounded};
 ghost use Rattle.paper_entry.specs.Tally.{one_subentry, one_keyword, more_numbers, open_subentry, open_bib, open_table};
@@ -18,7 +18,7 @@ fn one_subentry(mut totals: Totals) -> Totals
     requires { totals.subentries ≤ MOST-RECORDS }
     ensures { result ≡ one_subentry totals }
 {
-    totals.subentries = totals.subentries + 1;
+    totals.subentries += 1;
     totals
 }
 
@@ -26,7 +26,7 @@ fn one_keyword(mut totals: Totals) -> Totals
     requires { totals.keywords ≤ MOST-RECORDS }
     ensures { result ≡ one_keyword totals }
 {
-    totals.keywords = totals.keywords + 1;
+    totals.keywords += 1;
     totals
 }
 
@@ -37,8 +37,8 @@ fn more_numbers(mut totals: Totals, lines: u32, numbers: u32) -> Totals
     requires numbers_bound_2 { numbers ≤ 6 }
     ensures { result ≡ more_numbers totals lines numbers }
 {
-    totals.lines = totals.lines + lines;
-    totals.numbers = totals.numbers + numbers;
+    totals.lines += lines;
+    totals.numbers += numbers;
     totals
 }
 
@@ -46,8 +46,7 @@ pub fn open_subentry(t: Track, number: u32) -> Track
     requires { Bounded t }
     ensures { result ≡ open_subentry t number }
 {
-    let x = t.totals;
-    let totals = one_subentry(x);
+    let totals = one_subentry(t.totals);
     let subentry = Subentry { number, records: 0 };
     with_subentry(with_totals(t, totals), subentry)
 }
@@ -77,6 +76,7 @@ pub fn open_table(t: Track, columns: u32, last: u32) -> Track
     with_table(with_section(t, 0), table)
 }
 
+#[tactic(auto, unfolding(paper_entry::specs::Tally::text_read))]
 pub fn text_read(t: Track, f: [u8; 11]) -> Track
     requires { Bounded t }
     ensures { result ≡ text_read t f }
@@ -84,15 +84,9 @@ pub fn text_read(t: Track, f: [u8; 11]) -> Track
     if is_keyword_blank(f) {
         return t;
     }
-    let x = t.totals;
-    let b = t.bib;
-    let totals = one_keyword(x);
-    let met = b.met + 1;
-    let bib = Bib {
-        keywords: b.keywords,
-        records: b.records,
-        met,
-    };
+    let totals = one_keyword(t.totals);
+    let met = t.bib.met + 1;
+    let bib = Bib { met, ..t.bib };
     with_bib(with_totals(t, totals), bib)
 }
 
@@ -100,15 +94,12 @@ pub fn text_read(t: Track, f: [u8; 11]) -> Track
 fn next_row(x: Table, row: u32, line: LineNo) -> Table
     ensures { result ≡ next_row x row line }
 {
-    let last = x.last;
-    let columns = x.columns;
     Table {
-        columns,
-        last,
         row,
         line,
-        rest: columns,
+        rest: x.columns,
         blank: true,
+        ..x
     }
 }
 
@@ -117,58 +108,47 @@ fn same_row(x: Table, row: u32, blank: bool) -> Table
     requires { 6 ≤ x.rest }
     ensures { result ≡ same_row x row blank }
 {
-    let last = x.last;
-    let line = x.line;
     let rest = x.rest - 6;
     Table {
-        columns: x.columns,
-        last,
         row,
-        line,
         rest,
         blank,
+        ..x
     }
 }
 
+#[tactic(auto, unfolding(paper_entry::specs::Tally::headings_read))]
 pub fn headings_read(x: Table) -> Table
     ensures { result ≡ headings_read x }
 {
     if x.rest <= 6 {
-        let line = x.line;
-        return next_row(x, UNITS, line);
+        next_row(x, UNITS, x.line)
+    } else {
+        same_row(x, HEADINGS, true)
     }
-    same_row(x, HEADINGS, true)
 }
 
+#[tactic(auto, unfolding(paper_entry::specs::Tally::units_read))]
 pub fn units_read(x: Table) -> Table
     ensures { result ≡ units_read x }
 {
     if x.rest <= 6 {
-        let line = x.line;
-        return next_row(x, VALUES, line);
+        next_row(x, VALUES, x.line)
+    } else {
+        same_row(x, UNITS, true)
     }
-    same_row(x, UNITS, true)
 }
 
-fn still_blank(blank: bool, numbers: u32) -> bool
-    ensures { result ≡ (blank && eqb numbers 0) }
-{
-    if blank {
-        return numbers == 0;
-    }
-    false
-}
-
+#[tactic(auto, unfolding(paper_entry::specs::Tally::values_read))]
 fn values_read(x: Table, numbers: u32) -> Table
     requires { x.line.0 ≤ MOST-RECORDS }
     ensures { result ≡ values_read x numbers }
 {
     if x.rest <= 6 {
-        let line = x.line;
-        let number = line.0 + 1;
+        let number = x.line.0 + 1;
         return next_row(x, VALUES, LineNo(number));
     }
-    let blank = still_blank(x.blank, numbers);
+    let blank = x.blank && numbers == 0;
     same_row(x, VALUES, blank)
 }
 
@@ -176,13 +156,7 @@ fn lines_read(t: Track, role: usize) -> u32
     ensures value { result ≡ lines_read t role }
     ensures upper_bound { result ≤ 1 }
 {
-    if role != DATA_VALUE {
-        return 0;
-    }
-    if row_ends(t) {
-        return 1;
-    }
-    0
+    u32::from(role == DATA_VALUE && row_ends(t))
 }
 
 pub fn numbers_read(t: Track, role: usize, numbers: u32) -> Track
@@ -190,10 +164,8 @@ pub fn numbers_read(t: Track, role: usize, numbers: u32) -> Track
     requires numbers_bound { numbers ≤ 6 }
     ensures { result ≡ numbers_read t role numbers }
 {
-    let x = t.totals;
-    let y = t.table;
     let lines = lines_read(t, role);
-    let totals = more_numbers(x, lines, numbers);
-    let table = values_read(y, numbers);
+    let totals = more_numbers(t.totals, lines, numbers);
+    let table = values_read(t.table, numbers);
     with_table(with_totals(t, totals), table)
 }

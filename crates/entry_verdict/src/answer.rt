@@ -23,11 +23,10 @@ pub fn answer_for(v: Verdict, number: u8) -> Answer
     ensures { result ≡ answer_for v number }
 {
     if number == 31 {
-        let record = v.record;
         return Answer {
             number: 31,
             refusal: v.refusal,
-            record,
+            record: v.record,
             column: v.column,
             ordinal: v.ordinal,
         };

@@ -33,16 +33,11 @@ pub fn refused(refusal: u8, at: RecordNo, column: u8) -> Verdict
 const MOST_BYTES: usize = 1620000;
 
 // Whether the length is that of 1 to 20,000 records.
+#[tactic(auto, unfolding(paper_entry::specs::Verdict::length_good))]
 pub fn length_good(n: usize) -> bool
     ensures { result ≡ length_good n }
 {
-    if n == 0 {
-        return false;
-    }
-    if n % 81 != 0 {
-        return false;
-    }
-    n <= MOST_BYTES
+    n != 0 && n % 81 == 0 && n <= MOST_BYTES
 }
 
 pub fn is_done(phase: Phase) -> bool

@@ -1,6 +1,8 @@
 -- The verdict on an entry is the first in the order: the judge goes from the context before one record to that before
 -- the next as long as nothing is found, and hands out the least that is found on a record.
 -- Assumes nothing.
+use Rattle.std.specs.Prelude.{Ok, Err}
+use Rattle.paper_faults.specs.Fault.{Checked, fault_at, faultless}
 use Prim.Native.Nat.{ℕ, zero, suc, ◌+◌, ◌/◌, ◌<◌}
 use mathlib.Core.Path.{◌≡◌, refl, subst}
 use mathlib.Core.Bool.{Bool, true, false, cond}
@@ -13,8 +15,6 @@ use Rattle.laws.specs.Blocks.{blocks, block_at}
 use Rattle.laws.proofs.Blocks.{run-walk}
 use Rattle.paper_record.specs.Places.{record_of}
 use Rattle.paper_record.specs.Fields.{fields_of}
-use Rattle.paper_faults.specs.declared.types.Fault.{Fault}
-use Rattle.paper_faults.specs.declared.types.Fault.TheVariants.{Fine, At}
 use Rattle.paper_rules.specs.State.{Context, start_context}
 use Rattle.paper_rules.specs.Order.{fault_of}
 use Rattle.paper_faults.specs.Least.{Least, Nothing}
@@ -31,13 +31,13 @@ use Rattle.entry_walk.proofs.Contexts.{records-at, context-next}
 -- ---- one record
 
 module _ (c : Context) (r : List ℕ) where
-  abbrev fault_in : Fault
+  abbrev fault_in : Checked
   fault_in = fault_of c.track c.seen (role_of c r) (fields_of r) r
 
-  nothing-in : fault_in ≡ Fine → Nothing (found_in c r)
+  nothing-in : fault_in ≡ faultless → Nothing (found_in c r)
   nothing-in e = fault-none c.track c.seen (role_of c r) (fields_of r) r e
 
-  least-in : (n k : ℕ) → fault_in ≡ At n k → Least (found_in c r) n k
+  least-in : (n k : ℕ) → fault_in ≡ fault_at n k → Least (found_in c r) n k
   least-in n k e = fault-least c.track c.seen (role_of c r) (fields_of r) r n k e
 
 -- ---- record by record
@@ -63,20 +63,20 @@ module _ (s : List ℕ) (good : length_good (length s) ≡ true) where
   unfolding run turn_of turn_as
   one_more m i l h next = by-fault (fault_in (context_at s i) (block_at 81 s i)) refl
     where
-      by-fault : (x : Fault) → fault_in (context_at s i) (block_at 81 s i) ≡ x
+      by-fault : (x : Checked) → fault_in (context_at s i) (block_at 81 s i) ≡ x
           → First s (after
           (on_fault (record_of (context_at s i).track.records) x (behind (context_at s i) (block_at 81 s i)))
           (λ c. run turn_at end_of c (i + 1) m))
-      by-fault Fine e =
+      by-fault (Ok u) e =
           rw (context-next s i) at (next (nothing-next (found_at s) i h (nothing-in (context_at s i) (block_at 81 s i) e)))
-      by-fault (At n k) e =
+      by-fault (Err fault) e =
           rw (records-at s i)
-          (by_record i n k
+          (by_record i fault.number fault.column
           (record {
             length-good = good;
             there = l;
             earlier = h;
-            least = least-in (context_at s i) (block_at 81 s i) n k e;
+            least = least-in (context_at s i) (block_at 81 s i) fault.number fault.column e;
           }))
 
   first-from : (m i : ℕ) → i + m ≡ length s / 81 → NothingBefore s i

@@ -1,6 +1,8 @@
 -- The judge's turn at a record: it goes on exactly where no rule is broken, and hands out nothing but refusals. Behind
 -- a value record the context goes by what the fields read to.
 -- Assumes nothing.
+use Rattle.std.specs.Prelude.{Ok, Err}
+use Rattle.paper_faults.specs.Fault.{Checked, faultless}
 use mathlib.Core.Path.{◌≡◌, refl, ap}
 use mathlib.Core.Bool.{Bool, true, false, cond}
 use mathlib.Core.List.{List, []}
@@ -12,8 +14,6 @@ use Rattle.laws.specs.Copies.{Passing}
 use Rattle.paper_number.specs.Reading.{read_field}
 use Rattle.paper_record.specs.Places.{record_of}
 use Rattle.paper_record.specs.Fields.{fields_of}
-use Rattle.paper_faults.specs.declared.types.Fault.{Fault}
-use Rattle.paper_faults.specs.declared.types.Fault.TheVariants.{Fine, At}
 use Rattle.paper_rules.specs.State.{Context, used}
 use Rattle.paper_rules.specs.Roles.{COMMON-VALUE, DATA-VALUE, is_value}
 use Rattle.paper_rules.specs.Values.{optional, values_for}
@@ -29,19 +29,19 @@ use Rattle.paper_rules.proofs.ByKind.{of_values}
 use Rattle.paper_rules.proofs.Least.{fault-bounds}
 
 pub go-fine : Passing turn_of
-    (λ c i r d. (fault_of c.track c.seen (role_of c r) (fields_of r) r ≡ Fine)
+    (λ c i r d. (fault_of c.track c.seen (role_of c r) (fields_of r) r ≡ faultless)
     × (context_after c (role_of c r) (fields_of r) r ≡ d))
 unfolding turn_of turn_as
 go-fine c i r d h = by-fault (fault_of c.track c.seen (role_of c r) (fields_of r) r) h
   where
-    by-fault : (x : Fault)
+    by-fault : (x : Checked)
         → on_fault (record_of c.track.records) x (context_after c (role_of c r) (fields_of r) r) ≡ go d
-        → (x ≡ Fine) × (context_after c (role_of c r) (fields_of r) r ≡ d)
-    by-fault Fine e = (refl, cc)
-    by-fault (At n k) e = let z : ◌≡◌ {A = ℕ} 0 1 = cc in absurd (omega arith)
+        → (x ≡ faultless) × (context_after c (role_of c r) (fields_of r) r ≡ d)
+    by-fault (Ok u) e = (refl, cc)
+    by-fault (Err fault) e = let z : ◌≡◌ {A = ℕ} 0 1 = cc in absurd (omega arith)
 
 pub fine-go : (c : Context) (i : ℕ) (r : List ℕ) (role : ℕ) → role_of c r ≡ role
-    → fault_of c.track c.seen role (fields_of r) r ≡ Fine
+    → fault_of c.track c.seen role (fields_of r) r ≡ faultless
     → turn_of c i r ≡ go (context_after c role (fields_of r) r)
 unfolding turn_of turn_as
 fine-go c i r role e h = rw (e, h)
@@ -61,13 +61,13 @@ pub out-refused : (c : Context) (i : ℕ) (r : List ℕ) (v : Verdict) → turn_
 unfolding turn_of turn_as
 out-refused c i r v e z = by-fault (fault_of c.track c.seen (role_of c r) (fields_of r) r) refl e
   where
-    by-fault : (x : Fault) → fault_of c.track c.seen (role_of c r) (fields_of r) r ≡ x
+    by-fault : (x : Checked) → fault_of c.track c.seen (role_of c r) (fields_of r) r ≡ x
         → on_fault (record_of c.track.records) x (context_after c (role_of c r) (fields_of r) r) ≡ out v → ⊥
-    by-fault Fine q h = let z : ◌≡◌ {A = ℕ} 0 1 = cc in omega arith
-    by-fault (At n k) q h =
-        let w : refused n (record_of c.track.records) k ≡ v = cc in
-        let m : n ≡ v.refusal = ap (λ (x : Verdict). x.refusal) w in
-        let b = (fault-bounds c.track c.seen (role_of c r) (fields_of r) r n k q).above in
+    by-fault (Ok u) q h = let z : ◌≡◌ {A = ℕ} 0 1 = cc in omega arith
+    by-fault (Err fault) q h =
+        let w : refused fault.number (record_of c.track.records) fault.column ≡ v = cc in
+        let m : fault.number ≡ v.refusal = ap (λ (x : Verdict). x.refusal) w in
+        let b = (fault-bounds c.track c.seen (role_of c r) (fields_of r) r fault.number fault.column q).above in
         omega arith
 
 module _ (c : Context) (r t : List ℕ)

@@ -6,10 +6,9 @@ ghost use Rattle.paper_canonical.specs.Writing.{bytes, writing_refusal};
 ghost use Rattle.exports_words.specs.Words.{answer_word};
 ghost use Rattle.exports_values.specs.Values.{reading_answer, reading_stored};
 
-use canonical::write::write_number;
+use canonical::write::{number_of, write_number};
 use exports_values::values::put_reading;
 use number_reading::read::read_number;
-use paper_canonical::types::Written;
 
 // What a number field says and how many digits are written in it, stored only where that is a blank or a number.
 #[unsafe(no_mangle)]
@@ -33,9 +32,8 @@ pub extern "C" fn x4_write_number(
     ensures value { result ≡ writing_refusal out.old (value_of (not (eqb negative 0)) coefficient power) }
     ensures out_after { out.new ≡ bytes out.old (value_of (not (eqb negative 0)) coefficient power) }
 {
-    let w = write_number(negative != 0, coefficient, power, out);
-    match w {
-        Written::Done => 0,
-        Written::Refused(n) => n as u32,
+    match write_number(negative != 0, coefficient, power, out) {
+        Ok(()) => 0,
+        Err(e) => u32::from(number_of(e)),
     }
 }

@@ -1,5 +1,7 @@
 -- No answer of a call about doubles is lost: it comes back from the word, the lent place and the value call's decimal.
 -- Assumes nothing.
+use Rattle.std.specs.Prelude.{Ok, Err}
+use Rattle.paper_faults.specs.Fault.{Checked}
 use Prim.Native.Nat.{ℕ, ◌+◌, ◌*◌, ◌/◌, ◌%◌, ◌^◌, ◌<◌, ◌≤◌}
 use mathlib.Core.Path.{◌≡◌, refl, sym, ap, ◌∙◌}
 use mathlib.Core.Bool.{Bool, true, false, cond, not}
@@ -23,8 +25,6 @@ use Rattle.paper_number.proofs.DigitLaws.{digits-most}
 use Rattle.paper_record.specs.declared.types.LineNo.{LineNo}
 use Rattle.paper_record.specs.Places.{record_of, place_of}
 use Rattle.paper_record.specs.Fields.{fields_of}
-use Rattle.paper_faults.specs.declared.types.Fault.{Fault}
-use Rattle.paper_faults.specs.declared.types.Fault.TheVariants.{Fine, At}
 use Rattle.paper_rules.specs.State.{Context, start_context}
 use Rattle.paper_rules.specs.Order.{fault_of}
 use Rattle.laws.proofs.EitherWay.{either_way}
@@ -71,12 +71,12 @@ walk-alone [] c i =
 walk-alone (r ∷ rs) c i =
     by-fault (fault_of c.track c.seen (role_of c r) (fields_of r) r) (λ d. walk-alone rs d (i + 1))
   where
-    by-fault : (x : Fault) → ((d : Context) → (walk turn_of end_of d (i + 1) rs).ordinal ≡ 0)
+    by-fault : (x : Checked) → ((d : Context) → (walk turn_of end_of d (i + 1) rs).ordinal ≡ 0)
         → (after (on_fault (record_of c.track.records) x (context_after c (role_of c r) (fields_of r) r))
         (λ d. walk turn_of end_of d (i + 1) rs)).ordinal
         ≡ 0
-    by-fault Fine rest = rest _
-    by-fault (At n k) rest = refl
+    by-fault (Ok u) rest = rest _
+    by-fault (Err fault) rest = refl
 
 pub judge-alone : (s : List ℕ) → (judge_of s).ordinal ≡ 0
 unfolding judge_of

@@ -1,5 +1,7 @@
 -- Every verdict fits its word: a refusal is 1 to 17, at a record up to 20,001 and a column up to 81.
 -- Assumes nothing.
+use Rattle.std.specs.Prelude.{Ok, Err}
+use Rattle.paper_faults.specs.Fault.{Checked}
 use Prim.Native.Nat.{ℕ, ◌+◌, ◌*◌, ◌/◌, ◌^◌, ◌<◌, ◌≤◌}
 use mathlib.Core.Path.{◌≡◌, refl}
 use mathlib.Core.Bool.{Bool, true, false, cond}
@@ -13,8 +15,6 @@ use Rattle.laws.proofs.Blocks.{length-blocks}
 use Rattle.paper_record.specs.declared.types.RecordNo.{RecordNo}
 use Rattle.paper_record.specs.Places.{record_of}
 use Rattle.paper_record.specs.Fields.{fields_of}
-use Rattle.paper_faults.specs.declared.types.Fault.{Fault}
-use Rattle.paper_faults.specs.declared.types.Fault.TheVariants.{Fine, At}
 use Rattle.paper_rules.specs.declared.types.Totals.{Totals}
 use Rattle.paper_rules.specs.declared.types.Track.{Track}
 use Rattle.paper_rules.specs.State.{Context, start_context}
@@ -72,13 +72,13 @@ walk-fits (r ∷ rs) c i b few =
     follows : Follows c.track next.track
     follows = track-follows c.track b (omega arith) role (fields_of r) r
 
-    by-fault : (x : Fault) → fault_of c.track c.seen role (fields_of r) r ≡ x
+    by-fault : (x : Checked) → fault_of c.track c.seen role (fields_of r) r ≡ x
         → ((d : Context) → Bounded d.track → d.track.records.0 ≡ c.track.records.0 + 1
         → Fitting (walk turn_of end_of d (i + 1) rs))
         → Fitting (after (on_fault (record_of c.track.records) x next) (λ d. walk turn_of end_of d (i + 1) rs))
-    by-fault Fine e rest = rest next follows.bounded follows.records
-    by-fault (At n k) e rest =
-        fits n k (near-fault c.track c.seen role (fields_of r) r n k e) c.track b.records
+    by-fault (Ok u) e rest = rest next follows.bounded follows.records
+    by-fault (Err fault) e rest =
+        fits fault.number fault.column (near-fault c.track c.seen role (fields_of r) r fault.number fault.column e) c.track b.records
 
 -- every verdict fits
 pub judge-fits : (s : List ℕ) → Fitting (judge_of s)

@@ -19,8 +19,7 @@ use Rattle.paper_questions.specs.Place.{shape_of}
 use Rattle.paper_questions.specs.Refused.{section_in, section_refusals}
 use Rattle.paper_questions.proofs.ValuePlaces.{value-field}
 use Rattle.paper_walk.specs.declared.types.Walk.{Walk}
-use Rattle.paper_walk.specs.declared.types.Given.TheVariants.{At, Done}
-use Rattle.paper_walk.specs.Walk.{done_walk, walk_from, start_by, start_of, stands, onward, field_next, step_of, placed_at, line_no}
+use Rattle.paper_walk.specs.Walk.{done_walk, walk_from, start_by, start_of, stands, onward, field_next, step_of, placed_at, line_no, at_place}
 use Rattle.paper_walk.specs.Walk.{after, given_at}
 use Rattle.exports_words.specs.Words.{answer_word, answer_in, lent_after}
 use Rattle.exports_places.specs.Walks.{walk_numbers, walk_stored, walk_in, place_numbers, given_answer, given_stored}
@@ -60,12 +59,12 @@ module _ (s t before : List ℕ) where
   abbrev w : Walk
   w = walk_in t
 
-  given-at : given_in (answer_word (given_answer (At w.line w.column (field_read (field_next s w)))))
-      (place_numbers (At w.line w.column (field_read (field_next s w))))
-      (given_stored before (At w.line w.column (field_read (field_next s w))))
-      ≡ At w.line w.column (field_read (field_next s w))
+  given-at : given_in (answer_word (given_answer (at_place w.line w.column (field_read (field_next s w)))))
+      (place_numbers (at_place w.line w.column (field_read (field_next s w))))
+      (given_stored before (at_place w.line w.column (field_read (field_next s w))))
+      ≡ at_place w.line w.column (field_read (field_next s w))
   given-at =
-      ap (At w.line w.column)
+      ap (at_place w.line w.column)
       (field_back before (field_next s w)
       (field-wide s (place_of w.section w.columns w.line w.column)
       (value-field w.section w.columns w.line w.column)))

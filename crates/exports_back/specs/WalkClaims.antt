@@ -1,17 +1,16 @@
 -- What is claimed of the words and arrays of calls about a walk: they say all of it, for every entry, any five numbers and
 -- whatever the arrays held. Each type is that of a law in proofs/WalkBack, under the law's name.
-use Rattle.std.specs.Prelude.{ℕ, zero, suc, ◌≡◌, cond, List, eqb, get_or}
+use Rattle.std.specs.Prelude.{ℕ, zero, suc, ◌≡◌, cond, List, eqb, get_or, Option, None}
 use Rattle.paper_walk.specs.declared.types.Given.{Given}
-use Rattle.paper_walk.specs.declared.types.Given.TheVariants.{At, Done}
-use Rattle.paper_walk.specs.Walk.{start_of, step_of, after, given_at}
+use Rattle.paper_walk.specs.Walk.{start_of, step_of, after, given_at, at_place}
 use Rattle.exports_words.specs.Words.{answer_word, answer_in}
 use Rattle.exports_values.specs.Values.{reading_in}
 use Rattle.exports_places.specs.Walks.{walk_numbers, walk_stored, walk_in, place_numbers, given_answer, given_stored}
 
 -- what is given, by a word, a place and a value: what a host does with them
-abbrev pub given_in : ℕ → List ℕ → List ℕ → Given
+abbrev pub given_in : ℕ → List ℕ → List ℕ → Option Given
 given_in w place value =
-    cond (eqb (get_or place 0 0) 0) Done (At (record { 0 = get_or place 1 0 }) (get_or place 2 0) (reading_in w value))
+    cond (eqb (get_or place 0 0) 0) None (at_place (record { 0 = get_or place 1 0 }) (get_or place 2 0) (reading_in w value))
 
 abbrev pub StartBack : Type 0
 StartBack =

@@ -1,12 +1,11 @@
 -- A walk over the values of a table as calls give it (document 02, M-112). Where it stands are five numbers: the section's
 -- record, its columns and lines, and line and column of the value that comes next. What is given is a place, 1 with line and
 -- column, or three zeros where it is done, and beside it the value as a question for it stores it.
-use Rattle.std.specs.Prelude.{ℕ, List, [], ◌∷◌, get_or}
+use Rattle.std.specs.Prelude.{ℕ, List, [], ◌∷◌, get_or, Option, Some, None}
 use Rattle.paper_entry.specs.declared.types.Answer.{Answer}
 use Rattle.paper_entry.specs.Answer.{answer_of}
 use Rattle.paper_walk.specs.declared.types.Walk.{Walk}
 use Rattle.paper_walk.specs.declared.types.Given.{Given}
-use Rattle.paper_walk.specs.declared.types.Given.TheVariants.{At, Done}
 use Rattle.exports_words.specs.Words.{lent_after}
 use Rattle.exports_values.specs.Values.{reading_answer, reading_stored}
 
@@ -33,15 +32,15 @@ walk_in xs =
 
 -- ---- what is given
 
-abbrev pub place_numbers : Given → List ℕ
-place_numbers (At line column field) = 1 ∷ line.0 ∷ column ∷ []
-place_numbers Done = 0 ∷ 0 ∷ 0 ∷ []
+abbrev pub place_numbers : Option Given → List ℕ
+place_numbers (Some g) = 1 ∷ g.line.0 ∷ g.column ∷ []
+place_numbers None = 0 ∷ 0 ∷ 0 ∷ []
 
 -- 0; 15 where the field is malformed, which no accepted entry has (`walk-said`, walk_laws)
-abbrev pub given_answer : Given → Answer
-given_answer (At line column field) = reading_answer field.reading
-given_answer Done = answer_of 0
+abbrev pub given_answer : Option Given → Answer
+given_answer (Some g) = reading_answer g.field.reading
+given_answer None = answer_of 0
 
-abbrev pub given_stored : List ℕ → Given → List ℕ
-given_stored before (At line column field) = reading_stored before field
-given_stored before Done = before
+abbrev pub given_stored : List ℕ → Option Given → List ℕ
+given_stored before (Some g) = reading_stored before g.field
+given_stored before None = before

@@ -49,17 +49,23 @@ pub fn walk_in(xs: [u32; 5]) -> Walk
 }
 
 // Stores a place and its value, or that the walk is done, and returns the word.
-pub fn put_given(given: Given, place: &mut [u64; 3], out: &mut [u64; 8]) -> u64
+pub fn put_given(given: Option<Given>, place: &mut [u64; 3], out: &mut [u64; 8]) -> u64
     ensures value { result ≡ answer_word (given_answer given) }
     ensures place_after { place.new ≡ place_numbers given }
     ensures out_after { out.new ≡ given_stored out.old given }
 {
     match given {
-        Given::At(line, column, field) => {
-            *place = [1, line.0 as u64, column as u64];
+        Some(
+            Given {
+                line,
+                column,
+                field,
+            },
+        ) => {
+            *place = [1, u64::from(line.0), u64::from(column)];
             put_reading(field, out)
         }
-        Given::Done => {
+        None => {
             *place = [0, 0, 0];
             0
         }

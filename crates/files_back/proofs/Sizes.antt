@@ -1,6 +1,7 @@
 -- Every verdict on a file fits its word: a refusal is 1 to 17, at a record up to 200,001, a column up to 81, in an entry
 -- whose ordinal 16 bits can say.
 -- Assumes nothing.
+use Rattle.std.specs.Prelude.{Ok, Err}
 use Prim.Native.Nat.{ℕ, ◌+◌, ◌*◌, ◌/◌, ◌%◌, ◌^◌, ◌<◌, ◌≤◌}
 use mathlib.Core.Path.{◌≡◌, refl}
 use mathlib.Core.Bool.{Bool, true, false, cond, not, ◌&&◌}
@@ -18,9 +19,7 @@ use Rattle.laws.proofs.Booleans.{and_right}
 use Rattle.paper_record.specs.Places.{record_of}
 use Rattle.paper_record.specs.Fields.{fields_of}
 use Rattle.paper_record.specs.Identifier.{TRANS}
-use Rattle.paper_faults.specs.declared.types.Fault.{Fault}
-use Rattle.paper_faults.specs.declared.types.Fault.TheVariants.{Fine, At}
-use Rattle.paper_faults.specs.Fault.{Finding, first_fault}
+use Rattle.paper_faults.specs.Fault.{Finding, first_fault, Checked, fault_at, faultless}
 use Rattle.paper_rules.specs.State.{Context}
 use Rattle.laws.proofs.EitherWay.{either_way}
 use Rattle.paper_rules.specs.Order.{fault_of}
@@ -51,7 +50,7 @@ pub record Sized (f : FileContext) (m : ℕ) : Type 0 where
 
 -- ---- the fault of a record is in its bounds
 
-fault-bounds : (f : FileContext) (r : List ℕ) (n k : ℕ) → file_fault f r ≡ At n k → FaultBounds n k
+fault-bounds : (f : FileContext) (r : List ℕ) (n k : ℕ) → file_fault f r ≡ fault_at n k → FaultBounds n k
 unfolding file_findings
 fault-bounds f r n k = by-test (eqb (file_role f r) OF-ENTRY)
   where
@@ -61,7 +60,7 @@ fault-bounds f r n k = by-test (eqb (file_role f r) OF-ENTRY)
     outside : List Finding
     outside = outside_findings f.entries (file_role f r) (fields_of r) r
 
-    by-test : (b : Bool) → first_fault (cond b inside outside) ≡ At n k → FaultBounds n k
+    by-test : (b : Bool) → first_fault (cond b inside outside) ≡ fault_at n k → FaultBounds n k
     by-test true e =
         let s = findings-rise f.entry.track f.entry.seen (role_of f.entry r) (fields_of r) r in
         first-bounds 1 inside s n k (first-least 1 inside s n k e)
@@ -79,7 +78,7 @@ module _ (f : FileContext) (r : List ℕ) (m : ℕ) (z : Sized f (m + 1)) where
   unfolding context_after
   counted = count_next f.entry.track (role_of f.entry r) (fields_of r) r
 
-  further : first_fault (found_in f.entry r) ≡ Fine → least next.phase ≤ least f.entry.phase + 1
+  further : first_fault (found_in f.entry r) ≡ faultless → least next.phase ≤ least f.entry.phase + 1
   unfolding context_after fault_of
   further e =
       leads-on f.entry.phase f.entry.track _
@@ -93,7 +92,7 @@ module _ (f : FileContext) (r : List ℕ) (m : ℕ) (z : Sized f (m + 1)) where
         record { few = omega arith; ranked = omega arith; room = omega arith },
       )
 
-  entry-sized : first_fault (found_in f.entry r) ≡ Fine → Sized (behind_entry f next) m
+  entry-sized : first_fault (found_in f.entry r) ≡ faultless → Sized (behind_entry f next) m
   unfolding behind_entry
   entry-sized e = by-test (is_done next.phase) refl
     where
@@ -115,12 +114,12 @@ module _ (f : FileContext) (r : List ℕ) (m : ℕ) (z : Sized f (m + 1)) where
           let h = z.room in
           record { few = omega arith; ranked = omega arith; room = omega arith }
 
-  pub sized-next : file_fault f r ≡ Fine → Sized (file_after f r) m
+  pub sized-next : file_fault f r ≡ faultless → Sized (file_after f r) m
   unfolding file_findings file_after
   sized-next = by-test (eqb (file_role f r) OF-ENTRY)
     where
       by-test : (b : Bool)
-          → first_fault (cond b (found_in f.entry r) (outside_findings f.entries (file_role f r) (fields_of r) r)) ≡ Fine
+          → first_fault (cond b (found_in f.entry r) (outside_findings f.entries (file_role f r) (fields_of r) r)) ≡ faultless
           → Sized (cond b (behind_entry f next) (cond (eqb (file_role f r) TRANS) (at_stage f Within) (at_stage f Behind))) m
       by-test true e = entry-sized e
       by-test false e =
@@ -164,13 +163,13 @@ walk-fits (r ∷ rs) f i z = by-fault (file_fault f r) refl (λ g h. walk-fits r
     sized : Sized f (length rs + 1)
     sized = let a = z.few in record { few = omega arith; ranked = z.ranked; room = z.room }
 
-    by-fault : (x : Fault) → file_fault f r ≡ x
+    by-fault : (x : Checked) → file_fault f r ≡ x
         → ((g : FileContext) → Sized g (length rs) → Fitting (walk file_turn file_end g (i + 1) rs))
         → Fitting (after (on_file_fault (ordinal_of f r) (record_of f.records) x (file_after f r))
         (λ g. walk file_turn file_end g (i + 1) rs))
-    by-fault Fine e next = next (file_after f r) (sized-next f r (length rs) sized e)
-    by-fault (At n k) e next =
-        fits f (length rs + 1) sized (ordinal_of f r) n k (ordinal-few f r) (inl (fault-bounds f r n k e))
+    by-fault (Ok u) e next = next (file_after f r) (sized-next f r (length rs) sized e)
+    by-fault (Err fault) e next =
+        fits f (length rs + 1) sized (ordinal_of f r) fault.number fault.column (ordinal-few f r) (inl (fault-bounds f r fault.number fault.column e))
 
 few-records : (n : ℕ) → file_length_good n ≡ true → n / 81 ≤ MOST-IN-FILE
 unfolding file_length_good

@@ -2,11 +2,12 @@
 ghost use Rattle.std.specs.Prelude.{◌≡◌};
 ghost use Rattle.paper_record.specs.Columns.{Whole};
 ghost use Rattle.paper_record.specs.Fields.{fields_of};
-ghost use Rattle.paper_record.specs.Class.{ClassesLent};
 ghost use Rattle.paper_faults.specs.Fault.{leftmost};
 ghost use Rattle.paper_files.specs.Outside.{rule7_outside, rule8_outside, outside_fault};
 
+use classes::class::Classes;
 use columns::fields::fields;
+use faults::found::found;
 use files_trans::trans::trans_form;
 use paper_faults::types::Fault;
 use record::system::{count_of, is_count, number_of};
@@ -44,31 +45,15 @@ fn rule8_outside(entries: u32, role: usize, fs: [[u8; 11]; 6]) -> u8
 }
 
 // The fault of a record that belongs to no entry, with so many entries before it.
-pub fn outside_fault(entries: u32, classes: &[u8; 256], role: usize, rec: &[u8]) -> Fault
-    requires classes_lent { ClassesLent classes.now }
-    requires whole { Whole rec.now }
+#[tactic(auto, unfolding(paper_files::specs::Outside::outside_fault, paper_faults::specs::Fault::first_fault))]
+pub fn outside_fault(entries: u32, classes: &Classes, role: usize, rec: &[u8]) -> Result<(), Fault>
+    requires { Whole rec.now }
     ensures { result ≡ outside_fault entries role (fields_of rec.now) rec.now }
 {
-    let a = rule2(rec);
-    if a != 0 {
-        return Fault::At(2, a);
-    }
-    let b = rule3(classes, rec);
-    if b != 0 {
-        return Fault::At(3, b);
-    }
-    let c = rule4(role);
-    if c != 0 {
-        return Fault::At(4, c);
-    }
+    found(2, rule2(rec))?;
+    found(3, rule3(classes, rec))?;
+    found(4, rule4(role))?;
     let fs = fields(rec);
-    let d = rule7_outside(role, fs);
-    if d != 0 {
-        return Fault::At(7, d);
-    }
-    let e = rule8_outside(entries, role, fs);
-    if e != 0 {
-        return Fault::At(8, e);
-    }
-    Fault::Fine
+    found(7, rule7_outside(role, fs))?;
+    found(8, rule8_outside(entries, role, fs))
 }

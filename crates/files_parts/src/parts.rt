@@ -1,12 +1,11 @@
 // The entries of a file: how long each is, and the part of the file that it is.
 ghost use Rattle.std.specs.Prelude.{◌≡◌, ◌+◌, ◌*◌, ◌≤◌, ◌<◌, length};
-ghost use Rattle.paper_record.specs.Identifier.{NamesLent};
 ghost use Rattle.laws.specs.Part.{Behind};
 ghost use Rattle.paper_files.specs.Parts.{few, named_at, end_of, records_of, entry_records, entry_length, entry_first};
 ghost use Rattle.paper_files.specs.Parts.{entry_from};
 
 use columns::fields::field;
-use record_names::identifier::{ENDENTRY, ENTRY, Names, identifier_of, names};
+use record_names::identifier::{ENDENTRY, ENTRY, Names};
 
 const MOST: usize = 20000;
 
@@ -14,35 +13,28 @@ fn few(n: usize) -> usize
     ensures value { result ≡ few n }
     ensures upper_bound { (result ≤ n) × (result ≤ 20000) }
 {
-    if n <= MOST {
-        return n;
-    }
-    MOST
+    if n <= MOST { n } else { MOST }
 }
 
 // Whether the record with the index i has the system identifier k.
 fn named_at(names: &Names, k: usize, bytes: &[u8], i: usize) -> bool
-    requires names_lent { NamesLent names.now }
-    requires i_bound { i < records_of bytes.now }
+    requires { i < records_of bytes.now }
     ensures { result ≡ named_at k bytes.now i }
 {
     let f = field(bytes, i * 81);
-    let name = identifier_of(names, f);
+    let name = names.identifier_of(f);
     name == k
 }
 
 // The index of the first ENDENTRY among n records, or n.
 fn end_of(names: &Names, bytes: &[u8], n: usize) -> usize
-    requires names_lent { NamesLent names.now }
-    requires n_value { n ≡ records_of bytes.now }
+    requires { n ≡ records_of bytes.now }
     ensures { result ≡ end_of bytes.now }
 {
-    let mut i = 0;
-    while i < n {
+    for i in 0..n {
         if named_at(names, ENDENTRY, bytes, i) {
             return i;
         }
-        i += 1;
     }
     n
 }
@@ -56,7 +48,7 @@ pub fn entry_records(bytes: &[u8]) -> usize
     if n == 0 {
         return 0;
     }
-    let names = names();
+    let names = Names::new();
     if !named_at(&names, ENTRY, bytes, 0) {
         return 0;
     }

@@ -2,7 +2,6 @@
 // entries have ended, and how many records the entry in hand has before this one.
 ghost use Rattle.std.specs.Prelude.{◌≡◌, ◌<◌};
 ghost use Rattle.paper_record.specs.Columns.{Whole};
-ghost use Rattle.paper_record.specs.Identifier.{NamesLent};
 ghost use Rattle.paper_files.specs.File.{name_of, file_role, file_role_in, begins, ordinal_of, MOST-IN-FILE};
 ghost use Rattle.paper_files.specs.declared.types.Stage.TheVariants.{Within};
 ghost use Rattle.paper_files.specs.Numbers.{numbers_of, stage_after};
@@ -10,7 +9,7 @@ ghost use Rattle.paper_files.specs.Numbers.{numbers_of, stage_after};
 use columns::fields::field;
 use paper_files::types::Stage;
 use paper_record::types::Index;
-use record_names::identifier::{ENDTRANS, ENTRY, Names, OTHER, TRANS, identifier_of};
+use record_names::identifier::{ENDTRANS, ENTRY, Names, OTHER, TRANS};
 use rules_roles::roles::NOT_DUE;
 use rules_state::state::MOST_RECORDS;
 
@@ -19,18 +18,16 @@ pub const OF_ENTRY: usize = OTHER + 9;
 
 // The system identifier of a record.
 fn name_of(names: &Names, rec: &[u8]) -> usize
-    requires names_lent { NamesLent names.now }
-    requires whole { Whole rec.now }
+    requires { Whole rec.now }
     ensures { result ≡ name_of rec.now }
 {
     let f = field(rec, 0);
-    identifier_of(names, f)
+    names.identifier_of(f)
 }
 
 // The role of a record between TRANS and ENDTRANS. Its name is looked at between two entries only.
 fn role_within(entries: u32, own: Index, names: &Names, rec: &[u8]) -> usize
-    requires names_lent { NamesLent names.now }
-    requires whole { Whole rec.now }
+    requires { Whole rec.now }
     ensures { result ≡ file_role_in Within (numbers_of Within entries own) (name_of rec.now) }
 {
     if own.0 == 0 {
@@ -50,8 +47,7 @@ fn role_within(entries: u32, own: Index, names: &Names, rec: &[u8]) -> usize
 }
 
 pub fn role_of(stage: Stage, entries: u32, own: Index, names: &Names, rec: &[u8]) -> usize
-    requires names_lent { NamesLent names.now }
-    requires whole { Whole rec.now }
+    requires { Whole rec.now }
     ensures { result ≡ file_role (numbers_of stage entries own) rec.now }
 {
     match stage {
@@ -69,8 +65,7 @@ pub fn role_of(stage: Stage, entries: u32, own: Index, names: &Names, rec: &[u8]
 
 // Whether an entry begins with the record, where none is in hand.
 fn begins(stage: Stage, names: &Names, rec: &[u8]) -> bool
-    requires names_lent { NamesLent names.now }
-    requires whole { Whole rec.now }
+    requires { Whole rec.now }
     ensures { result ≡ begins (numbers_of stage 0 (record { 0 = 0 })) rec.now }
 {
     match stage {
@@ -85,7 +80,6 @@ fn begins(stage: Stage, names: &Names, rec: &[u8]) -> bool
 
 // The ordinal of the entry that the record belongs to, 0 where it belongs to none.
 pub fn ordinal_of(stage: Stage, entries: u32, own: Index, names: &Names, rec: &[u8]) -> u32
-    requires names_lent { NamesLent names.now }
     requires whole { Whole rec.now }
     requires entries_bound { entries < MOST-IN-FILE }
     ensures { result ≡ ordinal_of (numbers_of stage entries own) rec.now }

@@ -11,9 +11,8 @@ use lib.ListN.{length, drop, length-append, length-drop}
 use Rattle.laws.specs.Blocks.{joined}
 use Rattle.paper_record.specs.Fields.{fields_of}
 use Rattle.paper_record.specs.Identifier.{ENTRY, TRANS, ENDTRANS}
-use Rattle.paper_faults.specs.declared.types.Fault.TheVariants.{At}
 use Rattle.paper_rules.specs.Roles.{NOT-DUE}
-use Rattle.paper_faults.specs.Fault.{Finding, first_fault}
+use Rattle.paper_faults.specs.Fault.{Finding, first_fault, fault_at}
 use Rattle.paper_rules.specs.State.{start_context}
 use Rattle.paper_rules.specs.Limits.{MOST-RECORDS}
 use Rattle.paper_rules.specs.Role.{only, role_in}
@@ -55,7 +54,7 @@ unfolding judge_file
 length-said s e = rw e refl
 
 least-outside : (entries role : ℕ) (r : List ℕ) (n k : ℕ) → FoundOutside entries role r n k
-    → first_fault (outside_findings entries role (fields_of r) r) ≡ At n k
+    → first_fault (outside_findings entries role (fields_of r) r) ≡ fault_at n k
 least-outside entries role r n k l =
     least_first (outside_findings entries role (fields_of r) r) (outside-rises entries role (fields_of r) r) n k l
 
@@ -78,7 +77,7 @@ unfolding role_in
 no-entry r other = rw (ne_eqb (name_of r) ENTRY other) refl
 
 undue-fault : (r : List ℕ) (n k : ℕ) → (name_of r ≡ ENTRY → ⊥) → BehindEnd r n k
-    → first_fault (found_in start_context r) ≡ At n k
+    → first_fault (found_in start_context r) ≡ fault_at n k
 undue-fault r n k other b = rw (no-entry r other) (behind-fault r _ n k b)
 
 module _ (s : List ℕ) (es : List (List ℕ)) (rest : List ℕ) (good : file_length_good (length s) ≡ true)

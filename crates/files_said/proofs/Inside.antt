@@ -14,8 +14,7 @@ use Rattle.laws.specs.Blocks.{block_at}
 use Rattle.laws.proofs.Blocks.{next-block}
 use Rattle.paper_record.specs.Fields.{fields_of}
 use Rattle.paper_record.specs.Identifier.{ENTRY, ENDTRANS}
-use Rattle.paper_faults.specs.declared.types.Fault.TheVariants.{Fine, At}
-use Rattle.paper_faults.specs.Fault.{first_fault}
+use Rattle.paper_faults.specs.Fault.{first_fault, fault_at, faultless}
 use Rattle.paper_rules.specs.declared.types.Totals.{Totals}
 use Rattle.paper_rules.specs.State.{Context, start_context}
 use Rattle.paper_rules.specs.Limits.{MOST-RECORDS}
@@ -37,11 +36,11 @@ use Rattle.files_said.proofs.Turns.{ordinal-inside, ordinal-begun}
 
 -- what is found on a record in its context, as its first fault
 module _ (c : Context) (r : List ℕ) where
-  found_none : Nothing (found_in c r) → first_fault (found_in c r) ≡ Fine
+  found_none : Nothing (found_in c r) → first_fault (found_in c r) ≡ faultless
   unfolding fault_of
   found_none h = nothing-fine c.track c.seen (role_of c r) (fields_of r) r h
 
-  found-least : (n k : ℕ) → Least (found_in c r) n k → first_fault (found_in c r) ≡ At n k
+  found-least : (n k : ℕ) → Least (found_in c r) n k → first_fault (found_in c r) ≡ fault_at n k
   unfolding fault_of
   found-least n k l = least-fault c.track c.seen (role_of c r) (fields_of r) r n k l
 

@@ -1,6 +1,7 @@
 -- The verdict on a file is such as is said: record by record, something is met that can be said of the file, and what
 -- is said of it is the verdict.
 -- Assumes nothing.
+use Rattle.std.specs.Prelude.{Ok, Err}
 use Prim.Native.Nat.{ℕ, zero, suc, ◌+◌, ◌*◌, ◌/◌, ◌<◌, ◌≤◌}
 use mathlib.Core.Path.{◌≡◌, refl, sym, ◌∙◌, ap, subst}
 use mathlib.Core.Bool.{Bool, true, false}
@@ -14,9 +15,7 @@ use Rattle.laws.specs.Blocks.{joined}
 use Rattle.laws.proofs.Listing.{all_append, joined-one}
 use Rattle.paper_record.specs.Fields.{fields_of}
 use Rattle.paper_record.specs.Identifier.{ENTRY, TRANS, ENDTRANS}
-use Rattle.paper_faults.specs.declared.types.Fault.{Fault}
-use Rattle.paper_faults.specs.declared.types.Fault.TheVariants.{Fine, At}
-use Rattle.paper_faults.specs.Fault.{first_fault}
+use Rattle.paper_faults.specs.Fault.{first_fault, Checked, fault_at, faultless}
 use Rattle.paper_rules.specs.Role.{only}
 use Rattle.paper_rules.specs.Every.{rule4}
 use Rattle.paper_faults.specs.Least.{Nothing}
@@ -37,14 +36,14 @@ use Rattle.files_said.proofs.EntryTold.{Told, entry-told}
 -- ---- a record that belongs to no entry
 
 module _ (entries role : ℕ) (r : List ℕ) where
-  abbrev fault : Fault
+  abbrev fault : Checked
   fault = first_fault (outside_findings entries role (fields_of r) r)
 
-  found-outside : (n k : ℕ) → fault ≡ At n k → FoundOutside entries role r n k
+  found-outside : (n k : ℕ) → fault ≡ fault_at n k → FoundOutside entries role r n k
   found-outside n k e =
       first-least 1 (outside_findings entries role (fields_of r) r) (outside-rises entries role (fields_of r) r) n k e
 
-  none-outside : fault ≡ Fine → Nothing (outside_findings entries role (fields_of r) r)
+  none-outside : fault ≡ faultless → Nothing (outside_findings entries role (fields_of r) r)
   none-outside e =
       first-nothing (outside_findings entries role (fields_of r) r) (outside-rises entries role (fields_of r) r) e
 
@@ -110,13 +109,13 @@ module _ (s : List ℕ) (es : List (List ℕ)) (rest : List ℕ) (good : file_le
     ending-told : length rest ≡ length rest / 81 * 81 → Told s
     ending-told long = by-fault (fault (length es) ENDTRANS (record_at rest 0)) refl
       where
-        by-fault : (x : Fault) → fault (length es) ENDTRANS (record_at rest 0) ≡ x → Told s
-        by-fault Fine e =
+        by-fault : (x : Checked) → fault (length es) ENDTRANS (record_at rest 0) ≡ x → Told s
+        by-fault (Ok u) e =
             behind-told (closed (none-outside (length es) ENDTRANS (record_at rest 0) e)) (drop 81 rest) split
             (simp length-drop (omega arith))
-        by-fault (At n k) e =
-            let l = found-outside (length es) ENDTRANS (record_at rest 0) n k e in
-            (_, at_ending es rest n k good b there some named l)
+        by-fault (Err fault) e =
+            let l = found-outside (length es) ENDTRANS (record_at rest 0) fault.number fault.column e in
+            (_, at_ending es rest fault.number fault.column good b there some named l)
 
   -- ---- at any record that no entry has before it
 
@@ -182,8 +181,8 @@ opening-told s good = by-fault (fault 0 (only TRANS (name_of r)) r) refl
     r : List ℕ
     r = record_at s 0
 
-    by-fault : (x : Fault) → fault 0 (only TRANS (name_of (record_at s 0))) (record_at s 0) ≡ x → Told s
-    by-fault Fine e =
+    by-fault : (x : Checked) → fault 0 (only TRANS (name_of (record_at s 0))) (record_at s 0) ≡ x → Told s
+    by-fault (Ok u) e =
         let w = whole-file (length s) good in
         let some = w.some in
         let long = w.whole in
@@ -197,7 +196,7 @@ opening-told s good = by-fault (fault 0 (only TRANS (name_of r)) r) refl
         told-from (length s / 81) s [] (drop 81 s) good
         (record { opening = take 81 s; same = sym (take-append-drop 81 s); opens = opens; each = tt })
         (simp length-drop (omega arith)) (simp length-drop (omega arith))
-    by-fault (At n k) e = (_, at_opening n k good (found-outside 0 (only TRANS (name_of r)) r n k e))
+    by-fault (Err fault) e = (_, at_opening fault.number fault.column good (found-outside 0 (only TRANS (name_of r)) r fault.number fault.column e))
 
 told : (s : List ℕ) → Told s
 told s = by-length-test (file_length_good (length s)) refl

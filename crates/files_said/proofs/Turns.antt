@@ -12,9 +12,8 @@ use Rattle.laws.proofs.Booleans.{and_none}
 use Rattle.paper_record.specs.Places.{record_of}
 use Rattle.paper_record.specs.Fields.{fields_of}
 use Rattle.paper_record.specs.Identifier.{ENTRY, TRANS, ENDTRANS}
-use Rattle.paper_faults.specs.declared.types.Fault.TheVariants.{Fine, At}
 use Rattle.paper_rules.specs.Roles.{NOT-DUE}
-use Rattle.paper_faults.specs.Fault.{first_fault}
+use Rattle.paper_faults.specs.Fault.{first_fault, fault_at, faultless}
 use Rattle.paper_rules.specs.declared.types.Totals.{Totals}
 use Rattle.paper_rules.specs.State.{Context, start_context}
 use Rattle.paper_rules.specs.Limits.{MOST-RECORDS}
@@ -48,23 +47,23 @@ unfolding file_turn file_findings file_after
 turn-outside f r role e o = rw (e, o) refl
 
 module _ (f : FileContext) (r : List ℕ) where
-  pub inside-go : file_role f r ≡ OF-ENTRY → first_fault (found_in f.entry r) ≡ Fine
+  pub inside-go : file_role f r ≡ OF-ENTRY → first_fault (found_in f.entry r) ≡ faultless
       → file_turn f 0 r ≡ go (behind_entry f (behind f.entry r))
   inside-go e h = turn_inside f r e ∙ rw h refl
 
   pub inside-out : (o n k : ℕ) → file_role f r ≡ OF-ENTRY → ordinal_of f r ≡ o
-      → first_fault (found_in f.entry r) ≡ At n k
+      → first_fault (found_in f.entry r) ≡ fault_at n k
       → file_turn f 0 r ≡ out (refused_within o n (record_of f.records) k)
   inside-out o n k e q h = turn_inside f r e ∙ rw (h, q) refl
 
   pub outside-go : (role : ℕ) → file_role f r ≡ role → eqb role OF-ENTRY ≡ false
-      → first_fault (outside_findings f.entries role (fields_of r) r) ≡ Fine
+      → first_fault (outside_findings f.entries role (fields_of r) r) ≡ faultless
       → file_turn f 0 r ≡ go (cond (eqb role TRANS) (at_stage f Within) (at_stage f Behind))
   outside-go role e o h = turn-outside f r role e o ∙ rw h refl
 
   pub outside-out : (role : ℕ) → file_role f r ≡ role → eqb role OF-ENTRY ≡ false
       → (o n k : ℕ) → ordinal_of f r ≡ o
-      → first_fault (outside_findings f.entries role (fields_of r) r) ≡ At n k
+      → first_fault (outside_findings f.entries role (fields_of r) r) ≡ fault_at n k
       → file_turn f 0 r ≡ out (refused_within o n (record_of f.records) k)
   outside-out role e o p n k q h = turn-outside f r role e o ∙ rw (h, q) refl
 

@@ -21,8 +21,7 @@ use Rattle.paper_record.specs.Word.{blank_to}
 use Rattle.paper_record.specs.Identifier.{TRANS, ENDTRANS, OTHER}
 use Rattle.paper_record.specs.PlainNames.{Named}
 use Rattle.paper_record.proofs.PlainNames.{name-exactly}
-use Rattle.paper_record.specs.declared.types.Count.{Count}
-use Rattle.paper_record.specs.declared.types.Count.TheVariants.{Number, Bad}
+use Rattle.std.proofs.Common.{Option, Some, None}
 use Rattle.paper_record.specs.System.{count_of, is_count, number_of, is_date}
 use Rattle.paper_record.specs.Plain.{CapitalOrDigit, CountSays}
 use Rattle.paper_record.proofs.PlainColumns.{blank-exactly}
@@ -141,9 +140,9 @@ trans-exactly entries r = (
 a_count : (f : List ℕ) (n : ℕ) → is_count (count_of f) ≡ true → number_of (count_of f) ≡ n → CountSays 11 f n
 a_count f n e q = (count-exactly 11 f n).0 (by_count (count_of f) e q)
   where
-    by_count : (x : Count) → is_count x ≡ true → number_of x ≡ n → x ≡ Number n
-    by_count (Number m) h z = ap Number z
-    by_count Bad h z = no h
+    by_count : (x : Option ℕ) → is_count x ≡ true → number_of x ≡ n → x ≡ Some n
+    by_count (Some m) h z = ap Some z
+    by_count None h z = no h
 
 pub endtrans-exactly : EndtransExactly
 unfolding rule7_outside rule8_outside
@@ -159,7 +158,7 @@ endtrans-exactly entries r = (
         counted = rw (field-of r 1 (omega arith)) at (a_count (n1 fs) entries form count);
       },
   λ g.
-      let e : count_of (field_at r 1) ≡ Number entries = (count-exactly 11 (field_at r 1) entries).1 g.counted in
+      let e : count_of (field_at r 1) ≡ Some entries = (count-exactly 11 (field_at r 1) entries).1 g.counted in
       said-outer ENDTRANS entries r (omega arith) g.outer (rw (field-of r 1 (omega arith), e) refl)
       (rw (field-of r 1 (omega arith), e, eq-eqb entries entries refl) refl),
 )

@@ -1,10 +1,10 @@
 -- One record of a file by numbers: what the code does, and not read against the paper. That the next state stands for
 -- the next context of the definitions is the law `state-next`.
-use Rattle.std.specs.Prelude.{ℕ, ◌+◌, ◌*◌, ◌-◌, ◌<◌, ◌≤◌, ◌≡◌, cond, List, eqb, take, drop}
+use Rattle.paper_faults.specs.declared.types.Fault.{Fault}
+use Rattle.paper_faults.specs.Fault.{Checked, faultless}
+use Rattle.std.specs.Prelude.{ℕ, ◌+◌, ◌*◌, ◌-◌, ◌<◌, ◌≤◌, ◌≡◌, cond, List, eqb, take, drop, Result, Ok, Err}
 use Rattle.paper_record.specs.Columns.{Whole}
 use Rattle.paper_record.specs.Fields.{fields_of}
-use Rattle.paper_faults.specs.declared.types.Fault.{Fault}
-use Rattle.paper_faults.specs.declared.types.Fault.TheVariants.{Fine, At}
 use Rattle.paper_rules.specs.Roles.{Role}
 use Rattle.paper_rules.specs.Record.{Record}
 use Rattle.paper_rules.specs.declared.types.Totals.{Totals}
@@ -100,15 +100,20 @@ next_state before f r =
 
 -- ---- one record: its fault, and the state after it; a record at fault leaves the state as it was
 
-abbrev pub onwards : Fault → File → File → File
-onwards Fine f next = next
-onwards (At number column) f next = f
+abbrev pub onwards : Checked → File → File → File
+onwards (Ok _) f next = next
+onwards (Err fault) f next = f
 
-abbrev pub step_for : Fault → File → File → FileStep
+abbrev pub step_for : Checked → File → File → FileStep
 step_for fault f next = record { fault = fault; next = onwards fault f next }
 
+-- what the step of the entry's judge comes to
+abbrev pub entered : File → Result Judge Fault → FileStep
+entered f (Ok next) = record { fault = faultless; next = behind_state f next }
+entered f (Err fault) = record { fault = Err fault; next = f }
+
 unfoldable pub step_entry : List ℕ → File → Record → FileStep
-step_entry before f r = let s = step_of before f.judge r in step_for s.fault f (behind_state f s.next)
+step_entry before f r = entered f (step_of before f.judge r)
 
 unfoldable pub step_outside : Role → File → Record → FileStep
 step_outside role f r = step_for (outside_fault f.entries role (fields_of r) r) f (state_outside role f)

@@ -24,7 +24,7 @@ pub struct File {
 // The fault of a record, and the state before it; or the state further on.
 #[derive(Clone, Copy)]
 pub struct FileStep {
-    pub fault: Fault,
+    pub fault: Result<(), Fault>,
     pub next: File,
 }
 

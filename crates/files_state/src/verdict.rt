@@ -1,7 +1,6 @@
 // What a verdict on a file takes from the state: the ordinal at a fault, and all of it behind the last record.
 ghost use Rattle.std.specs.Prelude.{◌≡◌, [], ◌≤◌, ◌<◌};
 ghost use Rattle.paper_record.specs.Columns.{Whole};
-ghost use Rattle.paper_record.specs.Identifier.{NamesLent};
 ghost use Rattle.paper_files.specs.File.{MOST-IN-FILE, ordinal_of, file_end};
 ghost use Rattle.files_state.specs.ByNumbers.{context_of};
 
@@ -14,7 +13,6 @@ use record_names::identifier::Names;
 impl File {
     // The ordinal of the entry that the record belongs to, 0 where it belongs to none.
     pub fn ordinal(self, names: &Names, rec: &[u8]) -> u32
-        requires names_lent { NamesLent names.now }
         requires whole { Whole rec.now }
         requires entries_bound { self.entries < MOST-IN-FILE }
         ensures { result ≡ ordinal_of (context_of [] self) rec.now }

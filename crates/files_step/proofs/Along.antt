@@ -1,5 +1,8 @@
 -- What the loop over a file keeps: the state stands before the record in hand, and the walk of the definitions that is
 -- left from its context comes to the verdict. Assumes nothing.
+use Rattle.std.specs.Prelude.{Err}
+use Rattle.paper_faults.specs.declared.types.Fault.{Fault}
+use Rattle.paper_faults.specs.Fault.{Checked, faultless}
 use Prim.Native.Nat.{ℕ, ◌+◌, ◌*◌, ◌-◌, ◌/◌, ◌<◌, ◌≤◌}
 use mathlib.Core.Path.{◌≡◌, refl, sym, ◌∙◌, ap, subst}
 use mathlib.Core.Bool.{Bool, true, false, cond}
@@ -16,8 +19,6 @@ use Rattle.laws.proofs.Turns.{Run, run-all, run-next, run_out, run-done}
 use Rattle.paper_record.specs.Columns.{Whole}
 use Rattle.paper_record.specs.Places.{record_of}
 use Rattle.paper_record.specs.declared.types.RecordNo.{RecordNo}
-use Rattle.paper_faults.specs.declared.types.Fault.{Fault}
-use Rattle.paper_faults.specs.declared.types.Fault.TheVariants.{Fine, At}
 use Rattle.paper_entry.specs.declared.types.Verdict.{Verdict}
 use Rattle.paper_entry.specs.Verdict.{refused_within}
 use Rattle.paper_entry.proofs.Lengths.{whole-up-to}
@@ -108,10 +109,10 @@ module _ {s : List ℕ} {i : ℕ} {f : File} (a : Along s i f) where
             sym (one_more s i (own_records f) (own_records g) own-few (omega arith))
 
     -- a record at fault is the verdict
-    pub along-out : {number column ordinal : ℕ} {at : RecordNo}
-        → file_fault (context_of (own_bytes s i f) f) (block_at 81 s i) ≡ At number column
+    pub along-out : {fault : Fault} {ordinal : ℕ} {at : RecordNo}
+        → file_fault (context_of (own_bytes s i f) f) (block_at 81 s i) ≡ Err fault
         → ordinal ≡ ordinal_of (context_of [] f) (block_at 81 s i) → at ≡ record_of f.records
-        → refused_within ordinal number at column ≡ judge_file s
+        → refused_within ordinal fault.number at fault.column ≡ judge_file s
     unfolding file_turn ordinal_of
     along-out e o n = rw (o, n) (run_out a.rest there (rw e refl))
 
@@ -125,13 +126,13 @@ module _ {s : List ℕ} {i : ℕ} {f : File} (a : Along s i f) where
       unfolding file_step_of
       found = ap (λ (y : FileStep). y.fault) same
 
-      moved : x.fault ≡ Fine → x.next ≡ next_state before f rec
+      moved : x.fault ≡ faultless → x.next ≡ next_state before f rec
       unfolding file_step_of
       moved e =
           ap (λ (y : FileStep). y.next) same
-          ∙ ap (λ (y : Fault). onwards y f (next_state before f rec)) (sym found ∙ e)
+          ∙ ap (λ (y : Checked). onwards y f (next_state before f rec)) (sym found ∙ e)
 
-      pub along-next : x.fault ≡ Fine → Along s (i + 1) x.next
+      pub along-next : x.fault ≡ faultless → Along s (i + 1) x.next
       unfolding file_turn
       along-next e =
           let n = state-next before rec f a.stood here record-whole in

@@ -1,4 +1,7 @@
 -- What the loop over the records of an entry keeps, and what it comes to. Assumes nothing.
+use Rattle.std.specs.Prelude.{Result, Ok, Err}
+use Rattle.paper_faults.specs.declared.types.Fault.{Fault}
+use Rattle.paper_faults.specs.Fault.{Checked, fault_at, faultless}
 use Prim.Native.Nat.{ℕ, ◌+◌, ◌*◌, ◌/◌, ◌<◌, ◌≤◌}
 use mathlib.Core.Path.{◌≡◌, refl, sym, ◌∙◌, ap, subst}
 use mathlib.Core.Bool.{Bool, true, false, cond}
@@ -7,13 +10,10 @@ use native.Mathlib.Omega.{arith}
 use lib.ListN.{length}
 use Rattle.laws.specs.Blocks.{block_at}
 use Rattle.laws.proofs.Search.{either}
-use Rattle.paper_faults.specs.declared.types.Fault.{Fault}
-use Rattle.paper_faults.specs.declared.types.Fault.TheVariants.{Fine, At}
 use Rattle.paper_rules.specs.Limits.{MOST-RECORDS}
 use Rattle.paper_rules.specs.Ranging.{Stands}
 use Rattle.paper_entry.specs.Verdict.{is_done}
 use Rattle.entry_step.specs.declared.step.Judge.{Judge}
-use Rattle.entry_step.specs.declared.step.Step.{Step}
 use Rattle.entry_step.specs.ByRanges.{step_of, Ready}
 use Rattle.paper_files.specs.declared.types.Stage.TheVariants.{Within}
 use Rattle.paper_files.specs.File.{OF-ENTRY, file_role, file_fault}
@@ -22,7 +22,7 @@ use Rattle.paper_files.proofs.Roles.{role-numbers, role-room, role-stage, role-o
 use Rattle.files_state.specs.declared.state.File.{File}
 use Rattle.files_state.specs.declared.state.FileStep.{FileStep}
 use Rattle.files_state.specs.ByNumbers.{context_of, state_on, within_state, ended_state, behind_state, onwards}
-use Rattle.files_state.specs.ByNumbers.{step_entry, step_outside, file_step_of, next_state, own_bytes, Room, FileReady}
+use Rattle.files_state.specs.ByNumbers.{entered, step_entry, step_outside, file_step_of, next_state, own_bytes, Room, FileReady}
 use Rattle.files_step.specs.Along.{Along, Ahead, Gone}
 use Rattle.files_state.proofs.Sums.{room}
 use Rattle.files_step.proofs.Steps.{entry-step, outside-step}
@@ -60,7 +60,7 @@ module _ {s : List ℕ} {f : File} {i : ℕ} {j : Judge} (o : Over s f i j) wher
   here = state_on f i j
 
   -- the entry has 20,000 records
-  pub over-full : MOST-RECORDS ≤ j.track.records.0 → Gone Fine s f (state_on f i j)
+  pub over-full : MOST-RECORDS ≤ j.track.records.0 → Gone faultless s f (state_on f i j)
   over-full h = (
     o.along,
     either f.records.0 i (λ l. l)
@@ -68,7 +68,7 @@ module _ {s : List ℕ} {f : File} {i : ℕ} {j : Judge} (o : Over s f i j) wher
   )
 
   -- the file has no further record
-  pub over_done : length s / 81 ≤ i → Gone Fine s f (state_on f i j)
+  pub over_done : length s / 81 ≤ i → Gone faultless s f (state_on f i j)
   over_done h = let b = o.begun in (o.along, omega arith)
 
   -- one record
@@ -91,48 +91,45 @@ module _ {s : List ℕ} {f : File} {i : ℕ} {j : Judge} (o : Over s f i j) wher
     step : step_entry before here rec ≡ file_step_of before here rec
     step = entry-step before here rec OF-ENTRY role refl
 
-    module _ (x : Step) (same : x ≡ step_of (own_bytes s i (state_on f i j)) j (block_at 81 s i)) where
-      found : file_fault (context_of before here) rec ≡ x.fault
-      unfolding file_step_of step_entry
-      found = ap (λ (y : FileStep). y.fault) (sym step) ∙ ap (λ (y : Step). y.fault) (sym same)
-
-      pub over-fault : (number column : ℕ) → x.fault ≡ At number column
-          → Gone (At number column) s f (state_on f i j)
-      over-fault number column e = (record { along = o.along; there = there }, found ∙ e)
-
-      moved : x.fault ≡ Fine → (step_entry before here rec).next ≡ behind_state here x.next
+    module _ (x : Result Judge Fault) (same : x ≡ step_of (own_bytes s i (state_on f i j)) j (block_at 81 s i)) where
+      stepped : step_entry before here rec ≡ entered here x
       unfolding step_entry
-      moved e = rw (← same, e) refl
+      stepped = ap (entered here) (sym same)
 
-      fine : x.fault ≡ Fine → (step_entry before here rec).fault ≡ Fine
-      unfolding step_entry
-      fine e = rw (← same) e
+      pub over-fault : (fault : Fault) → x ≡ Err fault → Gone (Err fault) s f (state_on f i j)
+      unfolding file_step_of
+      over-fault fault e =
+          let told : step_entry before here rec ≡ entered here (Err fault) = stepped ∙ ap (entered here) e in
+          (record { along = o.along; there = there }, ap (λ (y : FileStep). y.fault) (sym step ∙ told))
 
-      next : x.fault ≡ Fine → Along s (i + 1) (behind_state here x.next)
-      next e =
-          subst (λ (g : File). Along s (i + 1) g) (moved e)
-          (along-next o.along there (step_entry before here rec) step (fine e))
+      module _ (y : Judge) (e : x ≡ Ok y)
+          (stands : Stands y.track y.ranges (own_bytes s i (state_on f i j) ++ block_at 81 s i)) where
+        moved : step_entry before here rec ≡ entered here (Ok y)
+        moved = stepped ∙ ap (entered here) e
 
-      module _ (e : x.fault ≡ Fine)
-          (stands : Stands x.next.track x.next.ranges (own_bytes s i (state_on f i j) ++ block_at 81 s i)) where
-        pub over-room : Room (state_on f i j) x.next
-        over-room = room here before rec ready x.next stands
+        next : Along s (i + 1) (behind_state here y)
+        next =
+            subst (λ (g : File). Along s (i + 1) g) (ap (λ (z : FileStep). z.next) moved)
+            (along-next o.along there (step_entry before here rec) step (ap (λ (z : FileStep). z.fault) moved))
+
+        pub over-room : Room (state_on f i j) y
+        over-room = room here before rec ready y stands
 
         -- the entry ends
-        pub over-ended : is_done x.next.phase ≡ true → Gone Fine s f (behind_state (state_on f i j) x.next)
+        pub over-ended : is_done y.phase ≡ true → Gone faultless s f (behind_state (state_on f i j) y)
         unfolding behind_state
         over-ended d =
             let u = o.upto in
-            rw d (rw d at (next e), omega arith)
+            rw d (rw d at next, omega arith)
 
         -- it goes on
-        pub over-next : is_done x.next.phase ≡ false → Over s f (i + 1) x.next
+        pub over-next : is_done y.phase ≡ false → Over s f (i + 1) y
         unfolding behind_state
         over-next d =
             let u = o.upto in
             let w = over-room.own in
             record {
-              along = rw d at (next e);
+              along = rw d at next;
               begun = o.begun;
               upto = omega arith;
               within = o.within;
@@ -158,18 +155,18 @@ module _ {s : List ℕ} {f : File} (a : Ahead s f) (role : ℕ)
   unfolding file_step_of
   fault-said = ap (λ (y : FileStep). y.fault) as_said
 
-  stays : (number column : ℕ) → x.fault ≡ At number column → x.next ≡ f
+  stays : (number column : ℕ) → x.fault ≡ fault_at number column → x.next ≡ f
   unfolding file_step_of
   stays number column e =
       ap (λ (y : FileStep). y.next) as_said
-      ∙ ap (λ (y : Fault). onwards y f (next_state own-here f record-here)) (sym fault-said ∙ e)
+      ∙ ap (λ (y : Checked). onwards y f (next_state own-here f record-here)) (sym fault-said ∙ e)
 
   pub outside-gone : Gone x.fault s f x.next
   outside-gone = by-fault x.fault refl
     where
-      by-fault : (y : Fault) → x.fault ≡ y → Gone y s f x.next
-      by-fault Fine e =
+      by-fault : (y : Checked) → x.fault ≡ y → Gone y s f x.next
+      by-fault (Ok u) e =
           let n = along-next a.along a.there x as_said e in
           let c = n.counted in
           (subst (λ (k : ℕ). Along s k x.next) (sym c) n, omega arith)
-      by-fault (At number column) e = rw (stays number column e) (a, sym fault-said ∙ e)
+      by-fault (Err fault) e = rw (stays fault.number fault.column e) (a, sym fault-said ∙ e)

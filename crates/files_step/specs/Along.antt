@@ -1,10 +1,9 @@
 -- What a way over a file keeps, and what it has come to: not read against the paper.
-use Rattle.std.specs.Prelude.{ℕ, ◌*◌, ◌/◌, ◌<◌, ◌≤◌, ◌≡◌, List, length}
+use Rattle.paper_faults.specs.Fault.{Checked, fault_at}
+use Rattle.std.specs.Prelude.{ℕ, ◌*◌, ◌/◌, ◌<◌, ◌≤◌, ◌≡◌, List, length, Ok, Err}
 use Rattle.laws.specs.Turns.{Turn}
 use Rattle.laws.specs.Blocks.{block_at}
 use Rattle.laws.proofs.Turns.{Run}
-use Rattle.paper_faults.specs.declared.types.Fault.{Fault}
-use Rattle.paper_faults.specs.declared.types.Fault.TheVariants.{Fine, At}
 use Rattle.paper_entry.specs.declared.types.Verdict.{Verdict}
 use Rattle.entry_step.proofs.Stepping.{Stood}
 use Rattle.paper_files.specs.File.{FileContext, MOST-IN-FILE, file_fault, file_turn, file_end, judge_file}
@@ -34,8 +33,8 @@ pub record Ahead (s : List ℕ) (f : File) : Type 0 where
   pub there : f.records.0 < length s / 81
 
 -- from f the way has come further, to g; or to a fault of the record before which g stands
-abbrev pub Gone : Fault → List ℕ → File → File → Type 0
-Gone Fine s f g = Along s g.records.0 g × (f.records.0 < g.records.0)
-Gone (At number column) s f g =
+abbrev pub Gone : Checked → List ℕ → File → File → Type 0
+Gone (Ok _) s f g = Along s g.records.0 g × (f.records.0 < g.records.0)
+Gone (Err fault) s f g =
     Ahead s g
-    × (file_fault (context_of (own_bytes s g.records.0 g) g) (block_at 81 s g.records.0) ≡ At number column)
+    × (file_fault (context_of (own_bytes s g.records.0 g) g) (block_at 81 s g.records.0) ≡ Err fault)

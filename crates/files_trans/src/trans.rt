@@ -12,12 +12,10 @@ fn marks_in(f: [u8; 11], from: usize, n: usize) -> bool
     ensures { result ≡ marks_in f from n }
 {
     let end = from + n;
-    let mut i = from;
-    while i < end {
+    for i in from..end {
         if !is_capital_or_digit(f[i]) {
             return false;
         }
-        i += 1;
     }
     true
 }
@@ -26,10 +24,7 @@ fn marks_in(f: [u8; 11], from: usize, n: usize) -> bool
 fn is_trans_n1(f: [u8; 11]) -> bool
     ensures { result ≡ is_trans_n1 f }
 {
-    if !blank_to(f, 7) {
-        return false;
-    }
-    marks_in(f, 7, 4)
+    blank_to(f, 7) && marks_in(f, 7, 4)
 }
 
 // The fields N1 and N2 of TRANS.

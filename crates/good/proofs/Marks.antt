@@ -9,8 +9,7 @@ use Rattle.laws.proofs.Booleans.{differ}
 use Rattle.laws.specs.Walk.{All}
 use Rattle.paper_record.specs.Fields.{fields_of, n1, n2}
 use Rattle.paper_record.specs.System.{count_of, is_count, number_of}
-use Rattle.paper_record.specs.declared.types.Count.{Count}
-use Rattle.paper_record.specs.declared.types.Count.TheVariants.{Number, Bad}
+use Rattle.std.proofs.Common.{Option, Some, None}
 use Rattle.paper_record.proofs.PlainDigits.{count-exactly}
 use Rattle.paper_rules.specs.Counts.{count_n1, count_n2}
 use Rattle.rules_plain.specs.Places.{Long}
@@ -22,9 +21,9 @@ use Rattle.good.specs.Marks.{Following, CountIs}
 pub counted-says : (f : List ℕ) → is_count (count_of f) ≡ true → CountIs f (number_of (count_of f))
 counted-says f e = (count-exactly 11 f (number_of (count_of f))).0 (by_count (count_of f) refl e)
   where
-    by_count : (x : Count) → count_of f ≡ x → is_count x ≡ true → x ≡ Number (number_of x)
-    by_count (Number n) q h = refl
-    by_count Bad q h = differ (sym h)
+    by_count : (x : Option ℕ) → count_of f ≡ x → is_count x ≡ true → x ≡ Some (number_of x)
+    by_count (Some n) q h = refl
+    by_count None q h = differ (sym h)
 
 pub says-as : (f : List ℕ) (m n : ℕ) → CountIs f m → m ≡ n → CountIs f n
 says-as f m n s e = subst (λ (k : ℕ). CountIs f k) e s

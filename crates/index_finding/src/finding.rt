@@ -14,13 +14,11 @@ fn rows_before(index: &[u32], number: u32) -> usize
     ensures upper_bound { result ≤ length index.now / 5 }
 {
     let rows = index.len() / 5;
-    let mut i = 0;
-    while i < rows {
+    for i in 0..rows {
         let at = i * 5;
         if index[at] == number {
             return i;
         }
-        i += 1;
     }
     rows
 }
@@ -31,17 +29,12 @@ fn row_in(index: &[u32], before: usize) -> Row
     ensures { result ≡ row_in index.now before }
 {
     let at = before * 5;
-    let number = index[at];
-    let first = RecordNo(index[at + 1]);
-    let bib = RecordNo(index[at + 2]);
-    let common = RecordNo(index[at + 3]);
-    let data = RecordNo(index[at + 4]);
     Row {
-        number,
-        first,
-        bib,
-        common,
-        data,
+        number: index[at],
+        first: RecordNo(index[at + 1]),
+        bib: RecordNo(index[at + 2]),
+        common: RecordNo(index[at + 3]),
+        data: RecordNo(index[at + 4]),
     }
 }
 

@@ -13,13 +13,7 @@ use rules_roles::roles::{opens_section, opens_subentry};
 fn is_noted(role: usize) -> bool
     ensures { result ≡ is_noted role }
 {
-    if opens_section(role) {
-        return true;
-    }
-    if role == SUBENT {
-        return true;
-    }
-    role == NOSUBENT
+    opens_section(role) || role == SUBENT || role == NOSUBENT
 }
 
 // SUBENT and NOSUBENT begin a row.
@@ -27,9 +21,10 @@ fn row_begun(row: Row, number: u32, role: usize) -> Row
     ensures { result ≡ row_begun row number role }
 {
     if opens_subentry(role) {
-        return empty_row(number);
+        empty_row(number)
+    } else {
+        row
     }
-    row
 }
 
 // Notes a record of the subentry with a number, the last of so many, and stores its row if the record changes it.

@@ -11,13 +11,9 @@ pub fn put_row(index: &mut [u32], before: usize, row: Row)
     ensures { index.new ≡ paste index.old (before * 5) (row_numbers row) 5 }
 {
     let at = before * 5;
-    let first = row.first;
-    let bib = row.bib;
-    let common = row.common;
-    let data = row.data;
     index[at] = row.number;
-    index[at + 1] = first.0;
-    index[at + 2] = bib.0;
-    index[at + 3] = common.0;
-    index[at + 4] = data.0;
+    index[at + 1] = row.first.0;
+    index[at + 2] = row.bib.0;
+    index[at + 3] = row.common.0;
+    index[at + 4] = row.data.0;
 }

@@ -9,7 +9,7 @@ use index_noted::noted::note_row;
 use paper_record::types::RecordNo;
 use questions_noted::row::empty_row;
 use questions_system::system::system_at;
-use record_names::identifier::names;
+use record_names::identifier::Names;
 use rules_roles::roles::opens_subentry;
 
 // How many subentries there are behind a system record.
@@ -29,11 +29,12 @@ pub fn store_rows(entry: &[u8], index: &mut [u32])
     ensures { index.new ≡ over (index_of entry.now) index.old }
 {
     let n = (entry.len() / 81) as u32;
-    let names = names();
+    let names = Names::new();
     let mut hand = 0;
     let mut rows = 0;
     let mut row = empty_row(0);
     let mut i = 0;
+    // A `for` goes one record on: here each record says how many more are passed over.
     while i < n {
         let at = RecordNo(i + 1);
         let found = system_at(entry, &names, at, hand);

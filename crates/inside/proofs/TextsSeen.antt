@@ -2,6 +2,7 @@
 -- under its keyword those from the keyword's record on. So rules 10 and 11 speak of these records: no keyword of the
 -- section occurs twice, and no pointer twice under one keyword.
 -- Assumes nothing.
+use Rattle.paper_faults.specs.Fault.{faultless}
 use Prim.Native.Nat.{ℕ, zero, suc, ◌+◌, ◌*◌, ◌-◌, ◌/◌, ◌<◌, ◌≤◌}
 use mathlib.Core.Path.{◌≡◌, refl, sym, ◌∙◌, ap}
 use mathlib.Core.Bool.{Bool, true, false, cond, not, ◌||◌}
@@ -18,7 +19,6 @@ use Rattle.paper_record.specs.Fields.{fields_of}
 use Rattle.paper_record.specs.Text.{is_blank}
 use Rattle.paper_record.specs.Word.{blank_to, equal_to, is_word, pointer_of}
 use Rattle.paper_record.specs.Faults.{bad_pointer}
-use Rattle.paper_faults.specs.declared.types.Fault.TheVariants.{Fine}
 use Rattle.paper_rules.specs.declared.types.Track.{Track}
 use Rattle.paper_rules.specs.State.{Seen}
 use Rattle.paper_rules.specs.Roles.{TEXT}
@@ -45,7 +45,7 @@ use Rattle.inside.proofs.TextPlaced.{text-placed, text-behind, texts-between}
 -- ---- rules 10 and 11 on a record without fault
 
 module _ (t : Track) (seen : Seen) (role : ℕ) (fs : List (List ℕ)) (r : List ℕ)
-    (fine : fault_of t seen role fs r ≡ Fine) (text : role ≡ TEXT) (f : List ℕ) (own : get_or fs 0 [] ≡ f) where
+    (fine : fault_of t seen role fs r ≡ faultless) (text : role ≡ TEXT) (f : List ℕ) (own : get_or fs 0 [] ≡ f) where
   clean : Clean t seen role fs r
   clean = fine-clean t seen role fs r fine
 
@@ -83,7 +83,7 @@ module _ (t : Track) (seen : Seen) (role : ℕ) (fs : List (List ℕ)) (r : List
 module _ (s : List ℕ) (accepted : Accepted s) where
   fine-at : (i : ℕ) → i < length s / 81
       → fault_of (context_at s i).track (context_at s i).seen (role_at s i) (fields_of (block_at 81 s i)) (block_at 81 s i)
-      ≡ Fine
+      ≡ faultless
   fine-at i h = (go-fine (context_at s i) i (block_at 81 s i) (context_at s (suc i)) ((walked s accepted).turns i h)).0
 
   fits : (i : ℕ) → i ≤ length s / 81 → i * 81 ≤ length s

@@ -2,14 +2,22 @@
 // table of the places to which they lead.
 ghost use Rattle.std.specs.Prelude.{◌≡◌, ◌<◌};
 ghost use Rattle.paper_number.specs.Reading.{Scan, column_of, scan_step, read_field, answer};
-ghost use Rattle.paper_number.specs.Form.{form_of, form_refusal, kind_table, next_table, place_number, form_at_end, Tables};
+ghost use Rattle.paper_number.specs.Form.{form_of, form_refusal, kind_table, next_table, place_number, form_at_end};
 
 use paper_number::types::Form;
 
-// The tables are written out where they are made, so a caller makes them once and lends them.
+// The kind of each byte, and where each kind leads from each place. They are written out where they are made, so a
+// caller makes them once and lends them.
+#[derive(Drop)]
+pub struct NumberTables {
+    kinds: [u8; 256],
+    nexts: [u8; 88],
+    ghost kinds_right: { kinds ≡ kind_table },
+    ghost nexts_right: { nexts ≡ next_table },
+}
 
 // The kind of each byte: 0 a blank, 1 a digit, 2 the point, 3 a sign, 4 the E, 5 any other.
-pub fn kinds() -> [u8; 256]
+fn kinds() -> [u8; 256]
     ensures { result ≡ kind_table }
 {
     let mut kinds = [5u8; 256];
@@ -32,7 +40,7 @@ pub fn kinds() -> [u8; 256]
 }
 
 // Where a kind leads, eight entries for each place; 10 is the place from which no way leads.
-pub fn nexts() -> [u8; 88]
+fn nexts() -> [u8; 88]
     ensures { result ≡ next_table }
 {
     let mut nexts = [10u8; 88];
@@ -72,52 +80,53 @@ pub fn nexts() -> [u8; 88]
     nexts
 }
 
-fn next_place(kinds: &[u8; 256], nexts: &[u8; 88], place: u8, b: u8) -> u8
-    requires { Tables kinds.now nexts.now × (place < 11) }
-    ensures { (t : Scan) → place ≡ place_number t → result ≡ place_number (scan_step t (column_of b)) }
-{
-    let k = kinds[b as usize];
-    let at = (place as usize) * 8 + (k as usize);
-    nexts[at]
-}
-
 fn form_at(place: u8) -> Form
     ensures { result ≡ form_at_end place }
 {
-    if place == 0 {
-        return Form::Blank;
+    match place {
+        0 => Form::Blank,
+        4 | 5 | 9 => Form::Number,
+        _ => Form::Malformed,
     }
-    if place == 4 {
-        return Form::Number;
-    }
-    if place == 5 {
-        return Form::Number;
-    }
-    if place == 9 {
-        return Form::Number;
-    }
-    Form::Malformed
 }
 
-// What form the columns have, however many they are.
-pub fn form_of_columns(kinds: &[u8; 256], nexts: &[u8; 88], s: &[u8]) -> Form
-    requires { Tables kinds.now nexts.now }
-    ensures { result ≡ form_of (read_field s.now) }
-{
-    let mut place: u8 = 0;
-    let mut i = 0;
-    while i < s.len() {
-        place = next_place(kinds, nexts, place, s[i]);
-        i += 1;
+impl NumberTables {
+    pub fn new() -> Self
+        ensures kinds_right { result.kinds ≡ kind_table }
+        ensures nexts_right { result.nexts ≡ next_table }
+    {
+        NumberTables {
+            kinds: kinds(),
+            nexts: nexts(),
+        }
     }
-    form_at(place)
-}
 
-// What form a field of eleven columns has.
-pub fn form_of_field(kinds: &[u8; 256], nexts: &[u8; 88], field: [u8; 11]) -> Form
-    requires { Tables kinds.now nexts.now }
-    ensures value { result ≡ form_of (read_field field) }
-    ensures result_value { form_refusal result ≡ (answer (read_field field)).refusal }
-{
-    form_of_columns(kinds, nexts, &field)
+    // The place behind a column, from the place before it.
+    pub fn next_place(&self, place: u8, b: u8) -> u8
+        requires { place < 11 }
+        ensures { (t : Scan) → place ≡ place_number t → result ≡ place_number (scan_step t (column_of b)) }
+    {
+        let k = self.kinds[b as usize];
+        let at = (place as usize) * 8 + (k as usize);
+        self.nexts[at]
+    }
+
+    // What form the columns have, however many they are.
+    pub fn form_of_columns(&self, s: &[u8]) -> Form
+        ensures { result ≡ form_of (read_field s.now) }
+    {
+        let mut place: u8 = 0;
+        for &b in s {
+            place = self.next_place(place, b);
+        }
+        form_at(place)
+    }
+
+    // What form a field of eleven columns has.
+    pub fn form_of_field(&self, field: [u8; 11]) -> Form
+        ensures value { result ≡ form_of (read_field field) }
+        ensures result_value { form_refusal result ≡ (answer (read_field field)).refusal }
+    {
+        self.form_of_columns(&field)
+    }
 }

@@ -14,16 +14,11 @@ fn reading_of(x: Spelt) -> Reading
     requires { Small x }
     ensures { result ≡ reading_of x }
 {
-    let number = x.number;
-    let places = x.places;
-    let size = x.size;
-    if x.formed {
-        return Reading::Number(value(x.negative, number, places, x.below, size));
+    match x {
+        Spelt::Blank => Reading::Blank,
+        Spelt::Malformed => Reading::Refused(15),
+        Spelt::Number(number) => Reading::Number(value(number)),
     }
-    if x.blank {
-        return Reading::Blank;
-    }
-    Reading::Refused(15)
 }
 
 // How many digits are written there.
@@ -31,11 +26,10 @@ fn digits_spelt(x: Spelt) -> u8
     requires { Small x }
     ensures { result ≡ digits_spelt x }
 {
-    let number = x.number;
-    if x.formed {
-        return significant_digits(number);
+    match x {
+        Spelt::Blank | Spelt::Malformed => 0,
+        Spelt::Number(number) => significant_digits(number.number),
     }
-    0
 }
 
 // What a field of at most eleven columns says.
@@ -43,8 +37,7 @@ pub fn read_narrow(s: &[u8]) -> Reading
     requires { length s.now ≤ 11 }
     ensures { result ≡ read_field s.now }
 {
-    let x = spelt_in(s);
-    reading_of(x)
+    reading_of(spelt_in(s))
 }
 
 // The same of eleven columns.
@@ -80,8 +73,10 @@ pub fn read_number(s: &[u8]) -> FieldRead
     ensures reading_value { answer result.reading ≡ answer (read_number s.now) }
 {
     if s.len() != 11 {
-        let reading = Reading::Refused(40);
-        return FieldRead { reading, digits: 0 };
+        return FieldRead {
+            reading: Reading::Refused(40),
+            digits: 0,
+        };
     }
     read_columns(s)
 }

@@ -1,24 +1,27 @@
 // What the columns of a field spell.
-ghost use Rattle.std.specs.Prelude.{◌≡◌, ◌≤◌, length};
-ghost use Rattle.paper_number.specs.Walk.{unspelt, spelt};
-ghost use Rattle.paper_number.specs.Spelt.{Small};
+ghost use Rattle.std.specs.Prelude.{◌≡◌, ◌<◌, ◌≤◌, length, IfSome};
+ghost use Rattle.paper_number.specs.Walk.{Leads, spelt};
+ghost use Rattle.paper_number.specs.Spelt.{number_spelt, Small, SmallNumber};
 
 use number_walk::walk::{in_fraction, in_gap, in_signed, past_blanks, past_sign};
-use paper_number::types::Spelt;
+use paper_number::types::{Spelt, SpeltNumber};
 
-fn unspelt(blank: bool) -> Spelt
-    ensures { result ≡ unspelt blank }
+// The number that a field spells, its blanks before column i, if it is one.
+fn number_from(s: &[u8], i: usize) -> Option<SpeltNumber>
+    requires { Leads s.now i × (length s.now ≤ 11) × (i < length s.now) }
+    ensures spelt { number_spelt result ≡ spelt s.now }
+    ensures small { IfSome result SmallNumber }
 {
-    Spelt {
-        formed: false,
-        blank,
-        negative: false,
-        number: 0,
-        places: 0,
-        raised: false,
-        below: false,
-        size: 0,
-    }
+    let b = s[i];
+    let front = in_signed(s, i + past_sign(b))?;
+    let digits = in_fraction(s, front.at, front.number, front.places);
+    let exponent = in_gap(s, digits.at)?;
+    Some(SpeltNumber {
+        negative: b == b'-',
+        number: digits.number,
+        places: digits.places,
+        exponent,
+    })
 }
 
 // What a field of at most eleven columns spells.
@@ -27,40 +30,11 @@ pub fn spelt_in(s: &[u8]) -> Spelt
     ensures { (result ≡ spelt s.now) × Small result }
 {
     let i = past_blanks(s);
-    if i < s.len() {
-        let b = s[i];
-        let negative = b == 45;
-        let k = past_sign(b);
-        let f = in_signed(s, i + k);
-        let pointed = f.formed;
-        let at = f.at;
-        let first = f.number;
-        let behind = f.places;
-        if pointed {
-            let d = in_fraction(s, at, first, behind);
-            let end = d.at;
-            let number = d.number;
-            let places = d.places;
-            let x = in_gap(s, end);
-            let formed = x.formed;
-            let raised = x.raised;
-            let below = x.below;
-            let size = x.size;
-            if formed {
-                return Spelt {
-                    formed: true,
-                    blank: false,
-                    negative,
-                    number,
-                    places,
-                    raised,
-                    below,
-                    size,
-                };
-            }
-            return unspelt(false);
-        }
-        return unspelt(false);
+    if i == s.len() {
+        return Spelt::Blank;
     }
-    unspelt(true)
+    match number_from(s, i) {
+        Some(number) => Spelt::Number(number),
+        None => Spelt::Malformed,
+    }
 }

@@ -1,37 +1,41 @@
 // The decimal that sign, digits, places and exponent say.
-ghost use Rattle.std.specs.Prelude.{◌≡◌, ◌+◌, ◌<◌, ◌≤◌, ◌^◌, pos, ◌-ℤ◌};
-ghost use Rattle.paper_number.specs.Value.{signed_by, value_of};
+ghost use Rattle.std.specs.Prelude.{◌≡◌, ◌<◌, ◌≤◌, pos, ◌+ℤ◌, ◌-ℤ◌, Option, IfSome};
+ghost use Rattle.paper_number.specs.Walk.{SmallExponent};
+ghost use Rattle.paper_number.specs.Spelt.{exponent_spelt};
+ghost use Rattle.paper_number.specs.Value.{value_of};
 
 use crate::signed::difference;
 use number::value::without_zeros;
-use paper_number::types::Decimal;
+use paper_number::types::{Decimal, Exponent, SpeltNumber};
 
-pub fn value(negative: bool, number: u64, places: u32, below: bool, size: u32) -> Decimal
-    requires { (places ≤ 11) × (size < 10 ^ 8) }
-    ensures { result ≡ value_of negative number (signed_by below size -ℤ pos places) }
+// The exponent less the places behind the point, with the last zeros added.
+fn power_of(exponent: Option<Exponent>, places: u32, zeros: u32) -> i32
+    requires { IfSome exponent SmallExponent × (places ≤ 11) × (zeros < 20) }
+    ensures { result ≡ exponent_spelt exponent -ℤ pos places +ℤ pos zeros }
 {
-    if number == 0 {
+    match exponent {
+        Some(Exponent { below: true, size }) => difference(zeros, size + places),
+        Some(Exponent { below: false, size }) => difference(size + zeros, places),
+        None => difference(zeros, places),
+    }
+}
+
+pub fn value(x: SpeltNumber) -> Decimal
+    requires { (x.places ≤ 11) × IfSome x.exponent SmallExponent }
+    ensures { result ≡ value_of x.negative x.number (exponent_spelt x.exponent -ℤ pos x.places) }
+{
+    if x.number == 0 {
         return Decimal {
             negative: false,
             coefficient: 0,
             power: 0,
         };
     }
-    let t = without_zeros(number);
-    let coefficient = t.number;
-    let zeros = t.zeros;
-    if below {
-        let power = difference(zeros, size + places);
-        return Decimal {
-            negative: negative,
-            coefficient: coefficient,
-            power: power,
-        };
-    }
-    let power = difference(size + zeros, places);
+    let t = without_zeros(x.number);
+    let power = power_of(x.exponent, x.places, t.zeros);
     Decimal {
-        negative: negative,
-        coefficient: coefficient,
-        power: power,
+        negative: x.negative,
+        coefficient: t.number,
+        power,
     }
 }

@@ -3,16 +3,13 @@ ghost use Rattle.std.specs.Prelude.{◌≡◌};
 ghost use Rattle.paper_number.specs.Whole.{below_zero, whole_from, whole_read, Few};
 
 use number_spelling::spell::spelt_in;
-use paper_number::types::WholeRead;
+use paper_number::types::{Spelt, WholeRead};
 
 // Zero is not below zero, however signed.
 fn below_zero(negative: bool, number: u64) -> bool
     ensures { result ≡ below_zero negative number }
 {
-    if negative {
-        return number != 0;
-    }
-    false
+    negative && number != 0
 }
 
 // The digits behind the point have to be zeros.
@@ -20,13 +17,11 @@ fn whole_from(digits: u64, behind: u32) -> WholeRead
     ensures { result ≡ whole_from behind digits }
 {
     let mut number = digits;
-    let mut places = behind;
-    while places > 0 {
+    for _ in 0..behind {
         if number % 10 != 0 {
             return WholeRead::Broken;
         }
-        number = number / 10;
-        places -= 1;
+        number /= 10;
     }
     WholeRead::Whole(number)
 }
@@ -36,21 +31,14 @@ pub fn whole_read(field: [u8; 11]) -> WholeRead
     ensures value { result ≡ whole_read field }
     ensures few { Few result }
 {
-    let x = spelt_in(&field);
-    let formed = x.formed;
-    let raised = x.raised;
-    let negative = x.negative;
-    let number = x.number;
-    let places = x.places;
-    if formed {
-        if raised {
-            return WholeRead::Raised;
-        }
-        let below = below_zero(negative, number);
-        if below {
-            return WholeRead::Broken;
-        }
-        return whole_from(number, places);
+    let Spelt::Number(x) = spelt_in(&field) else {
+        return WholeRead::NoNumber;
+    };
+    if x.exponent.is_some() {
+        return WholeRead::Raised;
     }
-    WholeRead::NoNumber
+    if below_zero(x.negative, x.number) {
+        return WholeRead::Broken;
+    }
+    whole_from(x.number, x.places)
 }

@@ -9,8 +9,10 @@ use native.Mathlib.Omega.{arith}
 use borrow.Author.Tests.{ne_eqb}
 use lib.Dec.{eqb}
 use lib.ListN.{length, get_or, length-append}
+use Rattle.std.specs.Prelude.{Option, Some, None}
 use Rattle.paper_number.specs.declared.types.Decimal.{Decimal}
-use Rattle.paper_number.specs.Grammar.{blanks, digits_text, Sign, unsigned, signed, sign_text, open_text}
+use Rattle.paper_canonical.specs.declared.types.Exponent.{Exponent}
+use Rattle.paper_number.specs.Grammar.{blanks, digits_text, Sign, unsigned, signed, sign_text, by_sign, open_text}
 use Rattle.paper_number.specs.Grammar.{Tail, plain, power, tail_text, GoodTail, Field, write, GoodField}
 use Rattle.paper_number.specs.Value.{Normal}
 use Rattle.paper_canonical.specs.Canonical.{columns, tail_columns, past_blanks, one_more, up_to_last, span}
@@ -93,10 +95,13 @@ sign-filled : (n : Bool) → Filled (sign_text (sign_of n))
 sign-filled true = (λ e. omega arith, tt)
 sign-filled false = tt
 
-tail-filled : (t s : Bool) (n e : ℕ) → Filled (tail_text (tail_of t s n e))
-tail-filled true true n e = (λ q. omega arith, text-filled (digits_n n e))
-tail-filled true false n e = (λ q. omega arith, text-filled (digits_n n e))
-tail-filled false s n e = tt
+exponent-filled : (s : Bool) (ds : List ℕ) → Filled (tail_text (power (by_sign 0 s) ds))
+exponent-filled true ds = (λ q. omega arith, text-filled ds)
+exponent-filled false ds = (λ q. omega arith, text-filled ds)
+
+tail-filled : (x : Option Exponent) → Filled (tail_text (tail_of x))
+tail-filled (Some e) = exponent-filled e.below (digits_n e.long e.size)
+tail-filled None = tt
 
 at : (l : List ℕ) → Filled l → (i : ℕ) → i < length l → get_or l i 0 ≡ 32 → ⊥
 at [] f i h e = not-suc-le-zero h
@@ -110,13 +115,13 @@ all-filled v =
     let c = v.coefficient * 10 ^ l.zeros in
     let a = digits_n l.whole (shift l.part c) in
     let b = digits_n l.part c in
-    let t = tail_text (tail_of l.raised l.below l.long l.exponent) in
+    let t = tail_text (tail_of l.exponent) in
     both-filled (sign_text (sign_of v.negative))
     (digits_text a ++ (46 ∷ (digits_text b ++ t)))
     (sign-filled v.negative)
     (both-filled (digits_text a) (46 ∷ (digits_text b ++ t)) (text-filled a) (
       λ e. omega arith,
-      both-filled (digits_text b) t (text-filled b) (tail-filled l.raised l.below l.long l.exponent),
+      both-filled (digits_text b) t (text-filled b) (tail-filled l.exponent),
     ))
 
 pub no-blank : (v : Decimal) (i : ℕ) → i < length (canonical_text v) → get_or (canonical_text v) i 0 ≡ 32 → ⊥

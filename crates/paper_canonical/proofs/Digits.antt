@@ -1,20 +1,16 @@
 -- Digits and their numbers.
 -- Assumes nothing.
-use mathlib.Core.Path.{◌≡◌, refl, ap, ◌∙◌}
-use mathlib.Core.Bool.{Bool, true, false}
+use mathlib.Core.Path.{◌≡◌, refl, ◌∙◌}
 use mathlib.Core.List.{List, [], ◌∷◌, ◌++◌, append_assoc, append-nil}
-use Prim.Native.Nat.{ℕ, zero, suc, ◌+◌, ◌*◌, ◌/◌, ◌%◌, ◌^◌, ◌<◌, ◌≤◌}
-use native.Mathlib.Nat.{lt_of_le_of_lt, add-suc, add-zero}
+use Prim.Native.Nat.{ℕ, zero, suc, ◌+◌, ◌*◌, ◌/◌, ◌%◌, ◌^◌, ◌<◌}
+use native.Mathlib.Nat.{add-suc, add-zero}
 use native.Mathlib.Omega.{arith}
-use borrow.Author.Tests.{lt-ltb, ltb-true, ltb-false}
 use lib.ListN.{length, length-append}
-use lib.Dec.{ltb}
 use Rattle.paper_number.specs.Grammar.{Digits, digits_text, num_from, num}
-use Rattle.paper_number.proofs.Tens.{ten-suc, ten-lt}
+use Rattle.paper_number.proofs.Tens.{ten-suc}
 use Rattle.paper_number.proofs.Bounds.{text-length}
 use Rattle.paper_number.proofs.Reach.{num_from-append, digits_append}
 use Rattle.paper_canonical.specs.Closed.{digits_n, shift}
-use Rattle.paper_number.specs.Count.{count_from, count}
 
 -- ---- lists of digits, one behind the other
 

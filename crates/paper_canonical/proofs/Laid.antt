@@ -8,10 +8,12 @@ use native.Mathlib.Omega.{arith}
 use lib.ListN.{length}
 use Rattle.paper_number.specs.Grammar.{Digits, num, sign_text}
 use Rattle.paper_number.specs.Value.{digits_of}
+use Rattle.std.specs.Prelude.{Option, Some, None}
+use Rattle.paper_canonical.specs.declared.types.Exponent.{Exponent}
 use Rattle.paper_canonical.specs.declared.types.Layout.{Layout}
 use Rattle.paper_canonical.specs.Canonical.{columns, tail_columns}
 use Rattle.paper_canonical.specs.Closed.{digits_n, shift, sign_of, tail_of, laid_out}
-use Rattle.paper_canonical.specs.Storing.{one_if, layout_columns}
+use Rattle.paper_canonical.specs.Storing.{one_if, exponent_columns, layout_columns}
 use Rattle.paper_canonical.proofs.Digits.{digits_n-length, digits_n-digits, digits_n-num, digits_n-append}
 
 module _ (a b v : ℕ) where
@@ -27,9 +29,9 @@ module _ (a b v : ℕ) where
   split-length : length (digits_n a (shift b v) ++ digits_n b v) ≡ a + b
   split-length = rw split (digits_n-length (a + b) v)
 
-tail-columns : (t s : Bool) (n e : ℕ) → tail_columns (tail_of t s n e) ≡ one_if t (1 + n)
-tail-columns true s n e = rw (digits_n-length n e) refl
-tail-columns false s n e = refl
+tail-columns : (x : Option Exponent) → tail_columns (tail_of x) ≡ exponent_columns x
+tail-columns (Some e) = rw (digits_n-length e.long e.size) refl
+tail-columns None = refl
 
 pub sign-width : (n : Bool) → length (sign_text (sign_of n)) ≡ one_if n 1
 sign-width true = refl
@@ -61,13 +63,13 @@ module _ (n : Bool) (c : ℕ) (p : Layout) where
   laid-num h = split-num p.whole p.part (c * 10 ^ p.zeros) h
 
   pub laid-columns : columns (laid_out n c p)
-      ≡ length (sign_text (sign_of n)) + (p.whole + (1 + (p.part + one_if p.raised (1 + p.long))))
+      ≡ length (sign_text (sign_of n)) + (p.whole + (1 + (p.part + exponent_columns p.exponent)))
   unfolding columns laid_out
   laid-columns =
       rw (
         digits_n-length p.whole (shift p.part (c * 10 ^ p.zeros)),
         digits_n-length p.part (c * 10 ^ p.zeros),
-        tail-columns p.raised p.below p.long p.exponent,
+        tail-columns p.exponent,
       ) refl
 
   pub laid-wide : columns (laid_out n c p) ≡ layout_columns n p

@@ -19,8 +19,7 @@ use Rattle.paper_canonical.specs.Closed.{canonical_text, canonical_field}
 use Rattle.paper_canonical.specs.Replacing.{replaced_by, canonical, Formed}
 use Rattle.paper_canonical.specs.Claims.{CanonicalOne, ClosedForm, CanonicalNone, CanonicalBest, BestOne, ColumnsSpan}
 use Rattle.paper_canonical.specs.Claims.{WrittenBest, WrittenNone}
-use Rattle.paper_canonical.specs.declared.types.Written.TheVariants.{Done, Refused}
-use Rattle.paper_canonical.specs.Writing.{answered, stored_field, written, bytes}
+use Rattle.paper_canonical.specs.Writing.{answered, stored_field, written, bytes, refusal_number}
 use Rattle.paper_canonical.proofs.Theorems as Theorems
 use Rattle.paper_canonical.proofs.Characters as Characters
 use Rattle.paper_canonical.proofs.Promises as Promises
@@ -107,16 +106,16 @@ written_none l negative a p w = Promises.refused_none l (value_of negative a p) 
 
 -- by the buffer's length and the text's: done; 41; 40. "A refused call stores nothing."
 pub written-fits : (l : List ℕ) (v : Decimal) → length l ≡ 11 → length (canonical_text v) ≤ 11
-    → (written l v ≡ Done) × (bytes l v ≡ canonical_field 11 v)
+    → (refusal_number (written l v) ≡ 0) × (bytes l v ≡ canonical_field 11 v)
 unfolding written bytes answered stored_field
 written-fits l v w h = rw (w, le-leb (length (canonical_text v)) 11 h) (refl, refl)
 
 pub written-wide : (l : List ℕ) (v : Decimal) → length l ≡ 11 → 11 < length (canonical_text v)
-    → (written l v ≡ Refused 41) × (bytes l v ≡ l)
+    → (refusal_number (written l v) ≡ 41) × (bytes l v ≡ l)
 unfolding written bytes answered stored_field
 written-wide l v w h = rw (w, lt-leb (length (canonical_text v)) 11 h) (refl, refl)
 
-pub written-short : (l : List ℕ) (v : Decimal) → (length l ≡ 11 → ⊥) → (written l v ≡ Refused 40) × (bytes l v ≡ l)
+pub written-short : (l : List ℕ) (v : Decimal) → (length l ≡ 11 → ⊥) → (refusal_number (written l v) ≡ 40) × (bytes l v ≡ l)
 unfolding written bytes
 written-short l v w = rw (ne_eqb (length l) 11 w) (refl, refl)
 

@@ -10,6 +10,7 @@ use borrow.Author.Tests.{le-leb, lt-leb, eq-eqb, ne_eqb}
 use lib.ListN.{length}
 use lib.IntN.{ℤ, pos, negsuc}
 use lib.Signed.{mag}
+use Rattle.std.specs.Prelude.{Some}
 use Rattle.paper_number.specs.declared.types.Decimal.{Decimal}
 use Rattle.paper_number.specs.Value.{Normal, Value, value_of}
 use Rattle.paper_number.proofs.Laws.{value_found}
@@ -35,10 +36,7 @@ raised_long whole part zeros below long exponent =
       whole = whole;
       part = part;
       zeros = zeros;
-      raised = true;
-      below = below;
-      long = long;
-      exponent = exponent;
+      exponent = Some (record { below = below; long = long; size = exponent });
     }
 
 -- ---- a power of zero or more
@@ -135,19 +133,19 @@ module _ (c : ℕ) (h : 0 < c) (l : c < 10 ^ 20) where
   up-sound p b =
       let k = few-digits in
       each-up c h (λ (x : Layout). Sound c x) p
-      (λ m f. record { whole = omega arith; part = omega arith; zeros = m; long = omega arith; number = f })
+      (λ m f. record { whole = omega arith; part = omega arith; zeros = m; exponent = omega arith; number = f })
       (λ m x e f. record {
         whole = omega arith;
         part = omega arith;
         zeros = omega arith;
-        long = count-short (p - 1) 20 (omega arith) (omega arith);
+        exponent = omega (arith, count-short (p - 1) 20 (omega arith) (omega arith));
         number = f;
       })
       (λ m x e f. record {
         whole = omega arith;
         part = omega arith;
         zeros = omega arith;
-        long = count-short p 20 (omega arith) b;
+        exponent = omega (arith, count-short p 20 (omega arith) b);
         number = f;
       })
 
@@ -155,13 +153,13 @@ module _ (c : ℕ) (h : 0 < c) (l : c < 10 ^ 20) where
   down-sound t b =
       let k = few-digits in
       each-down c h (λ (x : Layout). Sound c x) t
-      (λ m f. record { whole = omega arith; part = omega arith; zeros = omega arith; long = omega arith; number = f })
-      (λ m n f. record { whole = omega arith; part = omega arith; zeros = omega arith; long = omega arith; number = f })
+      (λ m f. record { whole = omega arith; part = omega arith; zeros = omega arith; exponent = omega arith; number = f })
+      (λ m n f. record { whole = omega arith; part = omega arith; zeros = omega arith; exponent = omega arith; number = f })
       (λ f m x n. record {
         whole = small (count c) f k;
         part = small' (count c) f k x.few;
         zeros = omega arith;
-        long = count-short (t - f) 20 (omega arith) (under t f b);
+        exponent = let m = count-short (t - f) 20 (omega arith) (under t f b) in omega arith;
         number = n;
       })
     where
@@ -185,7 +183,7 @@ zero-layout = refl
 zero-sound : Sound 0 (layout_of (count 0) (pos 0))
 zero-sound =
     rw zero-layout
-    (record { whole = omega arith; part = omega arith; zeros = omega arith; long = omega arith; number = omega arith })
+    (record { whole = omega arith; part = omega arith; zeros = omega arith; exponent = omega arith; number = omega arith })
 
 abbrev Soundly : Decimal → Type 0
 Soundly v = Sound v.coefficient (layout_of (count v.coefficient) v.power)

@@ -1,46 +1,41 @@
 -- From what the code works out before it writes: the layout of a power by its size, and what is prepared.
 -- Assumes nothing.
-use mathlib.Core.Path.{◌≡◌, refl, sym, ap, ◌∙◌}
+use mathlib.Core.Path.{◌≡◌, refl, sym, ap, ◌∙◌, subst}
 use mathlib.Core.Bool.{Bool, true, false}
 use mathlib.Core.Logic.{⊎_elim}
-use Prim.Native.Nat.{ℕ, suc, ◌%◌, ◌<◌, ◌≤◌, ◌^◌}
+use Prim.Native.Nat.{ℕ, ◌%◌, ◌<◌, ◌^◌}
 use native.Mathlib.Nat.{mul-pos}
 use native.Mathlib.Omega.{arith}
 use lib.IntN.{ℤ, pos, negsuc, ◌+ℤ◌}
-use lib.Signed.{mag}
+use lib.Signed.{mag, lt_z}
+use lib.Dec.{T}
+use borrow.Author.Tests.{ltb-true}
+use Rattle.std.specs.Prelude.{unsigned_abs}
 use Rattle.paper_number.specs.declared.types.Decimal.{Decimal}
 use Rattle.paper_number.specs.declared.types.Trim.{Trim}
 use Rattle.paper_number.specs.Value.{zero_decimal, Value, trim, value_of}
 use Rattle.paper_number.proofs.Laws.{value_found}
 use Rattle.paper_canonical.specs.declared.types.Layout.{Layout}
-use Rattle.paper_canonical.specs.declared.types.Size.{Size}
 use Rattle.paper_canonical.specs.declared.types.Prepared.{Prepared}
 use Rattle.paper_canonical.specs.Closed.{plain_layout, layout_up, layout_down, layout_of}
 use Rattle.paper_number.specs.Count.{count}
-use Rattle.paper_canonical.specs.Storing.{size_of, prepared_of, Sound}
+use Rattle.paper_canonical.specs.Storing.{prepared_of, Sound}
 use Rattle.paper_number.proofs.Tens.{ten-pos}
 use Rattle.paper_canonical.proofs.Sizes.{more-zeros}
 use Rattle.paper_canonical.proofs.Winner.{above_zero}
 use Rattle.paper_number.proofs.Zeros.{made-value}
 use Rattle.paper_canonical.proofs.Layouts.{zero-layout, value-sound}
 
-not-both : {A : Type 0} → false ≡ true → A
-not-both e = let z : ◌≡◌ {A = ℕ} 0 1 = cc in absurd (omega arith)
-
 -- ---- the layout of a power, by its size
 
-pub size-most : (s : ℤ) (q : Size) → q ≡ size_of s → q.size ≤ suc (mag s)
-size-most (pos n) q e = omega (arith, ap (λ (t : Size). t.size) e)
-size-most (negsuc n) q e = omega (arith, ap (λ (t : Size). t.size) e)
-
 module _ (d : ℕ) where
-  pub layout-below : (s : ℤ) (q : Size) → q ≡ size_of s → q.down ≡ true → layout_down d q.size ≡ layout_of d s
-  layout-below (pos n) q e b = not-both (sym (ap (λ (t : Size). t.down) e) ∙ b)
-  layout-below (negsuc n) q e b = ap (λ (t : Size). layout_down d t.size) e
+  pub layout-below : (s : ℤ) → lt_z s (pos 0) ≡ true → layout_down d (unsigned_abs s) ≡ layout_of d s
+  layout-below (pos n) e = absurd (omega (arith, ltb-true n 0 e))
+  layout-below (negsuc n) e = refl
 
-  pub layout-above : (s : ℤ) (q : Size) → q ≡ size_of s → q.down ≡ false → layout_up d q.size ≡ layout_of d s
-  layout-above (pos n) q e b = ap (λ (t : Size). layout_up d t.size) e
-  layout-above (negsuc n) q e b = not-both (sym b ∙ ap (λ (t : Size). t.down) e)
+  pub layout-above : (s : ℤ) → lt_z s (pos 0) ≡ false → layout_up d (unsigned_abs s) ≡ layout_of d s
+  layout-above (pos n) e = refl
+  layout-above (negsuc n) e = absurd (subst T e tt)
 
 -- ---- what is prepared
 

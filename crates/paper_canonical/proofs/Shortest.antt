@@ -10,8 +10,10 @@ use borrow.Author.Tests.{leb-true, leb-false, eqb-true, eqb-false}
 use lib.Dec.{leb, eqb}
 use lib.Pow.{pow-add}
 use lib.IntN.{ℤ, pos, negsuc, ◌+ℤ◌, +ℤ_idr}
-use Rattle.paper_number.specs.Grammar.{num, minus, GoodTail, Field, GoodField}
+use Rattle.paper_number.specs.Grammar.{num, minus, by_sign, power, GoodTail, Field, GoodField}
 use Rattle.paper_number.specs.Value.{decimal, digits_of, power_of, Means}
+use Rattle.std.specs.Prelude.{Option, Some, None}
+use Rattle.paper_canonical.specs.declared.types.Exponent as T
 use Rattle.paper_canonical.specs.declared.types.Layout.{Layout}
 use Rattle.paper_canonical.specs.Canonical.{blanks_behind}
 use Rattle.paper_canonical.specs.Closed.{digits_n, plain_layout, raised_by, layout_up, layout_down, layout_of}
@@ -204,13 +206,12 @@ minus-sign : (n : Bool) → minus (sign_of n) ≡ n
 minus-sign true = refl
 minus-sign false = refl
 
-good-tail : (t s : Bool) (n e : ℕ) → (t ≡ true → 0 < n) → GoodTail (tail_of t s n e)
-good-tail true s n e h = (digits_n-digits n e, rw (digits_n-length n e) (h refl))
-good-tail false s n e h = tt
+good-tail : (s : Bool) (n e : ℕ) → 0 < n → GoodTail (power (by_sign 0 s) (digits_n n e))
+good-tail s n e h = (digits_n-digits n e, rw (digits_n-length n e) h)
 
-no-blank : (t s : Bool) (n e : ℕ) → blanks_behind (tail_of t s n e) ≡ 0
-no-blank true s n e = refl
-no-blank false s n e = refl
+no-blank : (x : Option T.Exponent) → blanks_behind (tail_of x) ≡ 0
+no-blank (Some e) = refl
+no-blank None = refl
 
 -- a field that is well formed, reads to the value, and has no blanks behind
 pub record Fine (n : Bool) (c : ℕ) (p : ℤ) (f : Field) : Type 0 where
@@ -223,14 +224,14 @@ module _ (n : Bool) (c : ℕ) (nz : c % 10 ≡ 0 → ⊥) (p : ℤ) where
   Says-value l = Fine n c p (laid_out n c l)
 
   fine : (l : Layout) → c * 10 ^ l.zeros < 10 ^ (l.whole + l.part) → 1 ≤ l.whole + l.part
-      → (l.raised ≡ true → 0 < l.long) → power_of (laid_out n c l) +ℤ pos l.zeros ≡ p → Says-value l
+      → GoodTail (tail_of l.exponent) → power_of (laid_out n c l) +ℤ pos l.zeros ≡ p → Says-value l
   unfolding laid_out
   fine l fits some e pw =
       record {
         good = record {
           digits = laid-digits n c l;
           some = rw (laid-length n c l) some;
-          tail = good-tail l.raised l.below l.long l.exponent e;
+          tail = e;
         };
         says = record {
           size = record {
@@ -242,7 +243,7 @@ module _ (n : Bool) (c : ℕ) (nz : c % 10 ≡ 0 → ⊥) (p : ℤ) where
           sign = λ z. sym (minus-sign n);
           normal = inl nz;
         };
-        right = no-blank l.raised l.below l.long l.exponent;
+        right = no-blank l.exponent;
       }
 
 pub exponent-num : (e : ℕ) → 0 < e → num (digits_n (count e) e) ≡ e
@@ -253,30 +254,24 @@ unfolding laid_out digits_n
 found n c (pos p) h nz =
     let r = counts c h in
     each-up c h (λ (l : Layout). Fine n c (pos p) (laid_out n c l)) p
-    (λ l f. fine n c nz (pos p) (plain_layout (count c + p) 0 p) f (omega (arith, r.same)) (λ z. absurd (never z))
+    (λ l f. fine n c nz (pos p) (plain_layout (count c + p) 0 p) f (omega (arith, r.same)) tt
     (pos-to false 0 0 p p (omega arith)))
-    (λ l x e f. fine n c nz (pos p) (raised_by (count c + 1) 0 1 false (p - 1)) f (omega arith) (λ z. count-pos (p - 1))
+    (λ l x e f. fine n c nz (pos p) (raised_by (count c + 1) 0 1 false (p - 1)) f (omega arith) (good-tail false (count (p - 1)) (p - 1) (count-pos (p - 1)))
     (rw (exponent-num (p - 1) (omega arith)) (pos-to false (p - 1) 0 1 p (omega arith))))
-    (λ l x e f. fine n c nz (pos p) (raised_by (count c) 0 0 false p) f (omega (arith, r.same)) (λ z. count-pos p)
+    (λ l x e f. fine n c nz (pos p) (raised_by (count c) 0 0 false p) f (omega (arith, r.same)) (good-tail false (count p) p (count-pos p))
     (rw (exponent-num p (omega arith)) (pos-to false p 0 0 p (omega arith))))
-  where
-    never : false ≡ true → ⊥
-    never e = let z : ◌≡◌ {A = ℕ} 0 1 = cc in omega arith
 found n c (negsuc q) h nz =
     let r = counts c h in
     each-down c h (λ (l : Layout). Fine n c (negsuc q) (laid_out n c l)) (suc q)
-    (λ l f. fine n c nz (negsuc q) (plain_layout (count c - suc q) (suc q) 0) f (omega arith) (λ z. absurd (never z))
+    (λ l f. fine n c nz (negsuc q) (plain_layout (count c - suc q) (suc q) 0) f (omega arith) tt
     (rw (digits_n-length (suc q) (c * 10 ^ 0)) (neg-to false 0 (suc q) 0 q (omega arith))))
-    (λ l m f. fine n c nz (negsuc q) (plain_layout 0 (suc q) 0) f (omega arith) (λ z. absurd (never z))
+    (λ l m f. fine n c nz (negsuc q) (plain_layout 0 (suc q) 0) f (omega arith) tt
     (rw (digits_n-length (suc q) (c * 10 ^ 0)) (neg-to false 0 (suc q) 0 q (omega arith))))
     (λ k l x f. fine n c nz (negsuc q) (raised_by (count c - k) k 0 true (suc q - k)) f
-    (some (count c) k r.less r.same) (λ z. count-pos (suc q - k))
+    (some (count c) k r.less r.same) (good-tail true (count (suc q - k)) (suc q - k) (count-pos (suc q - k)))
     (rw (exponent-num (suc q - k) (left (suc q) k x.less), digits_n-length k (c * 10 ^ 0))
     (neg-to true (suc q - k) k 0 q (back (suc q) k x.less))))
   where
-    never : false ≡ true → ⊥
-    never e = let z : ◌≡◌ {A = ℕ} 0 1 = cc in omega arith
-
     some : (d k l : ℕ) → d ≡ suc l → 1 ≤ d - k + k
     some d k l e = omega arith
 

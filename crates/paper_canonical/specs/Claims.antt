@@ -5,10 +5,9 @@ use Rattle.std.specs.Prelude.{◌≡◌, Bool, ◌↔◌, List, ℕ, ◌<◌, �
 use Rattle.paper_number.specs.declared.types.Decimal.{Decimal}
 use Rattle.paper_number.specs.Grammar.{Field, GoodField, write}
 use Rattle.paper_number.specs.Value.{Normal, Means, value_of}
-use Rattle.paper_canonical.specs.declared.types.Written.TheVariants.{Done, Refused}
 use Rattle.paper_canonical.specs.Canonical.{columns, span, Canonical, ExactlyOne, NoField, Best}
 use Rattle.paper_canonical.specs.Closed.{canonical_text, canonical_field}
-use Rattle.paper_canonical.specs.Writing.{written, bytes}
+use Rattle.paper_canonical.specs.Writing.{written, bytes, refusal_number}
 
 -- ---- "Of all fields reading to the value: the one with fewest columns ..", for every value and every width
 
@@ -42,11 +41,11 @@ ColumnsSpan = (f : Field) → GoodField f → span (write f) ≡ columns f
 -- writing that is done leaves the canonical field in the buffer
 abbrev pub WrittenBest : Type 0
 WrittenBest =
-    (l : List ℕ) (negative : Bool) (a : ℕ) (p : ℤ) → written l (value_of negative a p) ≡ Done
+    (l : List ℕ) (negative : Bool) (a : ℕ) (p : ℤ) → refusal_number (written l (value_of negative a p)) ≡ 0
     → Best 11 (value_of negative a p) (bytes l (value_of negative a p))
 
 -- "41 no field reads to the value", and no other
 abbrev pub WrittenNone : Type 0
 WrittenNone =
     (l : List ℕ) (negative : Bool) (a : ℕ) (p : ℤ) → length l ≡ 11
-    → (written l (value_of negative a p) ≡ Refused 41) ↔ NoField 11 (value_of negative a p)
+    → (refusal_number (written l (value_of negative a p)) ≡ 41) ↔ NoField 11 (value_of negative a p)

@@ -1,9 +1,10 @@
 -- The canonical field in closed form: by arithmetic on the count of the coefficient's digits and the power. That it
 -- wins is the law `closed-form`.
-use Rattle.std.specs.Prelude.{Bool, true, false, cond, List, [], ◌∷◌, ◌++◌, ℕ, zero, suc, ◌+◌, ◌-◌, ◌*◌, ◌/◌, ◌%◌, ◌^◌, leb, ltb, eqb, length, ℤ, pos, negsuc}
+use Rattle.std.specs.Prelude.{Bool, true, false, cond, List, [], ◌∷◌, ◌++◌, ℕ, zero, suc, ◌+◌, ◌-◌, ◌*◌, ◌/◌, ◌%◌, ◌^◌, leb, eqb, length, Option, Some, None, ℤ, pos, negsuc}
 use Rattle.paper_number.specs.declared.types.Decimal.{Decimal}
 use Rattle.paper_number.specs.Grammar.{blanks, Sign, unsigned, signed, by_sign, Tail, plain, power, Field, write}
 use Rattle.paper_number.specs.Count.{count}
+use Rattle.paper_canonical.specs.declared.types.Exponent.{Exponent}
 use Rattle.paper_canonical.specs.declared.types.Layout.{Layout}
 
 -- ---- digits of a number
@@ -22,7 +23,7 @@ shift (suc n) v = shift n (v / 10)
 
 abbrev pub plain_layout : ℕ → ℕ → ℕ → Layout
 plain_layout whole part zeros =
-    record { whole = whole; part = part; zeros = zeros; raised = false; below = false; long = 0; exponent = 0 }
+    record { whole = whole; part = part; zeros = zeros; exponent = None }
 
 abbrev pub raised_by : ℕ → ℕ → ℕ → Bool → ℕ → Layout
 raised_by whole part zeros below exponent =
@@ -30,10 +31,7 @@ raised_by whole part zeros below exponent =
       whole = whole;
       part = part;
       zeros = zeros;
-      raised = true;
-      below = below;
-      long = count exponent;
-      exponent = exponent;
+      exponent = Some (record { below = below; long = count exponent; size = exponent });
     }
 
 -- d digits and a power p of zero or more: two zeros are no longer than an exponent (`100.`), three are; where p is a
@@ -66,9 +64,9 @@ abbrev pub sign_of : Bool → Sign
 sign_of false = unsigned
 sign_of true = signed true
 
-abbrev pub tail_of : Bool → Bool → ℕ → ℕ → Tail
-tail_of true below n e = power (by_sign 0 below) (digits_n n e)
-tail_of false below n e = plain 0
+abbrev pub tail_of : Option Exponent → Tail
+tail_of (Some e) = power (by_sign 0 e.below) (digits_n e.long e.size)
+tail_of None = plain 0
 
 -- the coefficient c with its zeros behind it, laid out
 unfoldable pub laid_out : Bool → ℕ → Layout → Field
@@ -78,7 +76,7 @@ laid_out negative c p =
       sign = sign_of negative;
       whole = digits_n p.whole (shift p.part (c * 10 ^ p.zeros));
       part = digits_n p.part (c * 10 ^ p.zeros);
-      tail = tail_of p.raised p.below p.long p.exponent;
+      tail = tail_of p.exponent;
     }
 
 unfoldable pub shortest : Decimal → Field

@@ -13,12 +13,10 @@ use Rattle.paper_number.specs.declared.types.Reading.TheVariants as R
 use Rattle.paper_number.specs.Grammar.{blanks, write}
 use Rattle.paper_number.specs.Value.{decimal, trim_from, trim, value_of}
 use Rattle.paper_number.specs.Reading.{finish, read_field, read_number}
-use Rattle.paper_canonical.specs.declared.types.Written.{Written}
-use Rattle.paper_canonical.specs.declared.types.Written.TheVariants.{Done, Refused}
 use Rattle.paper_canonical.specs.Closed.{digits_n, shift, layout_up, layout_down, laid_out, shortest}
 use Rattle.paper_number.specs.Count.{count_from, count}
 use Rattle.paper_canonical.specs.Closed.{canonical_text, canonical_field}
-use Rattle.paper_canonical.specs.Writing.{answered, stored_field, written, bytes}
+use Rattle.paper_canonical.specs.Writing.{answered, stored_field, written, bytes, refusal_number}
 
 -- ---- texts
 
@@ -43,22 +41,23 @@ pub data MarkedRow : Type 0 where
 
 pub data Outcome : Type 0 where
   read : Reading → Outcome
-  wrote : Written → List ℕ → Outcome
+  -- the number of the answer, and what the buffer then holds
+  wrote : ℕ → List ℕ → Outcome
 
 -- the field reads to the coefficient and the power, and these are written as the canonical field
 abbrev pub said : MarkedRow → List Outcome
-said (reads t c p u) = read (R.Number (decimal false c p)) ∷ wrote Done (right u) ∷ []
+said (reads t c p u) = read (R.Number (decimal false c p)) ∷ wrote 0 (right u) ∷ []
 said (malformed t) = read (R.Refused 15) ∷ []
-said (unwritable c p) = wrote (Refused 41) buffer ∷ []
+said (unwritable c p) = wrote 41 buffer ∷ []
 
 -- what the definitions give
 abbrev pub found : MarkedRow → List Outcome
 found (reads t c p u) =
     read (read_number (right t))
-    ∷ wrote (written buffer (value_of false c p)) (bytes buffer (value_of false c p))
+    ∷ wrote (refusal_number (written buffer (value_of false c p))) (bytes buffer (value_of false c p))
     ∷ []
 found (malformed t) = read (read_number (right t)) ∷ []
-found (unwritable c p) = wrote (written buffer (value_of false c p)) (bytes buffer (value_of false c p)) ∷ []
+found (unwritable c p) = wrote (refusal_number (written buffer (value_of false c p))) (bytes buffer (value_of false c p)) ∷ []
 
 -- ---- the table
 

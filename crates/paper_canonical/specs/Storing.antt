@@ -1,17 +1,12 @@
 -- What the parts of the writer work out and store.
-use Rattle.std.specs.Prelude.{Bool, true, false, List, ◌∷◌, ◌++◌, ℕ, zero, suc, ◌+◌, ◌-◌, ◌*◌, ◌/◌, ◌%◌, ◌^◌, ◌<◌, ◌≤◌, length, take, drop, set, ℤ, pos, negsuc}
+use Rattle.std.specs.Prelude.{Bool, true, false, List, ◌∷◌, ◌++◌, ℕ, zero, suc, ◌+◌, ◌-◌, ◌*◌, ◌/◌, ◌%◌, ◌^◌, ◌<◌, ◌≤◌, length, take, drop, set, Option, Some, None}
 use Rattle.paper_number.specs.declared.types.Decimal.{Decimal}
 use Rattle.paper_number.specs.Grammar.{blanks, digits_text, write}
+use Rattle.paper_canonical.specs.declared.types.Exponent.{Exponent}
 use Rattle.paper_canonical.specs.declared.types.Layout.{Layout}
-use Rattle.paper_canonical.specs.declared.types.Size.{Size}
 use Rattle.paper_canonical.specs.declared.types.Prepared.{Prepared}
 use Rattle.paper_canonical.specs.Closed.{digits_n, shift, layout_of, laid_out}
 use Rattle.paper_number.specs.Count.{count}
-
--- the size of a power, and whether it is below zero
-abbrev pub size_of : ℤ → Size
-size_of (pos n) = record { down = false; size = n }
-size_of (negsuc n) = record { down = true; size = suc n }
 
 -- all that the closed form of a value takes
 abbrev pub prepared_of : Decimal → Prepared
@@ -28,16 +23,21 @@ abbrev pub one_if : Bool → ℕ → ℕ
 one_if true n = n
 one_if false n = 0
 
+-- how many an exponent takes, with its sign
+abbrev pub exponent_columns : Option Exponent → ℕ
+exponent_columns (Some e) = 1 + e.long
+exponent_columns None = 0
+
 -- how many a layout takes
 unfoldable pub layout_columns : Bool → Layout → ℕ
-layout_columns negative p = one_if negative 1 + (p.whole + (1 + (p.part + one_if p.raised (1 + p.long))))
+layout_columns negative p = one_if negative 1 + (p.whole + (1 + (p.part + exponent_columns p.exponent)))
 
 -- what the code's numbers bear: a layout of few columns, and a number that its digits hold
 pub record Sound (c : ℕ) (p : Layout) : Type 0 where
   pub whole : p.whole ≤ 100
   pub part : p.part ≤ 100
   pub zeros : p.zeros ≤ 2
-  pub long : p.long ≤ 20
+  pub exponent : exponent_columns p.exponent ≤ 21
   pub number : c * 10 ^ p.zeros < 10 ^ (p.whole + p.part)
 
 -- the same where the layout fits in w columns: the number fits in 64 bits

@@ -1,10 +1,9 @@
 -- What is answered of lines (document 02, M-113): "70 first, then line by line, lowest number, then leftmost column [..],
 -- named with the line; then 34 no such line, 37 buffer shorter than the lines." A good file of lines is answered by 0.
-use Rattle.std.specs.Prelude.{ℕ, ◌+◌, ◌*◌, ◌%◌, ◌≡◌, Bool, false, cond, List, eqb, leb, length}
+use Rattle.paper_faults.specs.Fault.{Checked}
+use Rattle.std.specs.Prelude.{ℕ, ◌+◌, ◌*◌, ◌%◌, ◌≡◌, Bool, false, cond, List, eqb, leb, length, Ok, Err}
 use Rattle.laws.specs.Turns.{Turn, go, out}
 use Rattle.laws.specs.Walk.{walk}
-use Rattle.paper_faults.specs.declared.types.Fault.{Fault}
-use Rattle.paper_faults.specs.declared.types.Fault.TheVariants.{Fine, At}
 use Rattle.paper_cinda.specs.declared.types.LinesAnswer.{LinesAnswer}
 use Rattle.paper_cinda.specs.Layout.{LINE, MOST-CINDA, lines_in}
 use Rattle.paper_cinda.specs.Rules.{line_fault}
@@ -22,9 +21,9 @@ abbrev pub said_of : ℕ → LinesAnswer
 said_of number = said_at number 0 0
 
 -- a line is passed, or its fault is the answer; lines are numbered from 1
-abbrev pub on_fault : ℕ → Fault → Turn (Unit {0}) LinesAnswer
-on_fault i Fine = go tt
-on_fault i (At number column) = out (said_at number (i + 1) column)
+abbrev pub on_fault : ℕ → Checked → Turn (Unit {0}) LinesAnswer
+on_fault i (Ok _) = go tt
+on_fault i (Err fault) = out (said_at fault.number (i + 1) fault.column)
 
 unfoldable pub line_turn : Unit {0} → ℕ → List ℕ → Turn (Unit {0}) LinesAnswer
 line_turn u i l = on_fault i (line_fault l)

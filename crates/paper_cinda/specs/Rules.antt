@@ -5,8 +5,7 @@
 --   sequence, 76 energy, 77 reference date not YYYYMM, month 01-12; 70 first, then line by line, lowest number, then
 --   leftmost column (for 73 to 77 the field's first), named with the line"
 use Rattle.std.specs.Prelude.{ℕ, ◌+◌, Bool, true, cond, not, ◌&&◌, ◌||◌, List, [], ◌∷◌, ◌++◌, eqb}
-use Rattle.paper_faults.specs.Fault.{Columns, when, columns_where, Finding, finding, first_fault}
-use Rattle.paper_faults.specs.declared.types.Fault.{Fault}
+use Rattle.paper_faults.specs.Fault.{Columns, when, columns_where, Finding, finding, first_fault, Checked}
 use Rattle.paper_record.specs.Text.{text, within, is_blank, is_digit, is_capital}
 use Rattle.paper_record.specs.Class.{not_permitted}
 use Rattle.paper_record.specs.Word.{equal_to}
@@ -80,5 +79,5 @@ findings l =
     ∷ finding 77 (rule77 l)
     ∷ []
 
-unfoldable pub line_fault : List ℕ → Fault
+unfoldable pub line_fault : List ℕ → Checked
 line_fault l = first_fault (findings l)

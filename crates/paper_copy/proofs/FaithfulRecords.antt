@@ -1,6 +1,7 @@
 -- The judge's turn at a copied record: it goes on to the same context, and the copy of a record is faithful to it. Of
 -- the rules only 2, 3, 5, 6, 15 and 17 are met here, and these by their laws.
 -- Assumes nothing.
+use Rattle.paper_faults.specs.Fault.{faultless}
 use Prim.Native.Nat.{ℕ, ◌+◌, ◌*◌, ◌<◌}
 use mathlib.Core.Path.{◌≡◌, refl, sym, ◌∙◌, ap}
 use mathlib.Core.Bool.{Bool, true, false, not}
@@ -20,7 +21,6 @@ use Rattle.paper_record.specs.Class.{is_permitted}
 use Rattle.paper_record.specs.Fields.{field_at, fields_of}
 use Rattle.paper_record.specs.Identifier.{identifier_of}
 use Rattle.paper_record.proofs.ReadColumns.{field-of}
-use Rattle.paper_faults.specs.declared.types.Fault.TheVariants.{Fine}
 use Rattle.paper_rules.specs.State.{Context, used}
 use Rattle.paper_rules.specs.Roles.{is_value}
 use Rattle.paper_rules.specs.Role.{role_in}
@@ -82,7 +82,7 @@ mask-flags c r k l e = mask-of-at c r k l ∙ no_flag c (role_of c r) k e
 
 -- ---- an accepted record
 
-fine : Passing turn_of (λ c i r d. fault_of c.track c.seen (role_of c r) (fields_of r) r ≡ Fine)
+fine : Passing turn_of (λ c i r d. fault_of c.track c.seen (role_of c r) (fields_of r) r ≡ faultless)
 fine c i r d h = (go-fine c i r d h).0
 
 long : Passing turn_of (λ c i r d. 80 < length r)
@@ -132,7 +132,7 @@ module _ (c : Context) (ms : List Bool) (r : List ℕ) (six : length ms ≡ 6) (
       ∙ ap (λ (b : Bool). copy_field b (field_at r k)) (flags k h e) ∙ sym (field-of r k h)
 
   -- a value record: no fault before, none now, and the same context next
-  value-kept : (i : ℕ) → is_value (role_of c r) ≡ true → fault_of c.track c.seen (role_of c r) (fields_of r) r ≡ Fine
+  value-kept : (i : ℕ) → is_value (role_of c r) ≡ true → fault_of c.track c.seen (role_of c r) (fields_of r) r ≡ faultless
       → turn_of c i (replaced copy_field ms r) ≡ go (context_after c (role_of c r) (fields_of r) r)
   value-kept i value e =
       let role = role_of c r in

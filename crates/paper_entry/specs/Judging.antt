@@ -2,7 +2,7 @@
 --
 --   "Judging: 1 comes first. Then records in order; within one record the lowest number; within that the leftmost
 --   column."
-use Rattle.std.specs.Prelude.{ℕ, ◌/◌, ◌≡◌, cond, List, [], length, get_or}
+use Rattle.std.specs.Prelude.{ℕ, ◌/◌, ◌≡◌, cond, List, [], length, get_or, Ok, Err}
 use Rattle.laws.specs.Turns.{Turn, go, out}
 use Rattle.laws.specs.Walk.{walk}
 use Rattle.laws.specs.Blocks.{blocks}
@@ -10,10 +10,8 @@ use Rattle.paper_record.specs.Places.{record_of}
 use Rattle.paper_record.specs.Fields.{fields_of}
 use Rattle.paper_record.specs.Identifier.{identifier_of}
 use Rattle.paper_record.specs.declared.types.RecordNo.{RecordNo}
-use Rattle.paper_faults.specs.declared.types.Fault.{Fault}
-use Rattle.paper_faults.specs.declared.types.Fault.TheVariants.{Fine, At}
 use Rattle.paper_rules.specs.State.{Context, start_context}
-use Rattle.paper_faults.specs.Fault.{fault_answer}
+use Rattle.paper_faults.specs.Fault.{fault_answer, Checked, fault_at}
 use Rattle.paper_rules.specs.Role.{role_in}
 use Rattle.paper_rules.specs.Order.{fault_of}
 use Rattle.paper_entry.specs.declared.types.Verdict.{Verdict}
@@ -27,13 +25,13 @@ abbrev pub role_of : Context → List ℕ → ℕ
 role_of c r = role_in c.phase c.track (identifier_of (get_or (fields_of r) 0 []))
 
 -- the verdict by the number and the column of a fault
-abbrev pub refused_by : RecordNo → Fault → Verdict
+abbrev pub refused_by : RecordNo → Checked → Verdict
 refused_by at fault = refused (fault_answer fault).number at (fault_answer fault).column
 
 -- the context after it, or the verdict
-abbrev pub on_fault : RecordNo → Fault → Context → Turn Context Verdict
-on_fault at Fine next = go next
-on_fault at (At number column) next = out (refused_by at (At number column))
+abbrev pub on_fault : RecordNo → Checked → Context → Turn Context Verdict
+on_fault at (Ok _) next = go next
+on_fault at (Err fault) next = out (refused_by at (Err fault))
 
 -- a record with its role and its six fields; its number is one more than those before it
 unfoldable pub turn_as : Context → ℕ → List (List ℕ) → List ℕ → Turn Context Verdict

@@ -1,5 +1,6 @@
 -- What is answered, exactly: 0 0 where the rules find nothing, else the least that they find. There is one least at most.
 -- Assumes nothing.
+use Rattle.std.specs.Prelude.{Ok, Err}
 use Prim.Native.Nat.{ℕ, ◌<◌, ◌≤◌}
 use mathlib.Core.Path.{◌≡◌, refl, sym, ap, ◌∙◌}
 use mathlib.Core.List.{List, [], ◌∷◌}
@@ -7,9 +8,7 @@ use mathlib.Core.Logic.{◌↔◌, inl, inr}
 use native.Mathlib.Omega.{arith}
 use lib.ListN.{length, get_or}
 use Rattle.laws.proofs.Walk.{all-at}
-use Rattle.paper_faults.specs.declared.types.Fault.{Fault}
-use Rattle.paper_faults.specs.declared.types.Fault.TheVariants.{Fine, At}
-use Rattle.paper_faults.specs.Fault.{leftmost, FaultAnswer, fault_answer, Finding, first_fault}
+use Rattle.paper_faults.specs.Fault.{leftmost, FaultAnswer, fault_answer, Finding, first_fault, Checked, fault_at, faultless}
 use Rattle.paper_faults.specs.Least.{Before, no_finding, Least, Nothing, FaultSaid, no_fault, a_fault}
 use Rattle.paper_faults.specs.Rising.{Sorted}
 use Rattle.paper_faults.proofs.Least.{first-least, first-none, Empty}
@@ -43,28 +42,28 @@ one-least fs n k m j a b = both-before n k m j (least-before fs n k m j a b) (le
 
 module _ {most last a : ℕ} (fs : List Finding) (rising : Sorted most last a fs) where
   -- where there is no fault, no rule finds anything
-  pub first-nothing : first_fault fs ≡ Fine → Nothing fs
+  pub first-nothing : first_fault fs ≡ faultless → Nothing fs
   first-nothing e = all-at Empty no_finding fs (first-none a fs rising e)
 
   -- and the other way round
-  pub nothing-first : Nothing fs → first_fault fs ≡ Fine
+  pub nothing-first : Nothing fs → first_fault fs ≡ faultless
   nothing-first none = by-fault (first_fault fs) refl
     where
-      by-fault : (x : Fault) → first_fault fs ≡ x → first_fault fs ≡ Fine
-      by-fault Fine e = e
-      by-fault (At n k) e = absurd (some-found fs n k (first-least a fs rising n k e) none)
+      by-fault : (x : Checked) → first_fault fs ≡ x → first_fault fs ≡ faultless
+      by-fault (Ok u) e = e
+      by-fault (Err fault) e = absurd (some-found fs fault.number fault.column (first-least a fs rising fault.number fault.column e) none)
 
   -- the least that is found is the fault
-  pub least_first : (n k : ℕ) → Least fs n k → first_fault fs ≡ At n k
+  pub least_first : (n k : ℕ) → Least fs n k → first_fault fs ≡ fault_at n k
   least_first n k l = by-fault (first_fault fs) refl
     where
-      by-fault : (x : Fault) → first_fault fs ≡ x → first_fault fs ≡ At n k
-      by-fault Fine e = absurd (some-found fs n k l (first-nothing e))
-      by-fault (At m j) e = let (p, q) = one-least fs m j n k (first-least a fs rising m j e) l in rw (← p, ← q) e
+      by-fault : (x : Checked) → first_fault fs ≡ x → first_fault fs ≡ fault_at n k
+      by-fault (Ok u) e = absurd (some-found fs n k l (first-nothing e))
+      by-fault (Err fault) e = let (p, q) = one-least fs fault.number fault.column n k (first-least a fs rising fault.number fault.column e) l in rw (← p, ← q) e
 
-  answered : (x : Fault) → first_fault fs ≡ x → FaultSaid fs (fault_answer x)
-  answered Fine e = no_fault (first-nothing e)
-  answered (At n k) e = a_fault n k (first-least a fs rising n k e)
+  answered : (x : Checked) → first_fault fs ≡ x → FaultSaid fs (fault_answer x)
+  answered (Ok u) e = no_fault (first-nothing e)
+  answered (Err fault) e = a_fault fault.number fault.column (first-least a fs rising fault.number fault.column e)
 
   said : {x : FaultAnswer} → FaultSaid fs x → fault_answer (first_fault fs) ≡ x
   said (no_fault none) = ap fault_answer (nothing-first none)

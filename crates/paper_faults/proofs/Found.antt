@@ -1,5 +1,6 @@
 -- What is found, as a number and a column: the least of a table is found, and comes before all that is found.
 -- Assumes nothing.
+use Rattle.std.specs.Prelude.{Ok, Err}
 use Prim.Native.Nat.{ℕ, zero, suc, ◌+◌, ◌<◌, ◌≤◌}
 use mathlib.Core.Path.{◌≡◌, refl, sym, subst, ◌∙◌}
 use mathlib.Core.Bool.{Bool, true, false, cond}
@@ -9,9 +10,7 @@ use native.Mathlib.Omega.{arith}
 use lib.ListN.{length, get_or}
 use Rattle.laws.proofs.Booleans.{differ}
 use Rattle.laws.proofs.Search.{either}
-use Rattle.paper_faults.specs.declared.types.Fault.{Fault}
-use Rattle.paper_faults.specs.declared.types.Fault.TheVariants.{Fine, At}
-use Rattle.paper_faults.specs.Fault.{Columns, when, columns_from, leftmost, Finding, first_fault}
+use Rattle.paper_faults.specs.Fault.{Columns, when, columns_from, leftmost, Finding, first_fault, Checked}
 use Rattle.paper_faults.specs.Found.{Among, Found}
 use Rattle.paper_faults.specs.Least.{Before, no_finding, Least, Nothing}
 use Rattle.paper_faults.specs.Rising.{Sorted}
@@ -90,11 +89,11 @@ pub found-least : {most last a : ℕ} (fs : List Finding) → Sorted most last a
     → ((m j : ℕ) → Found fs m j → Before n k m j) → Least fs n k
 found-least {a = a} fs rising n k h first = by-fault (first_fault fs) refl
   where
-    by-fault : (x : Fault) → first_fault fs ≡ x → Least fs n k
-    by-fault Fine e = absurd (nothing-found fs n k (first-nothing fs rising e) h)
-    by-fault (At m j) e =
-        let l = first-least a fs rising m j e in
-        let (p, q) = both-before n k m j (first m j (least-found fs m j l)) (least_first fs m j n k l h) in
+    by-fault : (x : Checked) → first_fault fs ≡ x → Least fs n k
+    by-fault (Ok u) e = absurd (nothing-found fs n k (first-nothing fs rising e) h)
+    by-fault (Err fault) e =
+        let l = first-least a fs rising fault.number fault.column e in
+        let (p, q) = both-before n k fault.number fault.column (first fault.number fault.column (least-found fs fault.number fault.column l)) (least_first fs fault.number fault.column n k l h) in
         rw (p, q) l
 
 -- ---- the column of one test, columns before others, places that meet a test

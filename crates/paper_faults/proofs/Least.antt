@@ -12,8 +12,7 @@ use borrow.Author.Tests.{eqb-true, eqb-false}
 use lib.Dec.{eqb}
 use lib.ListN.{length, get_or}
 use Rattle.laws.specs.Walk.{All}
-use Rattle.paper_faults.specs.declared.types.Fault.TheVariants.{Fine, At}
-use Rattle.paper_faults.specs.Fault.{Finding, first_fault, leftmost}
+use Rattle.paper_faults.specs.Fault.{Finding, first_fault, leftmost, fault_at, faultless, Checked, fault_answer}
 use Rattle.paper_faults.specs.Least.{Before, no_finding, Least}
 use Rattle.paper_faults.specs.Rising.{Rising, no-column, column, Sorted, no_more, also, Bounded}
 
@@ -61,8 +60,12 @@ from_one : (a k : ℕ) → (a ≡ 0 → ⊥) → a ≡ k → 1 ≤ k
 from_one zero k h e = absurd (h refl)
 from_one (suc a) k h e = omega arith
 
+-- one fault has one number and one column
+pub same-fault : (n k m j : ℕ) → fault_at n k ≡ fault_at m j → (n ≡ m) × (k ≡ j)
+same-fault n k m j e = (ap (λ (x : Checked). (fault_answer x).number) e, ap (λ (x : Checked). (fault_answer x).column) e)
+
 -- the first fault of such a table is the least
-pub first-least : {most last : ℕ} (a : ℕ) (fs : List Finding) → Sorted most last a fs → (n k : ℕ) → first_fault fs ≡ At n k → Least fs n k
+pub first-least : {most last : ℕ} (a : ℕ) (fs : List Finding) → Sorted most last a fs → (n k : ℕ) → first_fault fs ≡ fault_at n k → Least fs n k
 unfolding first_fault
 first-least a [] s n k e = let z : ◌≡◌ {A = ℕ} 0 1 = cc in absurd (omega arith)
 first-least a (f ∷ fs) (also low rising s) n k e =
@@ -80,8 +83,8 @@ first-least a (f ∷ fs) (also low rising s) n k e =
     first (suc i) j l m p c = let w = (sorted-at f.number fs s i (omega arith)).above in inl (omega arith)
 
     by-test : (t : Bool) → eqb (leftmost f.columns) 0 ≡ t
-        → cond t (first_fault fs) (At f.number (leftmost f.columns)) ≡ At n k
-        → (first_fault fs ≡ At n k → Least fs n k) → Least (f ∷ fs) n k
+        → cond t (first_fault fs) (fault_at f.number (leftmost f.columns)) ≡ fault_at n k
+        → (first_fault fs ≡ fault_at n k → Least fs n k) → Least (f ∷ fs) n k
     by-test true q h next =
         let empty : f.columns ≡ [] = none_left f.columns rising (eqb-true (leftmost f.columns) 0 q) in
         let rest : Least fs n k = next h in
@@ -94,8 +97,7 @@ first-least a (f ∷ fs) (also low rising s) n k e =
           least = λ i j l m. further i j l m empty rest;
         }
     by-test false q h next =
-        let same_number : f.number ≡ n = cc in
-        let same-column : leftmost f.columns ≡ k = cc in
+        let (same_number, same-column) = same-fault f.number (leftmost f.columns) n k h in
         record {
           at = 0;
           there = omega arith;
@@ -120,20 +122,20 @@ first-bounds a fs s n k l =
 abbrev pub Empty : Finding → Type 0
 Empty f = f.columns ≡ []
 
-pub first-none : {most last : ℕ} (a : ℕ) (fs : List Finding) → Sorted most last a fs → first_fault fs ≡ Fine → All Empty fs
+pub first-none : {most last : ℕ} (a : ℕ) (fs : List Finding) → Sorted most last a fs → first_fault fs ≡ faultless → All Empty fs
 unfolding first_fault
 first-none a [] s e = tt
 first-none a (f ∷ fs) (also low rising s) e =
     by-test (eqb (leftmost f.columns) 0) refl e (first-none f.number fs s)
   where
     by-test : (t : Bool) → eqb (leftmost f.columns) 0 ≡ t
-        → cond t (first_fault fs) (At f.number (leftmost f.columns)) ≡ Fine
-        → (first_fault fs ≡ Fine → All Empty fs) → Empty f × All Empty fs
+        → cond t (first_fault fs) (fault_at f.number (leftmost f.columns)) ≡ faultless
+        → (first_fault fs ≡ faultless → All Empty fs) → Empty f × All Empty fs
     by-test true q e next = (none_left f.columns rising (eqb-true (leftmost f.columns) 0 q), next e)
     by-test false q e next = let z : ◌≡◌ {A = ℕ} 0 1 = cc in absurd (omega arith)
 
 -- and the other way round
-pub none_first : (fs : List Finding) → All Empty fs → first_fault fs ≡ Fine
+pub none_first : (fs : List Finding) → All Empty fs → first_fault fs ≡ faultless
 unfolding first_fault
 none_first [] h = refl
 none_first (f ∷ fs) h = rw h.0 (none_first fs h.1)

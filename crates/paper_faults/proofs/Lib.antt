@@ -5,3 +5,4 @@ pub mod Least
 pub mod FaultSaid
 pub mod First
 pub mod Found
+pub mod Told

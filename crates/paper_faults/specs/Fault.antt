@@ -1,9 +1,8 @@
 -- What the rules of a table find, and the fault that is told. A rule gives the columns at fault, from left to right; the
 -- fault is that of the lowest number, at its leftmost column. Nothing here knows what the rules are made on: records of
 -- an entry or of a file, lines in another layout.
-use Rattle.std.specs.Prelude.{ℕ, zero, suc, ◌+◌, Bool, true, false, cond, List, [], ◌∷◌, eqb, ltb}
 use Rattle.paper_faults.specs.declared.types.Fault.{Fault}
-use Rattle.paper_faults.specs.declared.types.Fault.TheVariants.{Fine, At}
+use Rattle.std.specs.Prelude.{ℕ, zero, suc, ◌+◌, Bool, true, false, cond, List, [], ◌∷◌, eqb, ltb, Result, Ok, Err}
 
 -- ---- columns at fault
 
@@ -41,14 +40,24 @@ leftmost (column ∷ columns) = column
 
 -- ---- the fault
 
+-- what the rules come to: nothing, or the fault
+abbrev pub Checked : Type 0
+Checked = Result (Unit {0}) Fault
+
+abbrev pub faultless : Checked
+faultless = Ok tt
+
+abbrev pub fault_at : ℕ → ℕ → Checked
+fault_at number column = Err (record { number = number; column = column })
+
 -- the number and column for each case: 0 0 where there is none
 pub record FaultAnswer : Type 0 where
   pub number : ℕ
   pub column : ℕ
 
-abbrev pub fault_answer : Fault → FaultAnswer
-fault_answer Fine = record { number = 0; column = 0 }
-fault_answer (At number column) = record { number = number; column = column }
+abbrev pub fault_answer : Checked → FaultAnswer
+fault_answer (Ok _) = record { number = 0; column = 0 }
+fault_answer (Err fault) = record { number = fault.number; column = fault.column }
 
 -- what a rule found: its refusal number, and the columns
 pub record Finding : Type 0 where
@@ -59,10 +68,10 @@ abbrev pub finding : ℕ → Columns → Finding
 finding number columns = record { number = number; columns = columns }
 
 -- the number with its column, or what is found further on
-abbrev pub or_else : ℕ → ℕ → Fault → Fault
-or_else number column rest = cond (eqb column 0) rest (At number column)
+abbrev pub or_else : ℕ → ℕ → Checked → Checked
+or_else number column rest = cond (eqb column 0) rest (fault_at number column)
 
 -- "within one record the lowest number": the findings stand by their numbers
-unfoldable pub first_fault : List Finding → Fault
-first_fault [] = Fine
+unfoldable pub first_fault : List Finding → Checked
+first_fault [] = faultless
 first_fault (f ∷ fs) = or_else f.number (leftmost f.columns) (first_fault fs)

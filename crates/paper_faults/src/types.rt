@@ -1,8 +1,8 @@
 // The type that the definitions name.
 
-// No fault, or its refusal number and its column.
+// What a rule finds: its refusal number and its column.
 #[derive(Clone, Copy)]
-pub enum Fault {
-    Fine,
-    At(u8, u8),
+pub struct Fault {
+    pub number: u8,
+    pub column: u8,
 }

@@ -8,7 +8,7 @@
 --
 -- The judge of a file goes over the judge of an entry: between two entries that stands at its start, and is handed only
 -- the entry's own records.
-use Rattle.std.specs.Prelude.{ℕ, ◌+◌, ◌*◌, ◌/◌, ◌%◌, ◌≡◌, Bool, true, false, cond, not, ◌&&◌, List, [], eqb, leb, length, get_or}
+use Rattle.std.specs.Prelude.{ℕ, ◌+◌, ◌*◌, ◌/◌, ◌%◌, ◌≡◌, Bool, true, false, cond, not, ◌&&◌, List, [], eqb, leb, length, get_or, Ok, Err}
 use Rattle.laws.specs.Turns.{Turn, go, out}
 use Rattle.laws.specs.Walk.{walk}
 use Rattle.laws.specs.Blocks.{blocks}
@@ -17,11 +17,9 @@ use Rattle.paper_record.specs.declared.types.Index.{Index}
 use Rattle.paper_record.specs.declared.types.RecordNo.{RecordNo}
 use Rattle.paper_record.specs.Fields.{fields_of}
 use Rattle.paper_record.specs.Identifier.{Identifier, ENTRY, TRANS, ENDTRANS, OTHER, identifier_of}
-use Rattle.paper_faults.specs.declared.types.Fault.{Fault}
-use Rattle.paper_faults.specs.declared.types.Fault.TheVariants.{Fine, At}
 use Rattle.paper_rules.specs.Roles.{Role, NOT-DUE}
 use Rattle.paper_rules.specs.Record.{Record}
-use Rattle.paper_faults.specs.Fault.{Finding, first_fault}
+use Rattle.paper_faults.specs.Fault.{Finding, first_fault, Checked}
 use Rattle.paper_rules.specs.declared.types.Totals.{Totals}
 use Rattle.paper_rules.specs.State.{Context, start_context, no_totals}
 use Rattle.paper_rules.specs.Limits.{MOST-RECORDS}
@@ -91,7 +89,7 @@ file_findings f r =
     cond (eqb (file_role f r) OF-ENTRY) (found_in f.entry r)
     (outside_findings f.entries (file_role f r) (fields_of r) r)
 
-abbrev pub file_fault : FileContext → Record → Fault
+abbrev pub file_fault : FileContext → Record → Checked
 file_fault f r = first_fault (file_findings f r)
 
 abbrev pub is_within : Stage → Bool
@@ -166,9 +164,9 @@ file_after f r =
 -- ---- all records
 
 -- the context behind a record, or the verdict; "record numbers count from the file's start"
-abbrev pub on_file_fault : ℕ → RecordNo → Fault → FileContext → Turn FileContext Verdict
-on_file_fault ordinal at Fine next = go next
-on_file_fault ordinal at (At number column) next = out (refused_within ordinal number at column)
+abbrev pub on_file_fault : ℕ → RecordNo → Checked → FileContext → Turn FileContext Verdict
+on_file_fault ordinal at (Ok _) next = go next
+on_file_fault ordinal at (Err fault) next = out (refused_within ordinal fault.number at fault.column)
 
 unfoldable pub file_turn : FileContext → ℕ → Record → Turn FileContext Verdict
 file_turn f i r = on_file_fault (ordinal_of f r) (record_of f.records) (file_fault f r) (file_after f r)

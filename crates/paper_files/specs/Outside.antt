@@ -12,10 +12,9 @@ use Rattle.paper_record.specs.Fields.{n1, n2}
 use Rattle.paper_record.specs.Word.{blank_to}
 use Rattle.paper_record.specs.Identifier.{TRANS, ENDTRANS}
 use Rattle.paper_record.specs.System.{count_of, is_count, is_date}
-use Rattle.paper_faults.specs.declared.types.Fault.{Fault}
 use Rattle.paper_rules.specs.Roles.{Role}
 use Rattle.paper_rules.specs.Record.{Record, Fields}
-use Rattle.paper_faults.specs.Fault.{Columns, on, when, Finding, finding, first_fault}
+use Rattle.paper_faults.specs.Fault.{Columns, on, when, Finding, finding, first_fault, Checked}
 use Rattle.paper_rules.specs.Every.{rule2, rule3, rule4}
 use Rattle.paper_rules.specs.Counts.{count_n1}
 
@@ -58,5 +57,5 @@ outside_findings entries role fs r =
     ∷ finding 8 (rule8_outside entries role fs)
     ∷ []
 
-unfoldable pub outside_fault : ℕ → Role → Fields → Record → Fault
+unfoldable pub outside_fault : ℕ → Role → Fields → Record → Checked
 outside_fault entries role fs r = first_fault (outside_findings entries role fs r)

@@ -2,14 +2,12 @@
 -- Assumes nothing.
 use mathlib.Core.Path.{◌≡◌, refl}
 use mathlib.Core.List.{List}
-use mathlib.Core.Bool.{Bool}
 use Prim.Native.Nat.{ℕ}
-use native.Mathlib.Omega.{arith}
 use Rattle.paper_number.specs.Reading.{Scan, Lead, Signed, Whole, Point, Fraction, Gap, Mark, MarkGap, PowerSign, Power, Bad}
 use Rattle.paper_number.specs.Reading.{scan_of, finish, read_field}
 use Rattle.paper_number.specs.Digits.{digit_count_at, digit_count}
-use Rattle.paper_number.specs.Walk.{unspelt, spelt_at, spelt}
-use Rattle.paper_number.specs.Spelt.{Small, reading_of, digits_spelt}
+use Rattle.paper_number.specs.Walk.{spelt_at, spelt}
+use Rattle.paper_number.specs.Spelt.{reading_of, digits_spelt}
 
 says_at : (t : Scan) → reading_of (spelt_at t) ≡ finish t
 unfolding spelt_at finish
@@ -46,7 +44,3 @@ spelt-says l = says_at (scan_of Lead l)
 pub spelt-digits : (l : List ℕ) → digits_spelt (spelt l) ≡ digit_count l
 unfolding spelt digit_count
 spelt-digits l = digits-at (scan_of Lead l)
-
--- what spells no number is small
-pub small-none : (blank : Bool) → Small (unspelt blank)
-small-none blank = record { number = omega arith; places = omega arith; size = omega arith }

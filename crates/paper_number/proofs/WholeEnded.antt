@@ -4,7 +4,7 @@ use mathlib.Core.Path.{◌≡◌, sym, ap, ◌∙◌}
 use mathlib.Core.Bool.{Bool, true}
 use mathlib.Core.List.{List}
 use Prim.Native.Nat.{ℕ}
-use Rattle.laws.proofs.Booleans.{differ, and_left}
+use Rattle.laws.proofs.Booleans.{differ}
 use Rattle.paper_number.specs.Grammar.{Tail, plain, Field, Spells}
 use Rattle.paper_number.specs.Form.{form_of}
 use Rattle.paper_number.specs.Reading as R
@@ -13,9 +13,9 @@ use Rattle.paper_number.proofs.Reach.{Reach, reached}
 use Rattle.paper_number.proofs.Ended.{Ended, ended-gap, ended-fraction, ended-power}
 use Rattle.paper_number.proofs.Laws.{spelt-once, reads-field}
 use Rattle.paper_number.specs.Walk.{spelt_at, spelt}
-use Rattle.paper_number.specs.Whole.{is_raised, has_exponent}
+use Rattle.paper_number.specs.Whole.{is_raised, spells_exponent, has_exponent}
 use Rattle.paper_number.specs.WholeClaims.{Raised}
-use Rattle.paper_number.proofs.WholeTold.{number-spelt, raised-spelt}
+use Rattle.paper_number.proofs.WholeTold.{formed, number-spelt, raised-formed}
 
 -- the columns are a field, with an exponent or without
 record Tailed (l : List ℕ) (raised : Bool) : Type 0 where
@@ -27,7 +27,7 @@ tailed : (l : List ℕ) (m : Mantissa) (t : Tail) → Ended l m t → Tailed l (
 tailed l m t x = record { field = x.field; spells = x.spells; tail = ap is_raised x.tail }
 
 module _ (l : List ℕ) where
-  ended_at : (t : Scan) → Reach l t → (spelt_at t).formed ≡ true → Tailed l (spelt_at t).raised
+  ended_at : (t : Scan) → Reach l t → formed (spelt_at t) ≡ true → Tailed l (spells_exponent (spelt_at t))
   unfolding spelt_at
   ended_at R.Lead r q = differ (sym q)
   ended_at (R.Signed g) r q = differ (sym q)
@@ -41,7 +41,7 @@ module _ (l : List ℕ) where
   ended_at (R.Power m g e) r q = tailed l m _ (ended-power l m g e r)
   ended_at R.Bad r q = differ (sym q)
 
-  ended : (spelt l).formed ≡ true → Tailed l (has_exponent l)
+  ended : formed (spelt l) ≡ true → Tailed l (has_exponent l)
   unfolding spelt has_exponent
   ended q = ended_at (scan_of R.Lead l) (reached l) q
 
@@ -56,5 +56,5 @@ module _ (l : List ℕ) where
   pub raised-field : has_exponent l ≡ true → Raised l
   unfolding has_exponent
   raised-field e =
-      let x = ended (and_left (spelt l).formed (spelt l).raised (raised-spelt l ∙ e)) in
+      let x = ended (raised-formed (spelt l) e) in
       record { field = x.field; spells = x.spells; raised = x.tail ∙ e }

@@ -10,8 +10,11 @@ use lib.Dec.{eqb}
 use Rattle.laws.proofs.Booleans.{either-as}
 use Rattle.paper_number.proofs.Tens.{ten-suc}
 use Rattle.paper_number.specs.declared.types.WholeRead.{WholeRead}
-use Rattle.paper_number.specs.declared.types.WholeRead.TheVariants.{Broken, Whole}
-use Rattle.paper_number.specs.Whole.{whole_from, Short, Few}
+use Rattle.paper_number.specs.declared.types.WholeRead.TheVariants.{NoNumber, Broken, Whole}
+use Rattle.paper_number.specs.declared.types.SpeltNumber.{SpeltNumber}
+use Rattle.paper_number.specs.declared.types.Spelt.{Spelt}
+use Rattle.paper_number.specs.declared.types.Spelt.TheVariants as S
+use Rattle.paper_number.specs.Whole.{whole_from, whole_of, Short, Few}
 
 -- ---- what the loop does
 
@@ -30,6 +33,12 @@ from-broken (suc p) v h e = rw (ne_eqb (v % 10) 0 e) refl
 pub from_end : (p v : ℕ) → p ≡ 0 → whole_from p v ≡ Whole v
 unfolding whole_from
 from_end p v e = rw e refl
+
+-- what is no number says none
+pub none-whole : (x : Spelt) → ((n : SpeltNumber) → x ≡ S.Number n → ⊥) → whole_of x ≡ NoNumber
+none-whole S.Blank h = refl
+none-whole S.Malformed h = refl
+none-whole (S.Number n) h = absurd (h n refl)
 
 -- ---- how large it is
 

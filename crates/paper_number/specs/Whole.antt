@@ -4,9 +4,10 @@
 --
 -- The first part says it of a field of the grammar, the rest how it is worked out; that both agree are the laws
 -- `exponent-exactly` and `whole-exactly`.
-use Rattle.std.specs.Prelude.{Bool, true, false, cond, not, ◌&&◌, List, ℕ, zero, suc, ◌/◌, ◌%◌, ◌^◌, ◌<◌, eqb}
+use Rattle.std.specs.Prelude.{Bool, true, false, cond, not, ◌&&◌, List, ℕ, zero, suc, ◌/◌, ◌%◌, ◌^◌, ◌<◌, eqb, is_some}
 use Rattle.paper_number.specs.Grammar.{Tail, plain, power}
 use Rattle.paper_number.specs.declared.types.Spelt.{Spelt}
+use Rattle.paper_number.specs.declared.types.Spelt.TheVariants as S
 use Rattle.paper_number.specs.Walk.{spelt}
 use Rattle.paper_number.specs.declared.types.WholeRead.{WholeRead}
 use Rattle.paper_number.specs.declared.types.WholeRead.TheVariants.{NoNumber, Raised, Broken, Whole}
@@ -18,9 +19,14 @@ abbrev pub is_raised : Tail → Bool
 is_raised (plain k) = false
 is_raised (power o ds) = true
 
--- what is no field has none
+-- of what is spelt; what is no field has none
+abbrev pub spells_exponent : Spelt → Bool
+spells_exponent S.Blank = false
+spells_exponent S.Malformed = false
+spells_exponent (S.Number n) = is_some n.exponent
+
 unfoldable pub has_exponent : List ℕ → Bool
-has_exponent l = (spelt l).raised
+has_exponent l = spells_exponent (spelt l)
 
 -- ---- "by exact value": the whole number that is said
 
@@ -34,12 +40,12 @@ whole_from zero v = Whole v
 whole_from (suc p) v = cond (eqb (v % 10) 0) (whole_from p (v / 10)) Broken
 
 abbrev pub whole_of : Spelt → WholeRead
-whole_of x =
-    cond x.formed
-    (cond x.raised Raised
-    (cond (below_zero x.negative x.number) Broken
-    (whole_from x.places x.number)))
-    NoNumber
+whole_of S.Blank = NoNumber
+whole_of S.Malformed = NoNumber
+whole_of (S.Number n) =
+    cond (is_some n.exponent) Raised
+    (cond (below_zero n.negative n.number) Broken
+    (whole_from n.places n.number))
 
 unfoldable pub whole_read : List ℕ → WholeRead
 whole_read l = whole_of (spelt l)

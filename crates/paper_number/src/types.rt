@@ -38,35 +38,37 @@ pub struct FieldRead {
     pub digits: u8,
 }
 
-// The digits read so far, how many of them stand behind the point, and the column that comes next.
+// The digits up to the point and behind it: their number, how many of them stand behind it, and the column that comes next.
 #[derive(Clone, Copy)]
 pub struct Front {
-    pub formed: bool,
     pub at: usize,
     pub number: u64,
     pub places: u32,
 }
 
-// What stands behind the digits: an exponent, 0 where none is written; `raised` where one is, be it 0.
+// An exponent that is written, be it 0.
 #[derive(Clone, Copy)]
 pub struct Exponent {
-    pub formed: bool,
-    pub raised: bool,
     pub below: bool,
     pub size: u32,
 }
 
-// What the columns of a field spell: a number where `formed`, blanks where `blank`, else nothing.
+// A number as it is spelt: its sign, its digits, how many of them stand behind the point, and its exponent, if one is
+// written.
 #[derive(Clone, Copy)]
-pub struct Spelt {
-    pub formed: bool,
-    pub blank: bool,
+pub struct SpeltNumber {
     pub negative: bool,
     pub number: u64,
     pub places: u32,
-    pub raised: bool,
-    pub below: bool,
-    pub size: u32,
+    pub exponent: Option<Exponent>,
+}
+
+// What the columns of a field spell.
+#[derive(Clone, Copy)]
+pub enum Spelt {
+    Blank,
+    Malformed,
+    Number(SpeltNumber),
 }
 
 // No number: blank or malformed. Raised: a number with an exponent written, be it zero. Broken: a number without one

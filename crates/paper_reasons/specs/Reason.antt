@@ -4,7 +4,7 @@
 --   keywords), for 9 the previous subentry number (000 if none), for 13 record and column of the first equal heading, for
 --   14 the pointer, for 5 and 6 the expected characters. [..] For 8 out of range it prints least and greatest, 0 for no
 --   greatest, and for the other refusals the verdict alone."
-use Rattle.std.specs.Prelude.{ℕ, ◌+◌, ◌-◌, ◌*◌, ◌/◌, ◌%◌, Bool, true, cond, List, [], ◌++◌, eqb, take, get_or, replicate}
+use Rattle.std.specs.Prelude.{ℕ, ◌+◌, ◌-◌, ◌*◌, ◌/◌, ◌%◌, Bool, true, cond, List, [], ◌++◌, eqb, take, get_or, replicate, Option, Some, None}
 use Rattle.laws.specs.Blocks.{block_at}
 use Rattle.paper_record.specs.Places.{record_of, records_for}
 use Rattle.paper_record.specs.Fields.{fields_of}
@@ -16,8 +16,7 @@ use Rattle.paper_rules.specs.declared.types.Range.{Range}
 use Rattle.paper_rules.specs.declared.types.Ranges.{Ranges}
 use Rattle.paper_rules.specs.declared.types.Limit.{Limit}
 use Rattle.paper_rules.specs.declared.types.Limit.TheVariants.{AtLeast, Between}
-use Rattle.paper_rules.specs.declared.types.Found.{Found}
-use Rattle.paper_rules.specs.declared.types.Found.TheVariants as Found
+use Rattle.paper_rules.specs.declared.types.HeadingPlace.{HeadingPlace}
 use Rattle.paper_rules.specs.State.{Seen}
 use Rattle.paper_rules.specs.Roles.{Role, opens_section}
 use Rattle.paper_rules.specs.Record.{Fields, Record, field_column}
@@ -82,11 +81,11 @@ abbrev pub heading_records : Ranges → ℕ → Range
 heading_records g section = cond (eqb section 1) g.common001 (cond (eqb section 2) g.common g.table)
 
 -- the record and the column of a heading, from its section and its column there
-abbrev pub heading_place : Ranges → Found → Facts
-heading_place g (Found.At section column) =
-    Equal (record_of (record { 0 = (heading_records g section).from.0 + (column - 1) / 6 }))
-    (field_column ((column - 1) % 6))
-heading_place g Found.Nothing = Alone
+abbrev pub heading_place : Ranges → Option HeadingPlace → Facts
+heading_place g (Some place) =
+    Equal (record_of (record { 0 = (heading_records g place.section).from.0 + (place.column - 1) / 6 }))
+    (field_column ((place.column - 1) % 6))
+heading_place g None = Alone
 
 -- "record and column of the first equal heading"
 unfoldable pub equal_facts : Seen → Ranges → Fields → Record → ℕ → Facts

@@ -18,7 +18,7 @@ use Rattle.paper_number.specs.Grammar.{blanks, Digits, digits_text, num}
 use Rattle.paper_number.proofs.Reach.{text-append, num_from-append, digits_append}
 use Rattle.paper_record.specs.Text.{within, is_digit, is_capital}
 use Rattle.paper_record.specs.Columns.{columns_at}
-use Rattle.paper_record.specs.declared.types.Count.TheVariants.{Number, Bad}
+use Rattle.std.proofs.Common.{Some, None}
 use Rattle.paper_record.specs.Word.{blank_at, filled_at, blank_to}
 use Rattle.paper_record.specs.System.{no_digit_at, digits_in, digit_of, number_in, start_of, integer_of, is_date}
 use Rattle.paper_record.specs.System.{is_accession, is_entry_n1, is_subent_n1, subentry_of}
@@ -132,13 +132,13 @@ digits-exactly f i n m = (
 
 -- ---- counts
 
-count-said : (w : ℕ) (f : List ℕ) (m : ℕ) → integer_of w f ≡ Number m → CountSays w f m
+count-said : (w : ℕ) (f : List ℕ) (m : ℕ) → integer_of w f ≡ Some m → CountSays w f m
 unfolding integer_of
 count-said w f m e =
     by_tests (eqb (start_of w f) w) (digits_in f (start_of w f) (w - start_of w f)) refl refl e
   where
     by_tests : (a b : Bool) → eqb (start_of w f) w ≡ a → digits_in f (start_of w f) (w - start_of w f) ≡ b
-        → cond a Bad (cond b (Number (number_in f (start_of w f) (w - start_of w f))) Bad) ≡ Number m → CountSays w f m
+        → cond a None (cond b (Some (number_in f (start_of w f) (w - start_of w f))) None) ≡ Some m → CountSays w f m
     by_tests true b p q e = let z : ◌≡◌ {A = ℕ} 0 1 = cc in absurd (omega arith)
     by_tests false false p q e = let z : ◌≡◌ {A = ℕ} 0 1 = cc in absurd (omega arith)
     by_tests false true p q e =
@@ -207,11 +207,11 @@ module _ (w : ℕ) (f : List ℕ) (m : ℕ) (x : CountSays w f m) where
       (λ k a b. ap not (eq-eqb (get_or f k 0) 32 (blank-columns leads f count-blank k b)))
 
 at-start : (w : ℕ) (f : List ℕ) (m s n : ℕ) → start_of w f ≡ s → w - s ≡ n → eqb s w ≡ false → digits_in f s n ≡ true
-    → number_in f s n ≡ m → integer_of w f ≡ Number m
+    → number_in f s n ≡ m → integer_of w f ≡ Some m
 unfolding integer_of
 at-start w f m s n a b c d e = rw (a, b, c, d, e)
 
-said-count : (w : ℕ) (f : List ℕ) (m : ℕ) → CountSays w f m → integer_of w f ≡ Number m
+said-count : (w : ℕ) (f : List ℕ) (m : ℕ) → CountSays w f m → integer_of w f ≡ Some m
 said-count w f m x =
     let y = x.wide in
     let s = x.some in

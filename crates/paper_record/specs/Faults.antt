@@ -1,5 +1,5 @@
 -- Pointers, headings and units (document 01, "BIB, headings, pointers").
-use Rattle.std.specs.Prelude.{ℕ, Bool, cond, not, ◌&&◌, ◌||◌, List, eqb, ltb}
+use Rattle.std.specs.Prelude.{ℕ, Bool, cond, not, ◌&&◌, ◌||◌, List, ltb}
 use Rattle.paper_record.specs.Text.{is_blank, is_from}
 use Rattle.paper_record.specs.Word.{blank_to, is_word, pointer_of}
 
@@ -30,8 +30,3 @@ heading_fault used k f = cond (ltb k used) (not (is_word 10 f)) (filled f)
 
 unfoldable pub unit_fault : ℕ → ℕ → List ℕ → Bool
 unit_fault used k f = cond (ltb k used) (not (is_unit_word f)) (filled f)
-
--- the three by number, as one search asks for them
-abbrev pub fault_in : ℕ → ℕ → ℕ → List ℕ → Bool
-fault_in what used k f =
-    cond (eqb what 0) (pointer_fault used k f) (cond (eqb what 1) (heading_fault used k f) (unit_fault used k f))

@@ -11,7 +11,7 @@ use Rattle.paper_number.specs.Grammar.{blanks, Digits, digits_text, num}
 use Rattle.paper_number.specs.Value.{Reads}
 use Rattle.paper_record.specs.Columns.{columns_at}
 use Rattle.paper_record.specs.Text.{is_capital, is_digit}
-use Rattle.paper_record.specs.declared.types.Count.TheVariants.{Number}
+use Rattle.std.specs.Prelude.{Some}
 use Rattle.paper_record.specs.Word.{blank_to, equal_to, is_word, pointer_of}
 use Rattle.paper_record.specs.Same.{SameColumns}
 use Rattle.paper_record.specs.Faults.{bad_pointer, is_unit_word}
@@ -151,7 +151,7 @@ DigitsExactly =
     (f : List ℕ) (i n m : ℕ) → ((digits_in f i n ≡ true) × (number_in f i n ≡ m)) ↔ DigitsSay f i n m
 
 abbrev pub CountExactly : Type 0
-CountExactly = (w : ℕ) (f : List ℕ) (m : ℕ) → (integer_of w f ≡ Number m) ↔ CountSays w f m
+CountExactly = (w : ℕ) (f : List ℕ) (m : ℕ) → (integer_of w f ≡ Some m) ↔ CountSays w f m
 
 abbrev pub CountAnswerExactly : Type 0
 CountAnswerExactly =

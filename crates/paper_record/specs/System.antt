@@ -1,10 +1,9 @@
 -- The fields N1 and N2 of system records (document 01, "Nesting and counts").
 use Rattle.std.specs.Prelude.{ℕ, zero, suc, ◌+◌, ◌*◌, ◌-◌, Bool, true, false, cond, not, ◌&&◌, ◌||◌, List, eqb, leb, get_or}
+use Rattle.std.specs.Prelude.{Option, Some, None}
 use Rattle.laws.specs.Search.{first}
 use Rattle.paper_record.specs.Text.{within, is_digit, is_capital}
 use Rattle.paper_record.specs.Word.{filled_from, blank_to}
-use Rattle.paper_record.specs.declared.types.Count.{Count}
-use Rattle.paper_record.specs.declared.types.Count.TheVariants.{Number, Bad}
 
 -- ---- digits and their number
 
@@ -29,32 +28,32 @@ number_in f i (suc n) = number_in f i n * 10 + digit_of (get_or f (i + n) 0)
 abbrev pub start_of : ℕ → List ℕ → ℕ
 start_of w f = filled_from w f 0
 
--- a whole number in w columns: at least one digit, so all blanks are none
-unfoldable pub integer_of : ℕ → List ℕ → Count
+-- a whole number in w columns: at least one digit, so all blanks are none; None for a field that is none
+unfoldable pub integer_of : ℕ → List ℕ → Option ℕ
 integer_of w f =
-    cond (eqb (start_of w f) w) Bad
-    (cond (digits_in f (start_of w f) (w - start_of w f)) (Number (number_in f (start_of w f) (w - start_of w f))) Bad)
+    cond (eqb (start_of w f) w) None
+    (cond (digits_in f (start_of w f) (w - start_of w f)) (Some (number_in f (start_of w f) (w - start_of w f))) None)
 
-abbrev pub count_of : List ℕ → Count
+abbrev pub count_of : List ℕ → Option ℕ
 count_of f = integer_of 11 f
 
-abbrev pub is_count : Count → Bool
-is_count (Number n) = true
-is_count Bad = false
+abbrev pub is_count : Option ℕ → Bool
+is_count (Some n) = true
+is_count None = false
 
 -- the number of a count; 0 of a field that is none
-abbrev pub number_of : Count → ℕ
-number_of (Number n) = n
-number_of Bad = 0
+abbrev pub number_of : Option ℕ → ℕ
+number_of (Some n) = n
+number_of None = 0
 
 -- document 01's number for each case, and the number that is counted: "7 | system field not in its form"
 pub record CountAnswer : Type 0 where
   pub refusal : ℕ
   pub number : ℕ
 
-abbrev pub count_answer : Count → CountAnswer
-count_answer (Number n) = record { refusal = 0; number = n }
-count_answer Bad = record { refusal = 7; number = 0 }
+abbrev pub count_answer : Option ℕ → CountAnswer
+count_answer (Some n) = record { refusal = 0; number = n }
+count_answer None = record { refusal = 7; number = 0 }
 
 -- a number up to a limit, 0 past it
 abbrev pub up_to : ℕ → ℕ → ℕ

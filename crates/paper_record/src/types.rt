@@ -7,13 +7,6 @@ pub struct Values {
     pub numbers: u32,
 }
 
-// A whole number written as blanks, then digits up to the last column; or a field that is none.
-#[derive(Clone, Copy)]
-pub enum Count {
-    Number(u64),
-    Bad,
-}
-
 #[derive(Clone, Copy)]
 pub struct RecordNo(pub u32);
 

@@ -1,6 +1,7 @@
 -- A record is without fault exactly when it is clean: the one place where the rows of the table are taken by their
 -- order.
 -- Assumes nothing.
+use Rattle.paper_faults.specs.Fault.{faultless}
 use Prim.Native.Nat.{ℕ}
 use mathlib.Core.Path.{◌≡◌, refl}
 use mathlib.Core.Bool.{Bool, true, false, cond}
@@ -8,7 +9,6 @@ use mathlib.Core.List.{List, []}
 use lib.Dec.{eqb}
 use Rattle.laws.specs.Walk.{All}
 use Rattle.laws.proofs.Booleans.{either-as}
-use Rattle.paper_faults.specs.declared.types.Fault.TheVariants.{Fine}
 use Rattle.paper_rules.specs.declared.types.Track.{Track}
 use Rattle.paper_rules.specs.State.{Seen}
 use Rattle.paper_rules.specs.Roles.{TEXT, DATA-HEADING, is_system, opens_subentry, is_heading, is_unit, is_value}
@@ -103,10 +103,10 @@ module _ (t : Track) (s : Seen) (role : ℕ) (fs : List (List ℕ)) (r : List �
     ),
   )
 
-  pub fine-clean : fault_of t s role fs r ≡ Fine → Clean t s role fs r
+  pub fine-clean : fault_of t s role fs r ≡ faultless → Clean t s role fs r
   fine-clean e = empty-clean (fine-empty t s role fs r e)
 
-  pub clean-fine : Clean t s role fs r → fault_of t s role fs r ≡ Fine
+  pub clean-fine : Clean t s role fs r → fault_of t s role fs r ≡ faultless
   clean-fine c = empty-fine t s role fs r (clean-empty c)
 
 pub clean-exactly : CleanExactly

@@ -1,5 +1,6 @@
 -- A record without fault is due, and what a section announces and the number of a subentry are in their ranges.
 -- Assumes nothing.
+use Rattle.paper_faults.specs.Fault.{faultless}
 use mathlib.Core.Path.{◌≡◌, sym, ◌∙◌}
 use mathlib.Core.Bool.{true, not, ◌&&◌}
 use mathlib.Core.List.{List}
@@ -12,7 +13,6 @@ use Rattle.paper_record.proofs.Within.{within-bounds}
 use Rattle.paper_record.specs.Identifier.{COMMON, DATA}
 use Rattle.paper_record.specs.Word.{equal_to}
 use Rattle.paper_record.specs.System.{subentry_of}
-use Rattle.paper_faults.specs.declared.types.Fault.TheVariants.{Fine}
 use Rattle.paper_rules.specs.declared.types.Track.{Track}
 use Rattle.paper_rules.specs.State.{Seen}
 use Rattle.paper_rules.specs.Limits.{MOST-COLUMNS, MOST-LINES}
@@ -26,7 +26,7 @@ use Rattle.paper_faults.proofs.NoColumns.{when-none, whens-none}
 use Rattle.paper_rules.proofs.Clean.{fine-clean}
 
 module _ (t : Track) (seen : Seen) (role : ℕ) (fs : List (List ℕ)) (r : List ℕ)
-    (fine : fault_of t seen role fs r ≡ Fine) where
+    (fine : fault_of t seen role fs r ≡ faultless) where
   clean : Clean t seen role fs r
   clean = fine-clean t seen role fs r fine
 

@@ -3,8 +3,7 @@
 use Prim.Native.Nat.{ℕ}
 use mathlib.Core.Path.{◌≡◌}
 use mathlib.Core.List.{List}
-use Rattle.paper_faults.specs.declared.types.Fault.TheVariants.{Fine, At}
-use Rattle.paper_faults.specs.Fault.{Finding}
+use Rattle.paper_faults.specs.Fault.{Finding, fault_at, faultless}
 use Rattle.paper_faults.specs.Least.{Least, Nothing}
 use Rattle.paper_faults.proofs.FaultSaid.{nothing-first, least_first, first-exactly}
 use Rattle.paper_rules.specs.declared.types.Track.{Track}
@@ -16,11 +15,11 @@ module _ (t : Track) (s : Seen) (role : ℕ) (fs : List (List ℕ)) (r : List �
   abbrev found : List Finding
   found = findings t s role fs r
 
-  pub nothing-fine : Nothing (findings t s role fs r) → fault_of t s role fs r ≡ Fine
+  pub nothing-fine : Nothing (findings t s role fs r) → fault_of t s role fs r ≡ faultless
   unfolding fault_of
   nothing-fine none = nothing-first found (findings-rise t s role fs r) none
 
-  pub least-fault : (n k : ℕ) → Least (findings t s role fs r) n k → fault_of t s role fs r ≡ At n k
+  pub least-fault : (n k : ℕ) → Least (findings t s role fs r) n k → fault_of t s role fs r ≡ fault_at n k
   unfolding fault_of
   least-fault n k l = least_first found (findings-rise t s role fs r) n k l
 

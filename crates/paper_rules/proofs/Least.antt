@@ -2,13 +2,13 @@
 -- that the rules find on it, by number and then by column, and in the bounds of both; and there is none only where they
 -- find nothing. All of it because the findings stand by rising numbers, each with its columns from left to right.
 -- Assumes nothing.
+use Rattle.paper_faults.specs.Fault.{faultless}
 use Prim.Native.Nat.{ℕ, ◌<◌}
 use mathlib.Core.Path.{◌≡◌}
 use mathlib.Core.List.{List, []}
 use lib.ListN.{length, get_or}
 use Rattle.laws.specs.Walk.{All}
 use Rattle.laws.proofs.Walk.{all-at}
-use Rattle.paper_faults.specs.declared.types.Fault.TheVariants.{Fine}
 use Rattle.paper_faults.specs.Least.{no_finding}
 use Rattle.paper_faults.proofs.Least.{first-least, first-bounds, Empty, first-none, none_first}
 use Rattle.paper_rules.specs.declared.types.Track.{Track}
@@ -29,15 +29,15 @@ fault-bounds t s role fs r n k e =
 
 module _ (t : Track) (s : Seen) (role : ℕ) (fs : List (List ℕ)) (r : List ℕ) where
   -- and where there is none, no rule finds anything
-  pub fine-empty : fault_of t s role fs r ≡ Fine → All Empty (findings t s role fs r)
+  pub fine-empty : fault_of t s role fs r ≡ faultless → All Empty (findings t s role fs r)
   unfolding fault_of
   fine-empty e = first-none 1 (findings t s role fs r) (findings-rise t s role fs r) e
 
-  pub empty-fine : All Empty (findings t s role fs r) → fault_of t s role fs r ≡ Fine
+  pub empty-fine : All Empty (findings t s role fs r) → fault_of t s role fs r ≡ faultless
   unfolding fault_of
   empty-fine h = none_first (findings t s role fs r) h
 
   -- the same by places
-  pub fault-none : fault_of t s role fs r ≡ Fine
+  pub fault-none : fault_of t s role fs r ≡ faultless
       → (i : ℕ) → i < length (findings t s role fs r) → (get_or (findings t s role fs r) i no_finding).columns ≡ []
   fault-none e = all-at Empty no_finding (findings t s role fs r) (fine-empty e)

@@ -15,11 +15,10 @@ use Rattle.paper_record.specs.Columns.{has_line_feed}
 use Rattle.paper_record.specs.Class.{is_permitted, not_permitted}
 use Rattle.paper_record.specs.Fields.{in_field, fields_of}
 use Rattle.paper_record.specs.Numbers.{form_at, no_value, value_fault}
-use Rattle.paper_faults.specs.declared.types.Fault.TheVariants.{Fine}
 use Rattle.paper_rules.specs.declared.types.Track.{Track}
 use Rattle.paper_rules.specs.State.{Seen, used}
 use Rattle.paper_rules.specs.Roles.{COMMON-VALUE, DATA-VALUE, is_value}
-use Rattle.paper_faults.specs.Fault.{when, columns_from, columns_where, first_fault}
+use Rattle.paper_faults.specs.Fault.{when, columns_from, columns_where, first_fault, faultless}
 use Rattle.paper_rules.specs.Record.{field_column}
 use Rattle.paper_rules.specs.Every.{rule2, rule3, rule5, rule6, expected_identification}
 use Rattle.paper_rules.specs.Values.{optional, line_blank, rule15}
@@ -47,7 +46,7 @@ there r n x e =
     either n (length r) (λ l. l) (λ l. let z : get_or r n 0 ≡ 0 = get_or-eq_default r 0 l in absurd (omega arith))
 
 module _ (track : Track) (seen : Seen) (role : ℕ) (fs : List (List ℕ)) (r : List ℕ)
-    (fine : fault_of track seen role fs r ≡ Fine) where
+    (fine : fault_of track seen role fs r ≡ faultless) where
   clean : Clean track seen role fs r
   clean = fine-clean track seen role fs r fine
 

@@ -2,8 +2,8 @@
 -- of record only says nothing of another.
 --
 -- The law `clean-exactly`: the fault of a record is none exactly when it is clean.
+use Rattle.paper_faults.specs.Fault.{faultless}
 use Rattle.std.specs.Prelude.{◌≡◌, true, [], ◌↔◌, eqb}
-use Rattle.paper_faults.specs.declared.types.Fault.TheVariants.{Fine}
 use Rattle.paper_rules.specs.declared.types.Track.{Track}
 use Rattle.paper_rules.specs.State.{Seen}
 use Rattle.paper_rules.specs.Record.{Record, Fields}
@@ -45,4 +45,4 @@ pub record Clean (t : Track) (s : Seen) (role : Role) (fs : Fields) (r : Record)
 -- "a record without fault" and "each rule finds nothing" are one
 abbrev pub CleanExactly : Type 0
 CleanExactly = (t : Track) (s : Seen) (role : Role) (fs : Fields) (r : Record)
-    → (fault_of t s role fs r ≡ Fine) ↔ Clean t s role fs r
+    → (fault_of t s role fs r ≡ faultless) ↔ Clean t s role fs r

@@ -1,11 +1,10 @@
 -- Headings met before, and the first of them that is equal (document 01, "BIB, headings, pointers").
-use Rattle.std.specs.Prelude.{ℕ, ◌+◌, ◌*◌, ◌/◌, ◌%◌, ◌^◌, ◌≤◌, ◌<◌, ◌≡◌, Bool, cond, List, eqb, ltb, length}
+use Rattle.std.specs.Prelude.{ℕ, ◌+◌, ◌*◌, ◌/◌, ◌%◌, ◌^◌, ◌≤◌, ◌<◌, ◌≡◌, Bool, cond, List, eqb, ltb, length, Option, Some, None}
 use Rattle.laws.specs.Search.{first}
 use Rattle.laws.specs.Turns.{Turn, go, out, run}
 use Rattle.paper_record.specs.Columns.{columns_at}
 use Rattle.paper_record.specs.Word.{equal_to}
-use Rattle.paper_rules.specs.declared.types.Found.{Found}
-use Rattle.paper_rules.specs.declared.types.Found.TheVariants.{At, Nothing}
+use Rattle.paper_rules.specs.declared.types.HeadingPlace.{HeadingPlace}
 
 -- the heading m, counted from 0, of a part of heading records, six to a record. An unused field is blank, and equals no
 -- heading that 12 lets pass.
@@ -54,20 +53,23 @@ pub record Near (before s m : ℕ) : Type 0 where
   pub place : m < FAR
 
 -- a section and a column of it, both numbered from 1; the record in hand belongs to the third section
-abbrev pub heading_found : ℕ → ℕ → ℕ → Found
-heading_found before s m = cond (eqb s 3) (At 3 (before + (m + 1))) (At (s + 1) (m + 1))
+abbrev pub place_at : ℕ → ℕ → HeadingPlace
+place_at section column = record { section = section; column = column }
 
-abbrev pub section_turn : List ℕ → Earlier → Unit {0} → ℕ → Turn (Unit {0}) Found
+abbrev pub heading_found : ℕ → ℕ → ℕ → HeadingPlace
+heading_found before s m = cond (eqb s 3) (place_at 3 (before + (m + 1))) (place_at (s + 1) (m + 1))
+
+abbrev pub section_turn : List ℕ → Earlier → Unit {0} → ℕ → Turn (Unit {0}) (Option HeadingPlace)
 section_turn f e u s =
     let n : ℕ = heading_count (part_of e s) e.left s in
     let m : ℕ = equal_in f (part_of e s) n in
-    cond (ltb m n) (out (heading_found (headings_in e.table) s m)) (go u)
+    cond (ltb m n) (out (Some (heading_found (headings_in e.table) s m))) (go u)
 
-abbrev pub nowhere : Unit {0} → Found
-nowhere u = Nothing
+abbrev pub nowhere : Unit {0} → Option HeadingPlace
+nowhere u = None
 
 -- the first earlier heading that is equal to f
-unfoldable pub equal_heading : List ℕ → Earlier → Found
+unfoldable pub equal_heading : List ℕ → Earlier → Option HeadingPlace
 equal_heading f e = run (section_turn f e) nowhere tt 0 4
 
 abbrev pub earlier : List ℕ → List ℕ → List ℕ → List ℕ → ℕ → Earlier

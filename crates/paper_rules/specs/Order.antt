@@ -6,15 +6,13 @@
 use Rattle.std.specs.Prelude.{ℕ, ◌≡◌, cond, List, [], ◌∷◌, ◌↔◌, eqb}
 use Rattle.paper_record.specs.Columns.{Whole}
 use Rattle.paper_record.specs.declared.types.Values.{Values}
-use Rattle.paper_faults.specs.declared.types.Fault.{Fault}
-use Rattle.paper_faults.specs.declared.types.Fault.TheVariants.{At}
 use Rattle.paper_rules.specs.declared.types.Track.{Track}
 use Rattle.paper_rules.specs.declared.types.Ranges.{Ranges}
 use Rattle.paper_rules.specs.State.{Seen}
 use Rattle.paper_rules.specs.Ranging.{Stands}
 use Rattle.paper_rules.specs.Roles.{Role, TEXT, DATA-HEADING, is_system, opens_subentry, is_heading, is_unit, is_value}
 use Rattle.paper_rules.specs.Record.{Record, Fields}
-use Rattle.paper_faults.specs.Fault.{on, Finding, finding, FaultAnswer, fault_answer, first_fault}
+use Rattle.paper_faults.specs.Fault.{on, Finding, finding, FaultAnswer, fault_answer, first_fault, Checked, fault_at}
 use Rattle.paper_faults.specs.Least.{Least, FaultSaid}
 use Rattle.paper_rules.specs.Every.{rule2, rule3, rule4, rule5, rule6}
 use Rattle.paper_rules.specs.System.{rule7, rule9}
@@ -45,7 +43,7 @@ findings t s role fs r =
     ∷ finding 17 (on (is_value role) (rule17 s t fs))
     ∷ []
 
-unfoldable pub fault_of : Track → Seen → Role → Fields → Record → Fault
+unfoldable pub fault_of : Track → Seen → Role → Fields → Record → Checked
 fault_of t s role fs r = first_fault (findings t s role fs r)
 
 -- what the rules are lent: the state before the record, the record, its fields and what these read to
@@ -60,7 +58,7 @@ pub record Judged (t : Track) (g : Ranges) (before : List ℕ) (r : Record) (rol
 -- the fault of a record is the least of what the rules find on it
 abbrev pub FaultLeast : Type 0
 FaultLeast =
-    (t : Track) (s : Seen) (role : Role) (fs : Fields) (r : Record) (n k : ℕ) → fault_of t s role fs r ≡ At n k
+    (t : Track) (s : Seen) (role : Role) (fs : Fields) (r : Record) (n k : ℕ) → fault_of t s role fs r ≡ fault_at n k
     → Least (findings t s role fs r) n k
 
 -- what is answered of a record: 0 0 where nothing is found, else the least of what is found

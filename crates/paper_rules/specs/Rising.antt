@@ -2,8 +2,8 @@
 -- from 1 to 81. So the first finding is the least, and the number and the column of every refusal are bounded.
 --
 -- The law `findings-rise`: the findings of every record are so; `fault-bounds`: so are its number and its column.
+use Rattle.paper_faults.specs.Fault.{fault_at}
 use Rattle.std.specs.Prelude.{ℕ, ◌≡◌}
-use Rattle.paper_faults.specs.declared.types.Fault.TheVariants.{At}
 use Rattle.paper_rules.specs.declared.types.Track.{Track}
 use Rattle.paper_rules.specs.State.{Seen}
 use Rattle.paper_rules.specs.Roles.{Role}
@@ -29,5 +29,5 @@ FaultBounds n k = Bounded LAST-RULE LAST-COLUMN 1 n k
 
 abbrev pub FaultBounded : Type 0
 FaultBounded =
-    (t : Track) (s : Seen) (role : Role) (fs : Fields) (r : Record) (n k : ℕ) → fault_of t s role fs r ≡ At n k
+    (t : Track) (s : Seen) (role : Role) (fs : Fields) (r : Record) (n k : ℕ) → fault_of t s role fs r ≡ fault_at n k
     → FaultBounds n k

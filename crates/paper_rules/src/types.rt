@@ -8,11 +8,11 @@ pub enum Limit {
     Between(u64, u64),
 }
 
-// A section and a column of it, both from 1, or nothing.
+// Where a heading stands: a section and a column of it, both from 1.
 #[derive(Clone, Copy)]
-pub enum Found {
-    At(usize, usize),
-    Nothing,
+pub struct HeadingPlace {
+    pub section: usize,
+    pub column: usize,
 }
 
 // Records from one index up to another, that one not among them.

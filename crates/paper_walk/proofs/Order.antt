@@ -17,12 +17,12 @@ use Rattle.paper_record.specs.declared.types.RecordNo.{RecordNo}
 use Rattle.paper_questions.specs.declared.types.Shape.{Shape}
 use Rattle.paper_walk.specs.declared.types.Walk.{Walk}
 use Rattle.paper_walk.specs.declared.types.Step.{Step}
-use Rattle.paper_walk.specs.declared.types.Given.TheVariants.{At, Done}
-use Rattle.paper_walk.specs.Walk.{line_no, walk_from, stands, placed_at, onward, step_of, after, given_at}
+use Rattle.std.specs.Prelude.{None}
+use Rattle.paper_walk.specs.Walk.{line_no, walk_from, stands, placed_at, onward, step_of, after, given_at, at_place}
 use Rattle.paper_walk.specs.Claims.{PlaceIn, places_before, field_there, Fits, Standing, AnyEnds, AnyGives, AnyOnce}
 use Rattle.paper_walk.specs.Claims.{WalkOrder}
 use Rattle.paper_walk.proofs.Standing.{standing, stands_at, stands-below}
-use Rattle.paper_walk.proofs.Steps.{step-on, step-done, onward-right, onward-below, not_done}
+use Rattle.paper_walk.proofs.Steps.{step-on, step-done, onward-right, onward-below, not_done, same_place}
 use Rattle.paper_walk.proofs.Turns.{earlier, beside, turned, turn-before}
 
 -- ---- many steps
@@ -53,7 +53,7 @@ still s w i x h e (suc j) =
     ∙ ap (λ (z : Step). z.walk) (step-done s x h)
 
 -- a walk that does not stand gives nothing, and stays so
-pub never : (s : List ℕ) (w : Walk) → stands w ≡ false → (i : ℕ) → given_at s w i ≡ Done
+pub never : (s : List ℕ) (w : Walk) → stands w ≡ false → (i : ℕ) → given_at s w i ≡ None
 never s w h i =
     ap (λ (z : Walk). (step_of s z).given) (sym (ap (after s w) (zero-add i)) ∙ still s w 0 w h (none_yet s w) i)
     ∙ ap (λ (z : Step). z.given) (step-done s w h)
@@ -125,12 +125,12 @@ module _ (s : List ℕ) (w : Walk) (fits : Fits w) where
 
   -- and given
   gives : (line : LineNo) (column : ℕ) → PlaceIn w line column
-      → given_at s first (places_before w line column) ≡ At line column (field_there s w line column)
+      → given_at s first (places_before w line column) ≡ at_place line column (field_there s w line column)
   gives line column p =
       ap (λ (z : Walk). (step_of s z).given) (reached line column p)
       ∙ ap (λ (z : Step). z.given) (step-on s (placed_at w line column) (stands_at w fits line column p))
 
-  ends : 0 < c → (j : ℕ) → given_at s first (w.lines * c + j) ≡ Done
+  ends : 0 < c → (j : ℕ) → given_at s first (w.lines * c + j) ≡ None
   ends l j =
       let below = placed_at w (line_no (w.lines + 1)) 1 in
       ap (λ (z : Walk). (step_of s z).given)
@@ -160,7 +160,7 @@ swapped k m j = omega arith
 pub any-ends : AnyEnds
 any-ends s w j = by-test (stands w) refl
   where
-    by-test : (t : Bool) → stands w ≡ t → given_at s w (w.lines * w.columns + j) ≡ Done
+    by-test : (t : Bool) → stands w ≡ t → given_at s w (w.lines * w.columns + j) ≡ None
     by-test false e = never s w e (w.lines * w.columns + j)
     by-test true e =
         let t = standing w e in
@@ -179,7 +179,7 @@ any-gives s w t line column p i e =
 
 module _ (s : List ℕ) (w : Walk) (fits : Fits w) where
   once : (i : ℕ) (line : LineNo) (column : ℕ) (field : FieldRead)
-      → given_at s (placed_at w (line_no 1) 1) i ≡ At line column field
+      → given_at s (placed_at w (line_no 1) 1) i ≡ at_place line column field
       → (i ≡ places_before w line column) × PlaceIn w line column
   once i line column field g = by-test (ltb i (w.lines * w.columns)) refl
     where
@@ -188,7 +188,7 @@ module _ (s : List ℕ) (w : Walk) (fits : Fits w) where
       by-test false k =
           let l : w.lines * w.columns ≤ i = ltb-false i (w.lines * w.columns) k in
           let j : w.lines * w.columns + (i - w.lines * w.columns) ≡ i = omega arith in
-          let d : given_at s (placed_at w (line_no 1) 1) i ≡ Done =
+          let d : given_at s (placed_at w (line_no 1) 1) i ≡ None =
           rw j at (any-ends s (placed_at w (line_no 1) 1) (i - w.lines * w.columns)) in
           not_done line column field (sym g ∙ d)
       by-test true k =
@@ -204,13 +204,12 @@ module _ (s : List ℕ) (w : Walk) (fits : Fits w) where
           let u : q + 1 - 1 ≡ q = omega arith in
           let v : r + 1 - 1 ≡ r = omega arith in
           let e = rw (u, v, j) at (gives s w fits (line_no (q + 1)) (r + 1) p) in
-          let y : line_no (q + 1) ≡ line = cc in
-          let z : r + 1 ≡ column = cc in
+          let (y, (z, _)) = same_place (line_no (q + 1)) line (r + 1) column _ field (sym e ∙ g) in
           rw (← y, ← z) (rw (u, v) (sym j), p)
 
 -- a walk that gives a place stands
 given-standing : (s : List ℕ) (w : Walk) (i : ℕ) (line : LineNo) (column : ℕ) (field : FieldRead)
-    → given_at s w i ≡ At line column field → Standing w
+    → given_at s w i ≡ at_place line column field → Standing w
 given-standing s w i line column field g = by-test (stands w) refl
   where
     by-test : (t : Bool) → stands w ≡ t → Standing w
@@ -224,13 +223,12 @@ any-once s w i line column field g =
 
 -- what is given of a place is what the field there says
 pub given-field : (s : List ℕ) (w : Walk) (i : ℕ) (line : LineNo) (column : ℕ) (field : FieldRead)
-    → given_at s w i ≡ At line column field → field ≡ field_there s w line column
+    → given_at s w i ≡ at_place line column field → field ≡ field_there s w line column
 given-field s w i line column field g =
     let t = given-standing s w i line column field g in
     let (e, p) = any-once s w i line column field g in
-    let f : At line column (field_there s w line column) ≡ At line column field =
-    sym (any-gives s w t line column p i e) ∙ g in
-    cc
+    let (_, (_, same)) = same_place line line column column _ _ (sym (any-gives s w t line column p i e) ∙ g) in
+    sym same
 
 -- ---- "left to right and line by line"
 
@@ -261,9 +259,9 @@ module _ (s : List ℕ) (own : RecordNo) (shape : Shape) (fits : Fits (walk_from
   walk = walk_from own shape
 
   pub gives-each : (line : LineNo) (column : ℕ) → PlaceIn walk line column
-      → given_at s walk (places_before walk line column) ≡ At line column (field_there s walk line column)
+      → given_at s walk (places_before walk line column) ≡ at_place line column (field_there s walk line column)
   gives-each line column p = gives s walk fits line column p
 
-  pub gives-once : (i : ℕ) (line : LineNo) (column : ℕ) (field : FieldRead) → given_at s walk i ≡ At line column field
+  pub gives-once : (i : ℕ) (line : LineNo) (column : ℕ) (field : FieldRead) → given_at s walk i ≡ at_place line column field
       → (i ≡ places_before walk line column) × PlaceIn walk line column
   gives-once i line column field g = once s walk fits i line column field g

@@ -23,8 +23,7 @@ use Rattle.paper_questions.specs.Refused.{InShape, section_in}
 use Rattle.paper_index.specs.Reads.{read_refusals, table_identifier, good_value}
 use Rattle.paper_index.specs.TableAnswers.{value_from_row}
 use Rattle.paper_index.proofs.ReadsInOrder.{read_none, section-there}
-use Rattle.paper_walk.specs.declared.types.Given.TheVariants.{At}
-use Rattle.paper_walk.specs.Walk.{done_walk, walk_from, start_from_row}
+use Rattle.paper_walk.specs.Walk.{done_walk, walk_from, start_from_row, at_place}
 use Rattle.paper_walk.specs.Claims.{field_there, value_by_row, Fits, RowAnswer, RowRefused, RowPlaces, RowGives}
 use Rattle.paper_walk.proofs.Standing.{done-stands}
 use Rattle.paper_walk.proofs.Order.{never, gives-each}
@@ -156,4 +155,4 @@ row_gives s x section line column e =
     let p = asked-place s x section line column none (λ z. omega (arith, e, z), λ z. omega (arith, e, z)) in
     rw (made s x section none)
     (gives-each s (own s x section) (shape s x section) (fits s x section none) line column p
-    ∙ ap (At line column) (sym (value-said s x section line column e)))
+    ∙ ap (at_place line column) (sym (value-said s x section line column e)))

@@ -7,27 +7,28 @@ use mathlib.Core.List.{List}
 use native.Mathlib.Omega.{arith}
 use lib.Dec.{ltb}
 use borrow.Author.Tests.{lt-ltb, le-ltb}
+use Rattle.std.proofs.lemmas.Option.{same_Some}
 use Rattle.paper_number.specs.declared.types.FieldRead.{FieldRead}
 use Rattle.paper_record.specs.declared.types.LineNo.{LineNo}
 use Rattle.paper_walk.specs.declared.types.Walk.{Walk}
 use Rattle.paper_walk.specs.declared.types.Step.{Step}
 use Rattle.paper_walk.specs.declared.types.Given.{Given}
-use Rattle.paper_walk.specs.declared.types.Given.TheVariants.{At, Done}
-use Rattle.paper_walk.specs.Walk.{line_no, stands, placed_at, onward, step_of, after}
+use Rattle.std.specs.Prelude.{Option, None}
+use Rattle.paper_walk.specs.Walk.{line_no, stands, placed_at, onward, step_of, after, at_place}
 use Rattle.paper_walk.specs.Claims.{field_there, Standing, AnyExactly, DoneStays, WalkKeeps}
 use Rattle.paper_walk.proofs.Standing.{standing, stands_at}
 
 -- ---- where the walk stands, and where it does not
 
 module _ (s : List ℕ) (w : Walk) where
-  abbrev here : Given
-  here = At w.line w.column (field_there s w w.line w.column)
+  abbrev here : Option Given
+  here = at_place w.line w.column (field_there s w w.line w.column)
 
   pub step-on : stands w ≡ true → ◌≡◌ {A = Step} (step_of s w) (record { walk = onward w; given = here })
   unfolding step_of
   step-on h = rw h refl
 
-  pub step-done : stands w ≡ false → ◌≡◌ {A = Step} (step_of s w) (record { walk = w; given = Done })
+  pub step-done : stands w ≡ false → ◌≡◌ {A = Step} (step_of s w) (record { walk = w; given = None })
   unfolding step_of
   step-done h = rw h refl
 
@@ -46,18 +47,27 @@ module _ (w : Walk) (line : LineNo) (column : ℕ) where
 
 -- ---- exactly where it stands something is given
 
-pub not_done : {X : Type 0} (line : LineNo) (column : ℕ) (field : FieldRead) → At line column field ≡ Done → X
+pub not_done : {X : Type 0} (line : LineNo) (column : ℕ) (field : FieldRead) → at_place line column field ≡ None → X
 not_done line column field e = let z : ◌≡◌ {A = ℕ} 0 1 = cc in absurd (omega arith)
 
+-- the same is given at the same place only
+pub same_place : (line line2 : LineNo) (column column2 : ℕ) (field field2 : FieldRead)
+    → at_place line column field ≡ at_place line2 column2 field2
+    → (line ≡ line2) × ((column ≡ column2) × (field ≡ field2))
+same_place line line2 column column2 field field2 e =
+    let one : ◌≡◌ {A = Given} (record { line = line; column = column; field = field })
+    (record { line = line2; column = column2; field = field2 }) = same_Some _ _ e in
+    (ap (λ (g : Given). g.line) one, (ap (λ (g : Given). g.column) one, ap (λ (g : Given). g.field) one))
+
 module _ (s : List ℕ) (w : Walk) where
-  stands-given : ((step_of s w).given ≡ Done → ⊥) → Standing w
+  stands-given : ((step_of s w).given ≡ None → ⊥) → Standing w
   stands-given some = by-test (stands w) refl
     where
       by-test : (t : Bool) → stands w ≡ t → Standing w
       by-test true e = standing w e
       by-test false e = absurd (some (ap (λ (z : Step). z.given) (step-done s w e)))
 
-  standing-given : Standing w → (step_of s w).given ≡ Done → ⊥
+  standing-given : Standing w → (step_of s w).given ≡ None → ⊥
   standing-given t d =
       let e = step-on s w (stands_at w t.fits w.line w.column t.place) in
       not_done w.line w.column (field_there s w w.line w.column)

@@ -4,7 +4,7 @@
 --
 -- A walk that was made with the number 0 is over an accepted entry (`StartAnswer`). Each type is that of a law under the
 -- law's name, in proofs/ here or in walk_laws; `WalkSaid` stands there.
-use Rattle.std.specs.Prelude.{ℕ, ◌+◌, ◌-◌, ◌*◌, ◌<◌, ◌≤◌, ◌≡◌, cond, List, ◌↔◌, ◌⊎◌, eqb, length}
+use Rattle.std.specs.Prelude.{ℕ, ◌+◌, ◌-◌, ◌*◌, ◌<◌, ◌≤◌, ◌≡◌, cond, List, ◌↔◌, ◌⊎◌, eqb, length, None}
 use Rattle.paper_number.specs.Digits.{field_read}
 use Rattle.paper_number.specs.declared.types.FieldRead.{FieldRead}
 use Rattle.paper_number.specs.declared.types.Reading.TheVariants.{Blank}
@@ -23,8 +23,7 @@ use Rattle.paper_index.specs.Asked.{no_row}
 use Rattle.paper_index.specs.Reads.{read_refusals, table_identifier}
 use Rattle.paper_index.specs.TableAnswers.{value_from_row}
 use Rattle.paper_walk.specs.declared.types.Walk.{Walk}
-use Rattle.paper_walk.specs.declared.types.Given.TheVariants.{At, Done}
-use Rattle.paper_walk.specs.Walk.{done_walk, start_of, start_from_row, step_of, after, given_at}
+use Rattle.paper_walk.specs.Walk.{done_walk, start_of, start_from_row, step_of, after, given_at, at_place}
 
 -- ---- places
 
@@ -94,26 +93,26 @@ WalkGives =
     (s : List ℕ) (n section : ℕ) → (start_of s n section).answer.number ≡ 0 → (line : LineNo) (column : ℕ)
     → PlaceIn (start_of s n section) line column
     → given_at s (start_of s n section) (places_before (start_of s n section) line column)
-    ≡ At line column (value_there s n section line column)
+    ≡ at_place line column (value_there s n section line column)
 
 -- in no other turn, and nothing else is given
 abbrev pub WalkOnce : Type 0
 WalkOnce =
     (s : List ℕ) (n section : ℕ) → (start_of s n section).answer.number ≡ 0
-    → (i : ℕ) (line : LineNo) (column : ℕ) (field : FieldRead) → given_at s (start_of s n section) i ≡ At line column field
+    → (i : ℕ) (line : LineNo) (column : ℕ) (field : FieldRead) → given_at s (start_of s n section) i ≡ at_place line column field
     → (i ≡ places_before (start_of s n section) line column) × PlaceIn (start_of s n section) line column
 
 -- "then saying it is done and staying so": behind the last place, for ever
 abbrev pub WalkEnds : Type 0
 WalkEnds =
     (s : List ℕ) (n section j : ℕ)
-    → given_at s (start_of s n section) ((start_of s n section).lines * (start_of s n section).columns + j) ≡ Done
+    → given_at s (start_of s n section) ((start_of s n section).lines * (start_of s n section).columns + j) ≡ None
 
 -- "a walker so refused is done at once"
 abbrev pub WalkRefused : Type 0
 WalkRefused =
     (s : List ℕ) (n section : ℕ) → ((start_of s n section).answer.number ≡ 0 → ⊥)
-    → (i : ℕ) → given_at s (start_of s n section) i ≡ Done
+    → (i : ℕ) → given_at s (start_of s n section) i ≡ None
 
 -- ---- any walk, over any bytes
 
@@ -130,42 +129,42 @@ pub record Standing (w : Walk) : Type 0 where
 
 -- exactly then it is not done
 abbrev pub AnyExactly : Type 0
-AnyExactly = (s : List ℕ) (w : Walk) → ((step_of s w).given ≡ Done → ⊥) ↔ Standing w
+AnyExactly = (s : List ℕ) (w : Walk) → ((step_of s w).given ≡ None → ⊥) ↔ Standing w
 
 -- it gives its own place, then each behind it, with what the field there says
 abbrev pub AnyGives : Type 0
 AnyGives =
     (s : List ℕ) (w : Walk) → Standing w → (line : LineNo) (column : ℕ) → PlaceIn w line column
     → (i : ℕ) → places_before w w.line w.column + i ≡ places_before w line column
-    → given_at s w i ≡ At line column (field_there s w line column)
+    → given_at s w i ≡ at_place line column (field_there s w line column)
 
 -- in no other turn, and nothing else
 abbrev pub AnyOnce : Type 0
 AnyOnce =
-    (s : List ℕ) (w : Walk) (i : ℕ) (line : LineNo) (column : ℕ) (field : FieldRead) → given_at s w i ≡ At line column field
+    (s : List ℕ) (w : Walk) (i : ℕ) (line : LineNo) (column : ℕ) (field : FieldRead) → given_at s w i ≡ at_place line column field
     → (places_before w w.line w.column + i ≡ places_before w line column) × PlaceIn w line column
 
 -- "left to right and line by line"
 abbrev pub WalkOrder : Type 0
 WalkOrder =
     (s : List ℕ) (w : Walk) (i j : ℕ) (line line2 : LineNo) (column column2 : ℕ) (field field2 : FieldRead)
-    → given_at s w i ≡ At line column field → given_at s w j ≡ At line2 column2 field2
+    → given_at s w i ≡ at_place line column field → given_at s w j ≡ at_place line2 column2 field2
     → (i < j) ↔ Before line column line2 column2
 
 -- a place whose record ends behind the last byte is given as blank
 abbrev pub OutsideBlank : Type 0
 OutsideBlank =
-    (s : List ℕ) (w : Walk) (i : ℕ) (line : LineNo) (column : ℕ) (field : FieldRead) → given_at s w i ≡ At line column field
+    (s : List ℕ) (w : Walk) (i : ℕ) (line : LineNo) (column : ℕ) (field : FieldRead) → given_at s w i ≡ at_place line column field
     → length s < (place_of w.section w.columns line column).at.0 * 81
     → field ≡ record { reading = Blank; digits = 0 }
 
 -- it ends, after as many steps as its table has places at the most
 abbrev pub AnyEnds : Type 0
-AnyEnds = (s : List ℕ) (w : Walk) (j : ℕ) → given_at s w (w.lines * w.columns + j) ≡ Done
+AnyEnds = (s : List ℕ) (w : Walk) (j : ℕ) → given_at s w (w.lines * w.columns + j) ≡ None
 
 -- "saying it is done and staying so": a step that gives nothing changes nothing
 abbrev pub DoneStays : Type 0
-DoneStays = (s : List ℕ) (w : Walk) → (step_of s w).given ≡ Done → (step_of s w).walk ≡ w
+DoneStays = (s : List ℕ) (w : Walk) → (step_of s w).given ≡ None → (step_of s w).walk ≡ w
 
 -- whatever is given, a walk keeps its answer and its table
 abbrev pub WalkKeeps : Type 0
@@ -187,7 +186,7 @@ RowAnswer =
 abbrev pub RowRefused : Type 0
 RowRefused =
     (s : List ℕ) (x : Row) (section : ℕ) → ((start_from_row s x section).answer.number ≡ 0 → ⊥)
-    → (i : ℕ) → given_at s (start_from_row s x section) i ≡ Done
+    → (i : ℕ) → given_at s (start_from_row s x section) i ≡ None
 
 -- the places of its table are those that the question by this row does not refuse by their line or their column
 abbrev pub RowPlaces : Type 0
@@ -203,7 +202,7 @@ RowGives =
     (s : List ℕ) (x : Row) (section : ℕ) (line : LineNo) (column : ℕ)
     → (value_from_row s x section line column).answer.number ≡ 0
     → given_at s (start_from_row s x section) (places_before (start_from_row s x section) line column)
-    ≡ At line column (value_by_row s x section line column)
+    ≡ at_place line column (value_by_row s x section line column)
 
 -- ---- one body: a walk is made from the row, by the same reads as every question
 

@@ -3,11 +3,12 @@
 --   "Provide a walker that keeps the entry and its place in it, giving the next value with line and column, left to
 --   right and line by line, then saying it is done and staying so. [..] Refusals: 31 to 33 when it is made; a walker so
 --   refused is done at once."
-use Rattle.std.specs.Prelude.{ℕ, zero, suc, ◌+◌, Bool, true, false, cond, ◌&&◌, List, eqb, ltb, leb}
+use Rattle.std.specs.Prelude.{ℕ, zero, suc, ◌+◌, Bool, true, false, cond, ◌&&◌, List, eqb, ltb, leb, Option, Some, None}
 use Rattle.paper_number.specs.Digits.{field_read}
 use Rattle.paper_number.specs.Reading.{answer as reading_said}
 use Rattle.paper_number.specs.Value.{zero_decimal}
 use Rattle.paper_number.specs.declared.types.Decimal.{Decimal}
+use Rattle.paper_number.specs.declared.types.FieldRead.{FieldRead}
 use Rattle.paper_record.specs.Places.{place_of}
 use Rattle.paper_record.specs.Text.{within}
 use Rattle.paper_record.specs.declared.types.RecordNo.{RecordNo}
@@ -26,7 +27,6 @@ use Rattle.paper_questions.specs.Refused.{section_in, section_refusals}
 use Rattle.paper_index.specs.Reads.{read_refusals, table_identifier}
 use Rattle.paper_walk.specs.declared.types.Walk.{Walk}
 use Rattle.paper_walk.specs.declared.types.Given.{Given}
-use Rattle.paper_walk.specs.declared.types.Given.TheVariants.{At, Done}
 use Rattle.paper_walk.specs.declared.types.Step.{Step}
 
 abbrev pub line_no : ℕ → LineNo
@@ -98,12 +98,16 @@ onward w =
 abbrev pub field_next : List ℕ → Walk → List ℕ
 field_next s w = field_of s (place_of w.section w.columns w.line w.column)
 
+-- a value that is given, with its line and column; done is `None`
+abbrev pub at_place : LineNo → ℕ → FieldRead → Option Given
+at_place line column field = Some (record { line = line; column = column; field = field })
+
 -- "giving the next value with line and column [..] then saying it is done and staying so"
 unfoldable pub step_of : List ℕ → Walk → Step
 step_of s w =
     cond (stands w)
-    (record { walk = onward w; given = At w.line w.column (field_read (field_next s w)) })
-    (record { walk = w; given = Done })
+    (record { walk = onward w; given = at_place w.line w.column (field_read (field_next s w)) })
+    (record { walk = w; given = None })
 
 -- ---- what all of a walk gives
 
@@ -112,7 +116,7 @@ unfoldable pub after : List ℕ → Walk → ℕ → Walk
 after s w zero = w
 after s w (suc i) = (step_of s (after s w i)).walk
 
-abbrev pub given_at : List ℕ → Walk → ℕ → Given
+abbrev pub given_at : List ℕ → Walk → ℕ → Option Given
 given_at s w i = (step_of s (after s w i)).given
 
 -- ---- document 01's number and values for each case of what is given; 15 would stand for a malformed field, and over an
@@ -127,17 +131,17 @@ pub record GivenSaid : Type 0 where
   pub decimal : Decimal
   pub digits : ℕ
 
-abbrev pub given_said : Given → GivenSaid
-given_said (At line column field) =
-    let said = reading_said field.reading in
+abbrev pub given_said : Option Given → GivenSaid
+given_said (Some g) =
+    let said = reading_said g.field.reading in
     record {
       done = false;
-      line = line.0;
-      column = column;
+      line = g.line.0;
+      column = g.column;
       refusal = said.refusal;
       blank = said.blank;
       decimal = said.value;
-      digits = field.digits;
+      digits = g.field.digits;
     }
-given_said Done =
+given_said None =
     record { done = true; line = 0; column = 0; refusal = 0; blank = true; decimal = zero_decimal; digits = 0 }

@@ -15,16 +15,17 @@ pub struct Walk {
     pub column: u32,
 }
 
-// A value, with its count of digits, and its line and column; or done.
+// A value, with its count of digits, and its line and column.
 #[derive(Clone, Copy)]
-pub enum Given {
-    At(LineNo, u32, FieldRead),
-    Done,
+pub struct Given {
+    pub line: LineNo,
+    pub column: u32,
+    pub field: FieldRead,
 }
 
-// What is given, and where the walk stands then.
+// What is given, nothing where the walk is done, and where it stands then.
 #[derive(Clone, Copy)]
 pub struct Step {
     pub walk: Walk,
-    pub given: Given,
+    pub given: Option<Given>,
 }

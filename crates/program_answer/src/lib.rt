@@ -58,9 +58,15 @@ pub fn say_value(v: ValueAnswer) {
 }
 
 // A value that a walk gives with its line and column, or that it is done, as a line.
-pub fn say_given(given: Given) {
+pub fn say_given(given: Option<Given>) {
     match given {
-        Given::At(line, column, field) => {
+        Some(
+            Given {
+                line,
+                column,
+                field,
+            },
+        ) => {
             let r = field.reading;
             let digits = field.digits;
             let place = [line.0 as u64, column as u64];
@@ -69,7 +75,7 @@ pub fn say_given(given: Given) {
             say(b" ", digits as u64);
             io::write_all(1, b"\n");
         }
-        Given::Done => {
+        None => {
             io::write_all(1, b"done\n");
         }
     }

@@ -1,90 +1,74 @@
-// What the programs of this repository have in common: words and numbers on standard output, and numbers in the lines
-// that they read.
+// What the programs of this repository have in common: reading standard input, and numbers in the lines that they read.
 
 #![tactic(auto)]
 
-ghost use Rattle.std.specs.Prelude.{◌≡◌, ◌≢◌, ◌<◌, ◌≤◌, ◌-◌, ℕ, length, slice_index};
+mod words;
+
+ghost use Rattle.std.specs.Prelude.{◌≡◌, ◌≢◌, ◌<◌, ◌≤◌, ◌-◌, ℕ, length, take, slice_index, ◌++◌, codes, IfOk, IfSome, OnOk};
+ghost use Rattle.std.specs.Io.KnownBytes.{Appends};
 ghost use Rattle.program_text.specs.Line.{byte_at, with_digit, number_over};
 
-// A word, and a number behind it.
-pub fn say(word: &[u8], n: u64) {
-    io::write_all(1, word);
-    io::print_decimal(1, n);
+use std::alloc::Global;
+use std::io::{self, Read, Write};
+pub use words::{say, say_line, say_numbers, say_power};
+
+/// The bytes of a reader, `most` of them at most.
+pub fn read_at_most<R: Read + Drop>(reader: R, alloc: Global, most: u64) -> io::Result<Vec<u8>>
+    ensures { IfOk result (λ all. IfSome (R.remaining reader) (λ xs. all.items ≡ take most xs)) }
+{
+    let mut all = Vec::new(alloc);
+    reader.take(most).read_to_end(&mut all)?;
+    Ok(all)
 }
 
-// A word, and numbers behind it with a blank between two.
-pub fn say_numbers(word: &[u8], all: &[u64]) {
-    io::write_all(1, word);
-    let mut i: usize = 0;
-    while i < all.len() {
-        if 0 < i {
-            io::write_all(1, b" ");
+/// Fills the buffer with the bytes of a reader as far as they go, and says how many these are.
+pub fn read_full<R: Read>(reader: &mut R, buffer: &mut [u8]) -> io::Result<usize>
+    ensures { IfOk result (λ used. used ≤ length buffer.new) }
+{
+    let mut used = 0;
+    while used < buffer.len() {
+        let count = reader.read(&mut buffer[used..])?;
+        if count == 0 {
+            break;
         }
-        io::print_decimal(1, all[i]);
-        i += 1;
+        used += count;
     }
+    Ok(used)
 }
 
-// The same, as a whole line.
-pub fn say_line(word: &[u8], all: &[u64]) {
-    say_numbers(word, all);
-    io::write_all(1, b"\n");
-}
-
-pub fn say_power(p: i32) {
-    if p < 0 {
-        let q = p as i64;
-        let size = 0 - q;
-        say(b"-", size as u64);
-    } else {
-        io::print_decimal(1, p as u64);
-    }
-}
-
-// The byte at `i`; past the end of the line it is blank.
+/// The byte at `i`; past the end of the line it is blank.
 pub fn byte_at(line: &[u8], i: usize) -> u8
     ensures { result ≡ byte_at line.now i }
 {
-    if i < line.len() {
-        return line[i];
-    }
-    b' '
+    line.get(i).copied().unwrap_or(b' ')
 }
 
 // A number with one digit more at its end; 0 where it has nine digits, or the byte is none.
+#[tactic(auto, unfolding(crate::specs::Line::with_digit))]
 fn with_digit(n: u32, b: u8) -> u32
     ensures value { result ≡ with_digit n b }
     ensures upper_bound { result ≤ 999999999 }
 {
-    if 99999999 < n {
-        return 0;
+    if n <= 99999999 && b.is_ascii_digit() {
+        n * 10 + u32::from(b - b'0')
+    } else {
+        0
     }
-    if b < b'0' {
-        return 0;
-    }
-    if b'9' < b {
-        return 0;
-    }
-    let digit = (b - b'0') as u32;
-    n * 10 + digit
 }
 
-// The number that the columns of a line from `from` up to `past` end in, of nine digits at most.
+/// The number that the columns of a line from `from` up to `past` end in, of nine digits at most.
 pub fn number_in(line: &[u8], from: usize, past: usize) -> u32
     ensures value { result ≡ number_over line.now from (past - from) }
     ensures upper_bound { result ≤ 999999999 }
 {
-    let mut n: u32 = 0;
-    let mut i = from;
-    while i < past {
-        let b = byte_at(line, i);
-        n = with_digit(n, b);
-        i += 1;
+    let mut n = 0;
+    for i in from..past {
+        n = with_digit(n, byte_at(line, i));
     }
     n
 }
 
-// The first place of a byte among the places of a line from `from` up to `to`, or `to`.
+/// The first place of a byte among the places of a line from `from` up to `to`, or `to`.
 pub fn find(line: &[u8], from: usize, to: usize, b: u8) -> usize
     requires in_order { from ≤ to }
     requires in_line { to ≤ length line.now }
@@ -93,12 +77,20 @@ pub fn find(line: &[u8], from: usize, to: usize, b: u8) -> usize
     ensures before { (k : ℕ) → from ≤ k → k < result → slice_index line.now k ≢ b }
     ensures found { result < to → slice_index line.now result ≡ b }
 {
-    let mut i = from;
-    while i < to {
+    // A range, since the places are those of the whole line: with `position` behind a cut the clause `before` did not close.
+    for i in from..to {
         if line[i] == b {
             return i;
         }
-        i += 1;
     }
-    i
+    to
+}
+
+/// The bytes as they are, between brackets.
+pub fn write_in_brackets<W: Write>(out: &mut W, bytes: &[u8]) -> io::Result<()>
+    ensures { OnOk result (Appends (W.contents out.old) (W.contents out.new) (codes "[" ++ bytes.now ++ codes "]")) }
+{
+    out.write_all(b"[")?;
+    out.write_all(bytes)?;
+    out.write_all(b"]")
 }

@@ -11,7 +11,7 @@ use paper_questions::types::{PartAnswer, Row};
 use paper_record::types::RecordNo;
 use questions_headings::headings::{heading_at, unit_at};
 use questions_numbers::numbers::{is_counted, section_in, table_identifier};
-use questions_parts::answers::{both, part_from, refused_part};
+use questions_parts::answers::{part_from, refused_part};
 use questions_places::place::{byte_of, heading_place, shape_from, unit_place};
 use questions_reads::reads::read_section;
 
@@ -83,9 +83,9 @@ pub fn unit_from_row(entry: &[u8], row: Row, section: u32, column: u32) -> PartA
     let above = heading_place(at, column);
     let place = unit_place(at, columns, column);
     let heading = heading_at(entry, above);
-    let named = heading.good;
     let unit = unit_at(entry, place);
-    if !both(named, unit) {
+    let named = heading.good && unit;
+    if !named {
         return refused_part(39);
     }
     let first = byte_of(place);

@@ -19,9 +19,8 @@ use questions_places::place::{COMMON_SECTION, field_of};
 pub fn refused_value(number: u8) -> ValueAnswer
     ensures { result ≡ refused_value number }
 {
-    let answer = answer_of(number);
     ValueAnswer {
-        answer,
+        answer: answer_of(number),
         value: Reading::Blank,
         digits: 0,
     }

@@ -1,6 +1,5 @@
 // What a question reads of the subentry's first record, of any bytes and any row.
 ghost use Rattle.std.specs.Prelude.{◌≡◌, not, [], ◌∷◌};
-ghost use Rattle.paper_record.specs.Identifier.{NamesLent};
 ghost use Rattle.paper_entry.specs.Answer.{refusal, first_of};
 ghost use Rattle.paper_index.specs.Reads.{is_nosubent, has_number, good_first};
 
@@ -8,7 +7,7 @@ use paper_questions::types::Row;
 use questions_numbers::numbers::{in_entry, is_counted};
 use questions_places::place::field_at;
 use record::system::{is_subent_n1, subentry_of};
-use record_names::identifier::{NOSUBENT, Names, SUBENT, identifier_of};
+use record_names::identifier::{NOSUBENT, Names, SUBENT};
 use rules_numbers::numbers::LAST_SUBENTRY;
 
 // Whether N1 of SUBENT is in its form and says this number.
@@ -27,7 +26,6 @@ fn has_number(f: [u8; 11], n: u32) -> bool
 
 // Of the subentry's first record: 32 where it is NOSUBENT, 39 where it is not its SUBENT, else 0.
 pub fn first_refusal(entry: &[u8], names: &Names, row: Row) -> u8
-    requires { NamesLent names.now }
     ensures { result ≡ first_of (refusal 32 (is_nosubent entry.now row)
         ∷ refusal 39 (not (good_first entry.now row)) ∷ []) }
 {
@@ -36,7 +34,7 @@ pub fn first_refusal(entry: &[u8], names: &Names, row: Row) -> u8
         return 39;
     }
     let f = field_at(entry, first, 0);
-    let identifier = identifier_of(names, f);
+    let identifier = names.identifier_of(f);
     if identifier == NOSUBENT {
         return 32;
     }

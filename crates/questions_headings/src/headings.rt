@@ -7,12 +7,11 @@ ghost use Rattle.paper_index.specs.Reads.{good_heading, good_unit};
 
 use paper_record::types::Place;
 use questions_numbers::numbers::in_entry;
-use questions_parts::answers::both;
 use questions_places::place::field_of;
 use record_faults::faults::{bad_pointer, is_unit};
 use record_words::word::is_word;
 
-// A heading's field: whether it is in its form, and its eleventh column.
+// A heading's field: whether it is in its form, and its eleventh column. No Option: `heading_at` promises the column of any field.
 #[derive(Clone, Copy)]
 pub struct HeadingRead {
     pub good: bool,
@@ -23,35 +22,29 @@ pub struct HeadingRead {
 fn is_heading(f: [u8; 11]) -> bool
     ensures { result ≡ is_word 10 f && not (bad_pointer f) }
 {
-    if bad_pointer(f) {
-        return false;
-    }
-    is_word(f)
+    is_word(f) && !bad_pointer(f)
 }
 
 // Whether the heading at a place can be read there, and its pointer.
+#[tactic(auto, unfolding(paper_index::specs::Reads::good_heading))]
 pub fn heading_at(entry: &[u8], place: Place) -> HeadingRead
     requires { place.field ≤ 5 }
     ensures good_value { result.good ≡ good_heading entry.now place }
     ensures pointer_value { result.pointer ≡ pointer_of (field_of entry.now place) }
 {
-    let at = place.at;
-    let inside = in_entry(entry, at);
     let f = field_of(entry, place);
-    let heading = is_heading(f);
-    let good = both(inside, heading);
-    let pointer = f[10];
-    HeadingRead { good, pointer }
+    HeadingRead {
+        good: in_entry(entry, place.at) && is_heading(f),
+        pointer: f[10],
+    }
 }
 
 // Whether the unit at a place can be read there.
+#[tactic(auto, unfolding(paper_index::specs::Reads::good_unit))]
 pub fn unit_at(entry: &[u8], place: Place) -> bool
     requires { place.field ≤ 5 }
     ensures { result ≡ good_unit entry.now place }
 {
-    let at = place.at;
-    let inside = in_entry(entry, at);
     let f = field_of(entry, place);
-    let unit = is_unit(f);
-    both(inside, unit)
+    in_entry(entry, place.at) && is_unit(f)
 }

@@ -5,7 +5,6 @@ ghost use Rattle.paper_entry.specs.Answer.{refusal, first_of};
 ghost use Rattle.paper_index.specs.PassageAnswers.{least, records_held};
 
 use paper_record::types::RecordNo;
-use questions_parts::answers::both;
 use rules_state::state::MOST_RECORDS;
 
 // How many records lie inside the entry.
@@ -30,8 +29,7 @@ pub fn texts_held(entry: &[u8], bib: RecordNo, counted: u64) -> u32
         return 0;
     }
     let behind = held - bib.0;
-    let wide = behind as u64;
-    if counted <= wide {
+    if counted <= u64::from(behind) {
         return counted as u32;
     }
     behind
@@ -41,13 +39,12 @@ pub fn texts_held(entry: &[u8], bib: RecordNo, counted: u64) -> u32
 pub fn passage_refusal(counted: u64, held: u32, from: u32, past: u32) -> u8
     ensures { result ≡ first_of (refusal 39 (ltb held counted && eqb past held) ∷ refusal 36 (eqb from held) ∷ []) }
 {
-    let fewer = (held as u64) < counted;
-    let reached = past == held;
-    if both(fewer, reached) {
-        return 39;
+    let fewer = u64::from(held) < counted;
+    if fewer && past == held {
+        39
+    } else if from == held {
+        36
+    } else {
+        0
     }
-    if from == held {
-        return 36;
-    }
-    0
 }

@@ -20,34 +20,30 @@ pub fn empty_row(number: u32) -> Row
 }
 
 // The row, after a record of its subentry.
-fn noted(mut row: Row, role: usize, at: RecordNo) -> Row
+#[tactic(auto, unfolding(paper_questions::specs::Row::noted))]
+fn noted(row: Row, role: usize, at: RecordNo) -> Row
     ensures { result ≡ noted row role at }
 {
     if opens_subentry(role) {
-        row.first = at;
-        return row;
+        Row { first: at, ..row }
+    } else if role == BIB {
+        Row { bib: at, ..row }
+    } else if role == COMMON {
+        Row { common: at, ..row }
+    } else if role == DATA {
+        Row { data: at, ..row }
+    } else {
+        row
     }
-    if role == BIB {
-        row.bib = at;
-        return row;
-    }
-    if role == COMMON {
-        row.common = at;
-        return row;
-    }
-    if role == DATA {
-        row.data = at;
-        return row;
-    }
-    row
 }
 
 // The row, after a record of the subentry with a number.
 pub fn noted_in(row: Row, number: u32, role: usize, at: RecordNo) -> Row
     ensures { result ≡ noted_in row number role at }
 {
-    if number != row.number {
-        return row;
+    if number == row.number {
+        noted(row, role, at)
+    } else {
+        row
     }
-    noted(row, role, at)
 }

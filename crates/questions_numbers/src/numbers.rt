@@ -15,29 +15,26 @@ use rules_state::state::MOST_RECORDS;
 pub fn in_entry(entry: &[u8], at: RecordNo) -> bool
     ensures { result ≡ in_entry entry.now at }
 {
-    if !has_record(entry, at) {
-        return false;
-    }
-    at.0 <= MOST_RECORDS
+    has_record(entry, at) && at.0 <= MOST_RECORDS
 }
 
 // Whether `1 <= n <= most`.
 pub fn is_counted(most: u32, n: u32) -> bool
     ensures { result ≡ within 1 most n }
 {
-    is_within(1, most as u64, n as u64)
+    is_within(1, u64::from(most), u64::from(n))
 }
 
 pub fn section_in(row: Row, section: u32) -> RecordNo
     ensures { result ≡ section_in row section }
 {
     if section == COMMON_SECTION {
-        return row.common;
+        row.common
+    } else if section == DATA_SECTION {
+        row.data
+    } else {
+        RecordNo(0)
     }
-    if section == DATA_SECTION {
-        return row.data;
-    }
-    RecordNo(0)
 }
 
 // The identifier of a section of a table.
@@ -45,7 +42,8 @@ pub fn table_identifier(section: u32) -> usize
     ensures { result ≡ table_identifier section }
 {
     if section == COMMON_SECTION {
-        return COMMON;
+        COMMON
+    } else {
+        DATA
     }
-    DATA
 }

@@ -10,11 +10,10 @@ pub fn no_row(v: Verdict, row: Row) -> u8
     ensures { result ≡ no_row v row }
 {
     if v.refusal != 0 {
-        return 31;
+        31
+    } else if row.first.0 == 0 {
+        32
+    } else {
+        0
     }
-    let first = row.first;
-    if first.0 == 0 {
-        return 32;
-    }
-    0
 }

@@ -1,5 +1,5 @@
 // An answer that names a part of the entry, or refuses one. Of a part it says the place.
-ghost use Rattle.std.specs.Prelude.{◌≡◌, ◌&&◌};
+ghost use Rattle.std.specs.Prelude.{◌≡◌};
 ghost use Rattle.paper_entry.specs.Answer.{answer_of};
 ghost use Rattle.paper_questions.specs.PartAnswers.{no_part, part_from};
 
@@ -22,8 +22,7 @@ pub fn no_part(answer: Answer) -> PartAnswer
 pub fn refused_part(number: u8) -> PartAnswer
     ensures { result ≡ no_part (answer_of number) }
 {
-    let refused = answer_of(number);
-    no_part(refused)
+    no_part(answer_of(number))
 }
 
 // So many bytes of the entry from a byte on, where it has them.
@@ -44,14 +43,4 @@ pub fn part_from(entry: &[u8], first: usize, length: usize, pointer: u8) -> Part
         length,
         pointer,
     }
-}
-
-// Whether both hold.
-pub fn both(a: bool, b: bool) -> bool
-    ensures { result ≡ a && b }
-{
-    if a {
-        return b;
-    }
-    false
 }

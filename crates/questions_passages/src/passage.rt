@@ -14,29 +14,21 @@ fn text_at(entry: &[u8], bib: RecordNo, i: u32) -> [u8; 11]
     requires { Span bib i MOST-RECORDS }
     ensures { result ≡ text_at entry.now bib i }
 {
-    let number = bib.0 + (i + 1);
-    let at = RecordNo(number);
-    field_at(entry, at, 0)
+    field_at(entry, RecordNo(bib.0 + (i + 1)), 0)
 }
 
 // Whether a passage begins.
 fn begins(f: [u8; 11]) -> bool
     ensures { result ≡ begins f }
 {
-    if is_keyword_blank(f) {
-        return f[10] != b' ';
-    }
-    true
+    !is_keyword_blank(f) || f[10] != b' '
 }
 
 // Whether the passage with this pointer begins.
 fn begins_with(pointer: u8, f: [u8; 11]) -> bool
     ensures { result ≡ begins_with pointer f }
 {
-    if !begins(f) {
-        return false;
-    }
-    f[10] == pointer
+    begins(f) && f[10] == pointer
 }
 
 // Whether a text record stands under the keyword: as the one before it, unless it has a keyword of its own.
@@ -44,22 +36,17 @@ fn is_under(earlier: bool, keyword: [u8; 10], f: [u8; 11]) -> bool
     ensures { result ≡ cond (has_keyword f) (equal_to 10 f keyword) earlier }
 {
     if is_keyword_blank(f) {
-        return earlier;
+        earlier
+    } else {
+        equal_to(&f, &keyword, 10)
     }
-    if equal_to(&f, &keyword, 10) {
-        return true;
-    }
-    false
 }
 
 // Whether a text record, under the keyword or not, begins the passage with this pointer under it.
 fn is_begun(under: bool, pointer: u8, f: [u8; 11]) -> bool
     ensures { result ≡ under && begins_with pointer f }
 {
-    if !under {
-        return false;
-    }
-    begins_with(pointer, f)
+    under && begins_with(pointer, f)
 }
 
 // The first of `n` text records that begins the passage with a keyword and a pointer, `n` where none does.
@@ -69,14 +56,12 @@ pub fn begun_at(entry: &[u8], bib: RecordNo, keyword: [u8; 10], pointer: u8, n: 
     ensures upper_bound { result ≤ n }
 {
     let mut under = false;
-    let mut i = 0;
-    while i < n {
+    for i in 0..n {
         let f = text_at(entry, bib, i);
         under = is_under(under, keyword, f);
         if is_begun(under, pointer, f) {
             return i;
         }
-        i += 1;
     }
     n
 }
@@ -91,13 +76,11 @@ pub fn ended_at(entry: &[u8], bib: RecordNo, p: u32, n: u32) -> u32
     if p == n {
         return n;
     }
-    let mut past = p + 1;
-    while past < n {
+    for past in p + 1..n {
         let f = text_at(entry, bib, past);
         if begins(f) {
             return past;
         }
-        past += 1;
     }
     n
 }

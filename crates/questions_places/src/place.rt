@@ -20,11 +20,7 @@ pub const DATA_SECTION: u32 = 2;
 pub fn has_record(entry: &[u8], at: RecordNo) -> bool
     ensures { result ≡ has_record entry.now at }
 {
-    if at.0 == 0 {
-        return false;
-    }
-    let number = at.0 as usize;
-    number * 81 <= entry.len()
+    at.0 != 0 && at.0 as usize * 81 <= entry.len()
 }
 
 // A field, counted from 0, of the record with this number, blank where there is none.
@@ -33,8 +29,7 @@ pub fn field_at(entry: &[u8], at: RecordNo, k: u32) -> [u8; 11]
     ensures { result ≡ get_or (fields_at entry.now at) k [] }
 {
     if !has_record(entry, at) {
-        let blank = [b' '; 11];
-        return blank;
+        return [b' '; 11];
     }
     let before = at.0 as usize - 1;
     let from = before * 81;
@@ -90,9 +85,7 @@ pub fn field_of(entry: &[u8], place: Place) -> [u8; 11]
     requires { place.field ≤ 5 }
     ensures { result ≡ field_of entry.now place }
 {
-    let at = place.at;
-    let k = place.field;
-    field_at(entry, at, k)
+    field_at(entry, place.at, place.field)
 }
 
 // The first byte of a record.
@@ -112,8 +105,5 @@ pub fn byte_of(place: Place) -> usize
     requires { place.field ≤ 5 }
     ensures { result ≡ byte_of place }
 {
-    let at = place.at;
-    let first = first_byte(at);
-    let before = place.field as usize * 11;
-    first + before
+    first_byte(place.at) + place.field as usize * 11
 }

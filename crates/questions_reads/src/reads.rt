@@ -1,6 +1,5 @@
 // What a question reads of the section's record, behind the subentry's first, of any bytes and any row.
 ghost use Rattle.std.specs.Prelude.{◌≡◌, ◌≤◌, not, [], ◌∷◌};
-ghost use Rattle.paper_record.specs.Identifier.{NamesLent};
 ghost use Rattle.paper_rules.specs.Limits.{MOST-RECORDS};
 ghost use Rattle.paper_entry.specs.Answer.{refusal, first_of};
 ghost use Rattle.paper_questions.specs.Place.{fields_at};
@@ -13,7 +12,7 @@ use questions_first::first::first_refusal;
 use questions_numbers::numbers::in_entry;
 use questions_places::place::field_at;
 use record::system::{count_of, is_count, number_of};
-use record_names::identifier::{Names, identifier_of};
+use record_names::identifier::Names;
 use rules_limits::limits::announced;
 
 // The two counts of a section's record, or 39 where one is not in form and range.
@@ -48,7 +47,6 @@ fn read_counts(entry: &[u8], at: RecordNo, identifier: usize) -> SectionRead
 
 // The counts of the record with this identifier, or 39 where it is not there.
 fn read_record(entry: &[u8], names: &Names, at: RecordNo, identifier: usize) -> SectionRead
-    requires { NamesLent names.now }
     ensures { result
         ≡ counts_beside (first_of (refusal 39 (not (good_section entry.now at identifier)) ∷ []))
         (fields_at entry.now at) }
@@ -62,7 +60,7 @@ fn read_record(entry: &[u8], names: &Names, at: RecordNo, identifier: usize) -> 
         return refused;
     }
     let f = field_at(entry, at, 0);
-    let found = identifier_of(names, f);
+    let found = names.identifier_of(f);
     if found != identifier {
         return refused;
     }
@@ -75,7 +73,7 @@ pub fn read_section(entry: &[u8], row: Row, at: RecordNo, identifier: usize) -> 
     ensures at_bound { result.number ≡ 0 → at.0 ≤ MOST-RECORDS }
 {
     let section = at.0;
-    let names = record_names::identifier::names();
+    let names = Names::new();
     let number = first_refusal(entry, &names, row);
     if number != 0 {
         return SectionRead {

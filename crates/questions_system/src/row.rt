@@ -8,7 +8,7 @@ use crate::system::system_at;
 use paper_questions::types::Row;
 use paper_record::types::RecordNo;
 use questions_noted::row::{empty_row, noted_in};
-use record_names::identifier::names;
+use record_names::identifier::Names;
 
 // The row of a subentry in an accepted entry.
 pub fn row_of(entry: &[u8], number: u32) -> Row
@@ -17,10 +17,11 @@ pub fn row_of(entry: &[u8], number: u32) -> Row
     ensures met { Met result }
 {
     let n = (entry.len() / 81) as u32;
-    let names = names();
+    let names = Names::new();
     let mut hand = 0;
     let mut row = empty_row(number);
     let mut i = 0;
+    // A `for` goes one record on: here each record says how many more are passed over.
     while i < n {
         let at = RecordNo(i + 1);
         let found = system_at(entry, &names, at, hand);

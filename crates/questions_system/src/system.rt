@@ -1,6 +1,5 @@
 // A system record of an accepted entry: what it is, and by its own counts where the next stands.
 ghost use Rattle.std.specs.Prelude.{◌≡◌, ℕ, ◌≤◌};
-ghost use Rattle.paper_record.specs.Identifier.{NamesLent};
 ghost use Rattle.paper_questions.specs.Place.{fields_at, identifier_at};
 ghost use Rattle.system_records.specs.Next.{table_records, records_inside, hand_behind};
 
@@ -8,7 +7,7 @@ use columns_places::places::records_for;
 use paper_record::types::RecordNo;
 use questions_places::place::field_at;
 use record::system::{count_to, subentry_of};
-use record_names::identifier::{BIB, COMMON, DATA, Names, identifier_of};
+use record_names::identifier::{BIB, COMMON, DATA, Names};
 use rules_limits::limits::{MOST_COLUMNS, MOST_LINES};
 use rules_roles::roles::opens_subentry;
 use rules_state::state::MOST_RECORDS;
@@ -67,14 +66,13 @@ fn hand_behind(entry: &[u8], at: RecordNo, identifier: usize, hand: u32) -> u32
 
 // The system record with this number; `hand` is the number of the subentry in hand before it.
 pub fn system_at(entry: &[u8], names: &Names, at: RecordNo, hand: u32) -> System
-    requires { NamesLent names.now }
     ensures identifier_value { result.identifier ≡ identifier_at entry.now at }
     ensures hand_value { result.hand ≡ hand_behind (identifier_at entry.now at) (fields_at entry.now at) hand }
     ensures inside_value { result.inside ≡ records_inside (identifier_at entry.now at) (fields_at entry.now at) }
     ensures inside_bound { result.inside ≤ 60006 }
 {
     let f = field_at(entry, at, 0);
-    let identifier = identifier_of(names, f);
+    let identifier = names.identifier_of(f);
     let behind = hand_behind(entry, at, identifier, hand);
     let inside = records_inside(entry, at, identifier);
     System {

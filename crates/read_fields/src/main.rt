@@ -4,76 +4,55 @@
 #![tactic(auto)]
 
 use number_reading::read::read_number;
-use paper_number::types::{Decimal, Reading};
-use program_text::{find, say, say_power};
+use paper_number::types::{Decimal, FieldRead, Reading};
+use program_text::read_at_most;
+use std::{fmt, io};
 
-// A byte as a person can read it.
-fn shown(b: u8) -> u8 {
-    if b < 32 {
-        return 63;
-    }
-    if 126 < b {
-        return 63;
-    }
-    b
-}
+// How many bytes of the input are read.
+const MOST: u64 = 65536;
 
-fn show_columns(s: &[u8]) {
-    let mut i = 0;
-    while i < s.len() {
-        let one = [shown(s[i])];
-        io::write_all(1, &one);
-        i += 1;
-    }
-}
+// Columns as a person can read them.
+#[derive(Clone, Copy)]
+struct Shown<'a>(&'a [u8]);
 
-fn show_value(v: Decimal) {
-    let negative = v.negative;
-    let coefficient = v.coefficient;
-    let power = v.power;
-    if negative {
-        io::write_all(1, b"-");
-    }
-    io::print_decimal(1, coefficient);
-    io::write_all(1, b" e");
-    say_power(power);
-}
-
-fn show_reading(r: Reading) {
-    match r {
-        Reading::Blank => {
-            io::write_all(1, b"blank");
+impl fmt::Display for Shown<'_> {
+    fn fmt<W: fmt::Write>(&self, f: &mut fmt::Formatter<W>) -> fmt::Result {
+        for &b in self.0 {
+            let is_shown = matches!(b, b' '..=b'~');
+            f.write_char(if is_shown { char::from(b) } else { '?' })?;
         }
-        Reading::Number(v) => show_value(v),
-        Reading::Refused(n) => {
-            say(b"refused ", n as u64);
+        Ok(())
+    }
+}
+
+#[derive(Clone, Copy)]
+struct Said(Reading);
+
+impl fmt::Display for Said {
+    fn fmt<W: fmt::Write>(&self, f: &mut fmt::Formatter<W>) -> fmt::Result {
+        match self.0 {
+            Reading::Blank => f.write_str("blank"),
+            Reading::Number(
+                Decimal {
+                    negative,
+                    coefficient,
+                    power,
+                },
+            ) => {
+                let sign = if negative { "-" } else { "" };
+                write!(f, "{sign}{coefficient} e{power}")
+            }
+            Reading::Refused(n) => write!(f, "refused {n}"),
         }
     }
 }
 
-fn show_line(s: &[u8]) {
-    io::write_all(1, b"[");
-    show_columns(s);
-    io::write_all(1, b"] ");
-    let field = read_number(s);
-    let reading = field.reading;
-    let digits = field.digits;
-    show_reading(reading);
-    say(b" digits ", digits as u64);
-    io::write_all(1, b"\n");
-}
-
-fn show_lines(s: &[u8]) {
-    let mut from = 0;
-    while from < s.len() {
-        let end = find(s, from, s.len(), b'\n');
-        show_line(&s[from..end]);
-        from = end + 1;
+fn main(rt: HostRuntime) -> io::Result<()> {
+    let text = read_at_most(rt.reader(), rt.alloc(), MOST)?;
+    for line in text.split_inclusive(|b| *b == b'\n') {
+        let field = line.strip_suffix(b"\n").unwrap_or(line);
+        let FieldRead { reading, digits } = read_number(field);
+        println!(rt; "[{}] {} digits {digits}", Shown(field), Said(reading))?;
     }
-}
-
-fn main() {
-    let mut buf = io::large_buffer();
-    let n = io::read_full(0, &mut buf);
-    show_lines(&buf[..n]);
+    Ok(())
 }

@@ -1,7 +1,6 @@
 // The verdict on an entry, and why.
 ghost use Rattle.std.specs.Prelude.{◌≡◌, ◌*◌, ◌<◌};
 ghost use Rattle.paper_record.specs.Columns.{Whole};
-ghost use Rattle.paper_record.specs.Identifier.{NamesLent};
 ghost use Rattle.paper_rules.specs.Ranging.{Stands, seen_of};
 ghost use Rattle.paper_reasons.specs.Reason.{stating, expecting, has_reason, reason_for, reason_at, explain};
 ghost use Rattle.reasons_facts.specs.Lying.{Lying};
@@ -11,11 +10,12 @@ use crate::state::state_at;
 use columns::fields::fields;
 use entry::judge::judge;
 use entry_step::step::Judge;
+use judge_tables::tables::Tables;
 use paper_reasons::types::{Explained, Facts, Reason};
 use paper_rules::types::{Ranges, Track};
 use reasons_facts::facts::{count_facts, equal_facts};
 use record_expected::expected::five_digits;
-use record_names::identifier::{Names, identifier_of, names};
+use record_names::identifier::Names;
 use rules_due::role::role;
 use rules_every::every::{expected_identification, expected_sequence};
 
@@ -137,7 +137,6 @@ fn reason_at<'a>(
     number: u8,
     column: u8,
 ) -> Reason
-    requires names_lent { NamesLent names.now }
     requires stands { Stands j.track j.ranges before.now }
     requires whole { Whole rec.now }
     requires in_field { InField number column }
@@ -145,7 +144,7 @@ fn reason_at<'a>(
 {
     let fs = fields(rec);
     let first = fs[0];
-    let k = identifier_of(names, first);
+    let k = names.identifier_of(first);
     let t = j.track;
     let p = j.phase;
     let g = j.ranges;
@@ -158,12 +157,12 @@ fn reason_in(entry: &[u8], i: usize, number: u8, column: u8) -> Reason
     requires { Asked entry.now i number column }
     ensures { result ≡ reason_at entry.now i number column }
 {
-    let names = names();
-    let j = state_at(&names, entry, i);
+    let tables = Tables::new();
+    let j = state_at(&tables, entry, i);
     let from = i * 81;
     let past = from + 81;
     reason_at(
-        &names,
+        &tables.names,
         j,
         &entry[..from],
         &entry[from..past],

@@ -22,28 +22,25 @@ pub fn announced_facts(role: usize, a: u64, b: u64, column: u8) -> Facts
     ensures { result ≡ announced_facts role a b column }
 {
     if column == 12 {
-        let columns = limit_n1(role);
-        return limits_of(columns);
-    }
-    if role == COMMON {
+        limits_of(limit_n1(role))
+    } else if role == COMMON {
         // The count may be any of 64 bits: six columns to a record, rounded up without a sum that passes them.
         let k = a / 6 + (a % 6 + 5) / 6;
-        let records = 3 * k;
-        return Facts::Count(b, records);
+        Facts::Count(b, 3 * k)
+    } else {
+        limits_of(limit_n2(role, a))
     }
-    let lines = limit_n2(role, a);
-    limits_of(lines)
 }
 
 // 8 on an END record.
+#[tactic(auto, unfolding(paper_reasons::specs::Reason::end_facts))]
 pub fn end_facts(track: Track, role: usize, n: u64) -> Facts
     ensures { result ≡ end_facts track role n }
 {
     let due = true_count(track, role);
     if n != due {
-        return Facts::Count(n, due);
+        Facts::Count(n, due)
+    } else {
+        Facts::Count(track.bib.keywords, u64::from(track.bib.met))
     }
-    let b = track.bib;
-    let met = b.met as u64;
-    Facts::Count(b.keywords, met)
 }

@@ -1,6 +1,7 @@
 -- A heading that is found stands on a record of the entry: those of a section on the records of its range, those to
 -- the left on the record in hand, which comes next behind the third range. Assumes nothing.
 use Prim.Native.Nat.{ℕ, zero, suc, ◌+◌, ◌-◌, ◌*◌, ◌/◌, ◌<◌, ◌≤◌}
+use Rattle.std.specs.Prelude.{Option, Some, None}
 use mathlib.Core.Path.{◌≡◌, refl, sym, ◌∙◌, subst}
 use mathlib.Core.Bool.{Bool, true, false, cond}
 use mathlib.Core.List.{List}
@@ -10,8 +11,7 @@ use lib.Dec.{ltb}
 use lib.ListN.{length, drop, length-drop}
 use lib.Seq.{length-take-le}
 use Rattle.laws.specs.Turns.{after, go, out, run}
-use Rattle.paper_rules.specs.declared.types.Found.{Found}
-use Rattle.paper_rules.specs.declared.types.Found.TheVariants.{At, Nothing}
+use Rattle.paper_rules.specs.declared.types.HeadingPlace.{HeadingPlace}
 use Rattle.paper_rules.specs.declared.types.Range.{Range}
 use Rattle.paper_rules.specs.declared.types.Ranges.{Ranges}
 use Rattle.paper_rules.specs.declared.types.Track.{Track}
@@ -25,9 +25,9 @@ use Rattle.reasons_places.specs.Inside.{Inside}
 use Rattle.reasons_facts.specs.Lying.{Lying}
 
 -- what holds of nothing and of each earlier heading holds of the one that is found
-module _ (f : List ℕ) (e : Earlier) (P : Found → Type 0) (none : P Nothing)
+module _ (f : List ℕ) (e : Earlier) (P : Option HeadingPlace → Type 0) (none : P None)
     (some : (s m : ℕ) → s < 4 → m < heading_count (part_of e s) e.left s
-    → P (heading_found (headings_in e.table) s m)) where
+    → P (Some (heading_found (headings_in e.table) s m))) where
   abbrev count_in : ℕ → ℕ
   count_in s = heading_count (part_of e s) e.left s
 
@@ -40,7 +40,7 @@ module _ (f : List ℕ) (e : Earlier) (P : Found → Type 0) (none : P Nothing)
   found-next n s l rest = by-test (ltb (place_in s) (count_in s)) refl
     where
       by-test : (b : Bool) → ltb (place_in s) (count_in s) ≡ b
-          → P (after (cond b (out (heading_found (headings_in e.table) s (place_in s))) (go tt))
+          → P (after (cond b (out (Some (heading_found (headings_in e.table) s (place_in s)))) (go tt))
           (λ u. run (section_turn f e) nowhere u (s + 1) n))
       by-test true q = some s (place_in s) l (ltb-true (place_in s) (count_in s) q)
       by-test false q = rest
@@ -74,9 +74,9 @@ module _ (before : List ℕ) (g : Range) (lent : Lent before g) where
 
 -- ---- in an entry
 
-abbrev Few : Ranges → Found → Type 0
-Few g Nothing = Unit {0}
-Few g (At section column) = (1 ≤ column) × ((heading_records g section).from.0 + (column - 1) / 6 ≤ MOST-RECORDS)
+abbrev Few : Ranges → Option HeadingPlace → Type 0
+Few g None = Unit {0}
+Few g (Some at) = (1 ≤ at.column) × ((heading_records g at.section).from.0 + (at.column - 1) / 6 ≤ MOST-RECORDS)
 
 module _ (g : Ranges) (before r : List ℕ) (k : ℕ) (lying : Lying g before) (few : k ≤ 6) where
   abbrev those : Earlier
@@ -95,7 +95,7 @@ module _ (g : Ranges) (before r : List ℕ) (k : ℕ) (lying : Lying g before) (
       (bytes-long before x lent) l
 
   inside : (s m : ℕ) → s < 4 → m < heading_count (part_of those s) k s
-      → Few g (heading_found (headings_in those.table) s m)
+      → Few g (Some (heading_found (headings_in those.table) s m))
   inside zero m l h = (omega arith, from-few g.common001 lying.common001 m h)
   inside (suc zero) m l h = (omega arith, from-few g.common lying.common m h)
   inside (suc (suc zero)) m l h = (omega arith, from-few g.table lying.table m h)
@@ -106,9 +106,9 @@ module _ (g : Ranges) (before r : List ℕ) (k : ℕ) (lying : Lying g before) (
   )
   inside (suc (suc (suc (suc s)))) m l h = absurd (omega arith)
 
-  pub heading-inside : (f : List ℕ) (found : Found) → found ≡ equal_heading f those → Inside g found
+  pub heading-inside : (f : List ℕ) (found : Option HeadingPlace) → found ≡ equal_heading f those → Inside g found
   heading-inside f found e =
-      record { place = λ section column q. subst (Few g) (sym e ∙ q) (found-so f those (Few g) tt inside) }
+      record { place = λ at q. subst (Few g) (sym e ∙ q) (found-so f those (Few g) tt inside) }
 
 -- where the judge's state stands
 module _ (t : Track) (g : Ranges) (before : List ℕ) (stands : Stands t g before) where

@@ -17,14 +17,13 @@ use rules_roles::roles::opens_section;
 pub fn count_facts(track: Track, role: usize, fs: [[u8; 11]; 6], column: u8) -> Facts
     ensures { result ≡ count_facts track role fs column }
 {
-    let f = fs[1];
-    let g = fs[2];
-    let a = number_of(count_of(f));
+    let a = number_of(count_of(fs[1]));
     if opens_section(role) {
-        let b = number_of(count_of(g));
-        return announced_facts(role, a, b, column);
+        let b = number_of(count_of(fs[2]));
+        announced_facts(role, a, b, column)
+    } else {
+        end_facts(track, role, a)
     }
-    end_facts(track, role, a)
 }
 
 // 13: record and column of the first equal heading.
@@ -40,10 +39,13 @@ pub fn equal_facts<'a>(
     requires k_bound { k < 6 }
     ensures { result ≡ equal_facts (seen_of before.now g) g fs rec.now k }
 {
-    let a = g.common001;
-    let b = g.common;
-    let c = g.table;
-    let f = fs[k];
-    let found = equal_heading(part(before, a), part(before, b), part(before, c), rec, k, f);
+    let found = equal_heading(
+        part(before, g.common001),
+        part(before, g.common),
+        part(before, g.table),
+        rec,
+        k,
+        fs[k],
+    );
     heading_place(g, found)
 }

@@ -1,6 +1,7 @@
 -- What is said for 9, 13 and 14.
 -- Assumes nothing.
 use Prim.Native.Nat.{ℕ, ◌+◌, ◌*◌, ◌-◌, ◌/◌, ◌%◌, ◌≤◌, ◌<◌}
+use Rattle.std.specs.Prelude.{Option, Some as At, None}
 use mathlib.Core.Path.{◌≡◌, refl, sym, ◌∙◌, ap, subst}
 use mathlib.Core.Bool.{Bool, true}
 use mathlib.Core.List.{List, []}
@@ -17,8 +18,7 @@ use Rattle.paper_record.specs.declared.types.RecordNo.{RecordNo}
 use Rattle.paper_record.proofs.ReadColumns.{field-of}
 use Rattle.paper_rules.specs.declared.types.Track.{Track}
 use Rattle.paper_rules.specs.declared.types.Ranges.{Ranges}
-use Rattle.paper_rules.specs.declared.types.Found.{Found}
-use Rattle.paper_rules.specs.declared.types.Found.TheVariants as Found
+use Rattle.paper_rules.specs.declared.types.HeadingPlace.{HeadingPlace}
 use Rattle.paper_rules.specs.State.{Seen, used}
 use Rattle.paper_rules.specs.Roles.{DATA-HEADING, is_heading}
 use Rattle.paper_rules.specs.Record.{Fields, Record, field_column}
@@ -128,11 +128,13 @@ module _ (s : List ℕ) (i f : ℕ) (there : (i + 1) * 81 ≤ length s) (few : f
       (field-of r f few)
       ∙ ap (λ (x : Earlier). heading_place g (equal_heading (field_at r f) x)) (same-search s i f there few reaches)
 
-  place-said : (at : RecordNo) (column : ℕ) (found : Found)
+  place-said : (at : RecordNo) (column : ℕ) (found : Option HeadingPlace)
       → equal_heading (field_at r f) (searched (headings_before s i) r f) ≡ found
       → heading_place (ranges_at s i) found ≡ Equal at column → FirstPlace s i f (at.0 - 1) (column / 11)
-  place-said at column (Found.At section m) q e =
+  place-said at column (At place) q e =
       let g = ranges_at s i in
+      let section = place.section in
+      let m = place.column in
       let h =
       (found-exactly (field_at r f) (headings_before s i) r f (long-headings s i f there few reaches) (omega arith) section
       m).0 q in
@@ -144,7 +146,7 @@ module _ (s : List ℕ) (i f : ℕ) (there : (i + 1) * 81 ≤ length s) (few : f
       subst (λ (z : ℕ). FirstPlace s i f z (column / 11)) b
       (subst (λ (z : ℕ). FirstPlace s i f ((heading_records g section).from.0 + (m - 1) / 6) z) d
       (first-place s i f there few reaches section m h))
-  place-said at column Found.Nothing q e = let z : ◌≡◌ {A = ℕ} 0 1 = cc in absurd (omega arith)
+  place-said at column None q e = let z : ◌≡◌ {A = ℕ} 0 1 = cc in absurd (omega arith)
 
 -- the rule has found a field of a heading record
 record Found13 (s : List ℕ) (i k : ℕ) : Type 0 where
@@ -186,12 +188,12 @@ equal-first s i k at column e q =
     (sym (said13 s i k x e ∙ facts13 s i f w.there x.few w.role) ∙ q))
 
 -- where a heading clashes an equal one is found
-named : (g : Ranges) (in_data : Bool) (found : Found) (f left : List ℕ) → clash in_data found f left ≡ true
+named : (g : Ranges) (in_data : Bool) (found : Option HeadingPlace) (f left : List ℕ) → clash in_data found f left ≡ true
     → EqualNamed (heading_place g found)
 unfolding clash
-named g in_data (Found.At section column) f left e =
-    record { index = _; field = (column - 1) % 6; few = omega arith; is = refl }
-named g in_data Found.Nothing f left e = differ (sym e)
+named g in_data (At place) f left e =
+    record { index = _; field = (place.column - 1) % 6; few = omega arith; is = refl }
+named g in_data None f left e = differ (sym e)
 
 pub equal-said : EqualSaid
 unfolding equal_facts of-place

@@ -4,163 +4,184 @@
 #![tactic(auto)]
 
 ghost use Rattle.std.specs.Prelude.{◌≤◌};
-ghost use Rattle.paper_number.specs.Form.{Tables};
-ghost use Rattle.paper_record.specs.Class.{ClassesLent};
 ghost use Rattle.paper_record.specs.Columns.{Whole};
-ghost use Rattle.paper_record.specs.Identifier.{NamesLent};
 
-use classes::class::{class_of, classes, permitted_to};
+use classes::class::Classes;
 use columns::columns::has_line_feed;
 use columns::fields::fields;
 use columns_places::places::{place_of, records_for};
-use number::form::{kinds, nexts};
-use paper_record::types::{Count, LineNo, RecordNo};
-use program_text::say;
+use number::form::NumberTables;
+use paper_record::types::{LineNo, RecordNo};
+use program_text::read_full;
 use record::system::{count_of, is_date, is_entry_n1, is_subent_n1, subentry_of};
 use record_expected::expected::{
     entry_accession, five_digits, identification, identification_for, same_five,
     same_identification, sequence, subent_identification,
 };
 use record_faults::faults::{heading_fault, pointer_fault, unit_fault};
-use record_names::identifier::{Names, identifier_of, is_end, names};
+use record_names::identifier::Names;
 use record_values::numbers::values_of;
 use record_words::word::{is_keyword_blank, is_word};
+use std::fmt;
+use std::io::{self, Write};
 
-fn say_whether(word: &[u8], is: bool) {
-    if is {
-        io::write_all(1, word);
-    }
-}
+#[derive(Clone, Copy)]
+struct Counted(Option<u64>);
 
-fn say_count(word: &[u8], c: Count) {
-    io::write_all(1, word);
-    match c {
-        Count::Number(n) => {
-            io::print_decimal(1, n);
-        }
-        Count::Bad => {
-            io::write_all(1, b"none");
+impl fmt::Display for Counted {
+    fn fmt<W: fmt::Write>(&self, f: &mut fmt::Formatter<W>) -> fmt::Result {
+        match self.0 {
+            Some(n) => write!(f, "{n}"),
+            None => f.write_str("none"),
         }
     }
 }
 
-fn say_classes() {
-    let t = classes();
-    let mut b: usize = 0;
-    while b < 256 {
-        io::print_decimal(1, class_of(&t, b as u8) as u64);
+// Writes each word of which it is so.
+fn write_true<W: Write>(out: &mut W, words: &[(bool, &str)]) -> io::Result<()> {
+    for &(is, word) in words {
+        if is {
+            write!(out, "{word}")?;
+        }
+    }
+    Ok(())
+}
+
+fn write_classes<W: Write>(out: &mut W) -> io::Result<()> {
+    let t = Classes::new();
+    for b in 0..=u8::MAX {
+        write!(out, "{}", t.class_of(b))?;
         if b % 64 == 63 {
-            io::write_all(1, b"\n");
+            writeln!(out)?;
         }
-        b += 1;
     }
+    Ok(())
 }
 
-// How many records a row of so many columns takes, and where the columns of two lines of a table with seven stand.
-fn say_places() {
-    let mut columns: u32 = 1;
-    while columns < 19 {
-        say(b" ", records_for(columns) as u64);
-        columns += 1;
+// How many records a row of so many columns takes.
+fn write_rows<W: Write>(out: &mut W) -> io::Result<()> {
+    for columns in 1..19 {
+        write!(out, " {}", records_for(columns))?;
     }
-    io::write_all(1, b"\n");
-    say_line(1);
-    say_line(2);
+    writeln!(out)
 }
 
-fn say_line(line: u32)
+// Where the columns of a line of a table with seven stand.
+fn write_places<W: Write>(out: &mut W, line: u32) -> io::Result<()>
     requires le_line { 1 ≤ line }
     requires line_bound { line ≤ 2 }
 {
-    let mut column: u32 = 1;
-    while column < 8 {
+    for column in 1..8 {
         let place = place_of(RecordNo(19), 7, LineNo(line), column);
-        let at = place.at;
-        say(b" record ", at.0 as u64);
-        say(b" field ", place.field as u64);
-        column += 1;
+        write!(out, " record {} field {}", place.at.0, place.field)?;
     }
-    io::write_all(1, b"\n");
+    writeln!(out)
 }
 
-fn say_fields(six: [[u8; 11]; 6], used: usize) {
-    let first = six[0];
-    let n1 = six[1];
-    let n2 = six[2];
-    say_count(b" N1 ", count_of(n1));
-    say_count(b" N2 ", count_of(n2));
-    say(b" subentry ", subentry_of(n1) as u64);
-    say(b" used ", used as u64);
-    say(b" pointer ", pointer_fault(six, used) as u64);
-    say(b" heading ", heading_fault(six, used) as u64);
-    say(b" unit ", unit_fault(six, used) as u64);
-    say_whether(b" entry-N1", is_entry_n1(n1));
-    say_whether(b" subent-N1", is_subent_n1(n1));
-    say_whether(b" date", is_date(n2));
-    say_whether(b" word", is_word(first));
-    say_whether(b" no-keyword", is_keyword_blank(first));
+fn write_fields<W: Write>(out: &mut W, six: [[u8; 11]; 6], used: usize) -> io::Result<()> {
+    let [first, n1, n2, ..] = six;
+    write!(
+        out,
+        " N1 {} N2 {} subentry {} used {used} pointer {} heading {} unit {}",
+        Counted(count_of(n1)),
+        Counted(count_of(n2)),
+        subentry_of(n1),
+        pointer_fault(six, used),
+        heading_fault(six, used),
+        unit_fault(six, used)
+    )?;
+    write_true(
+        out,
+        &[
+            (is_entry_n1(n1), " entry-N1"),
+            (is_subent_n1(n1), " subent-N1"),
+            (is_date(n2), " date"),
+            (is_word(first), " word"),
+            (is_keyword_blank(first), " no-keyword"),
+        ],
+    )
 }
 
 // The six fields as values, of DATA and then of COMMON.
-fn say_values(kinds: &[u8; 256], nexts: &[u8; 88], six: [[u8; 11]; 6], used: usize)
-    requires { Tables kinds.now nexts.now }
-{
-    let data = values_of(kinds, nexts, six, used, true);
-    say(b" data ", data.fault as u64);
-    say(b" numbers ", data.numbers as u64);
-    let common = values_of(kinds, nexts, six, used, false);
-    say(b" common ", common.fault as u64);
-    say(b" numbers ", common.numbers as u64);
+fn write_values<W: Write>(
+    out: &mut W,
+    numbers: &NumberTables,
+    six: [[u8; 11]; 6],
+    used: usize,
+) -> io::Result<()> {
+    let data = values_of(numbers, six, used, true);
+    let common = values_of(numbers, six, used, false);
+    write!(out, " data {} numbers {}", data.fault, data.numbers)?;
+    write!(out, " common {} numbers {}", common.fault, common.numbers)
 }
 
-fn say_identification(rec: &[u8], n1: [u8; 11], number: u32)
+fn write_identification<W: Write>(
+    out: &mut W,
+    rec: &[u8],
+    n1: [u8; 11],
+    number: u32,
+) -> io::Result<()>
     requires { Whole rec.now }
 {
     let here = identification(rec);
     let entry = identification_for(entry_accession(n1), 0);
-    let due = five_digits(number);
-    say_whether(b" as-entry", same_identification(here, entry));
-    say_whether(
-        b" as-subent",
-        same_identification(here, subent_identification(n1)),
-    );
-    say_whether(b" in-sequence", same_five(sequence(rec), due));
+    let subent = subent_identification(n1);
+    write_true(
+        out,
+        &[
+            (same_identification(here, entry), " as-entry"),
+            (same_identification(here, subent), " as-subent"),
+            (
+                same_five(sequence(rec), five_digits(number)),
+                " in-sequence",
+            ),
+        ],
+    )
 }
 
-fn say_record(t: &[u8; 256], names: &Names, rec: &[u8], number: u32)
-    requires classes_lent { ClassesLent t.now }
-    requires names_lent { NamesLent names.now }
-    requires whole { Whole rec.now }
+fn write_record<W: Write>(
+    out: &mut W,
+    t: &Classes,
+    names: &Names,
+    rec: &[u8],
+    number: u32,
+) -> io::Result<()>
+    requires { Whole rec.now }
 {
     let six = fields(rec);
-    let first = six[0];
-    let n1 = six[1];
-    let k = identifier_of(names, first);
-    say(b"record ", number as u64);
-    say(b" permitted ", permitted_to(t, rec) as u64);
-    say(b" name ", k as u64);
-    say_fields(six, (rec[79] % 8) as usize);
-    say_whether(b" end", is_end(names, k));
-    say_whether(b" line-feed", has_line_feed(rec));
-    say_identification(rec, n1, number);
+    let name = names.identifier_of(six[0]);
+    let permitted = t.permitted_to(rec);
+    write!(out, "record {number} permitted {permitted} name {name}")?;
+    write_fields(out, six, usize::from(rec[79] % 8))?;
+    write_true(
+        out,
+        &[
+            (names.is_end(name), " end"),
+            (has_line_feed(rec), " line-feed"),
+        ],
+    )?;
+    write_identification(out, rec, six[1], number)
 }
 
-fn main() {
-    say_classes();
-    say_places();
-    let t = classes();
-    let n = names();
-    let kinds = kinds();
-    let nexts = nexts();
+fn main(rt: HostRuntime) -> io::Result<()> {
+    let mut out = rt.stdout();
+    write_classes(&mut out)?;
+    write_rows(&mut out)?;
+    write_places(&mut out, 1)?;
+    write_places(&mut out, 2)?;
+    let t = Classes::new();
+    let names = Names::new();
+    let numbers = NumberTables::new();
+    let mut reader = rt.reader();
     let mut rec = [0u8; 81];
-    let mut number: u32 = 1;
-    while number < 250 {
-        if io::read_full(0, &mut rec) < 81 {
-            return;
+    for number in 1..250 {
+        if read_full(&mut reader, &mut rec)? < 81 {
+            break;
         }
-        say_record(&t, &n, &rec, number);
-        say_values(&kinds, &nexts, fields(&rec), (rec[79] % 8) as usize);
-        io::write_all(1, b"\n");
-        number += 1;
+        write_record(&mut out, &t, &names, &rec, number)?;
+        let used = usize::from(rec[79] % 8);
+        write_values(&mut out, &numbers, fields(&rec), used)?;
+        writeln!(out)?;
     }
+    Ok(())
 }

@@ -6,6 +6,7 @@ ghost use Rattle.paper_record.specs.Expected.{accession_of, identification_of, s
 ghost use Rattle.paper_record.specs.Expected.{identification_for, entry_accession, subent_accession};
 ghost use Rattle.paper_record.specs.Expected.{subent_identification};
 
+use columns::fields::columns_at;
 use record_words::word::equal_to;
 
 // Columns 67 to 71.
@@ -13,7 +14,7 @@ pub fn accession(rec: &[u8]) -> [u8; 5]
     requires { Whole rec.now }
     ensures { result ≡ accession_of rec.now }
 {
-    [rec[66], rec[67], rec[68], rec[69], rec[70]]
+    columns_at(rec, 66)
 }
 
 // Columns 67 to 74.
@@ -21,9 +22,7 @@ pub fn identification(rec: &[u8]) -> [u8; 8]
     requires { Whole rec.now }
     ensures { result ≡ identification_of rec.now }
 {
-    [
-        rec[66], rec[67], rec[68], rec[69], rec[70], rec[71], rec[72], rec[73],
-    ]
+    columns_at(rec, 66)
 }
 
 // Columns 75 to 79.
@@ -31,58 +30,49 @@ pub fn sequence(rec: &[u8]) -> [u8; 5]
     requires { Whole rec.now }
     ensures { result ≡ sequence_of rec.now }
 {
-    [rec[74], rec[75], rec[76], rec[77], rec[78]]
+    columns_at(rec, 74)
 }
 
 // A sequence number in five digits.
 pub fn five_digits(n: u32) -> [u8; 5]
     ensures { result ≡ in_digits 5 n }
 {
-    let a = (48 + n / 10000 % 10) as u8;
-    let b = (48 + n / 1000 % 10) as u8;
-    let c = (48 + n / 100 % 10) as u8;
-    let d = (48 + n / 10 % 10) as u8;
-    let e = (48 + n % 10) as u8;
-    [a, b, c, d, e]
+    [
+        b'0' + (n / 10000 % 10) as u8,
+        b'0' + (n / 1000 % 10) as u8,
+        b'0' + (n / 100 % 10) as u8,
+        b'0' + (n / 10 % 10) as u8,
+        b'0' + (n % 10) as u8,
+    ]
 }
 
-// A subentry number in three digits.
-fn three_digits(n: u32) -> [u8; 3]
-    ensures { result ≡ in_digits 3 n }
-{
-    let c = (48 + n / 100 % 10) as u8;
-    let d = (48 + n / 10 % 10) as u8;
-    let e = (48 + n % 10) as u8;
-    [c, d, e]
-}
-
-// An accession and a subentry's number.
+// An accession and a subentry's number in three digits.
 pub fn identification_for(a: [u8; 5], n: u32) -> [u8; 8]
     ensures { result ≡ identification_for a n }
 {
-    let d = three_digits(n);
-    [a[0], a[1], a[2], a[3], a[4], d[0], d[1], d[2]]
+    let d = five_digits(n);
+    [a[0], a[1], a[2], a[3], a[4], d[2], d[3], d[4]]
 }
 
 // The accession in ENTRY's N1.
 pub fn entry_accession(f: [u8; 11]) -> [u8; 5]
     ensures { result ≡ entry_accession f }
 {
-    [f[6], f[7], f[8], f[9], f[10]]
+    columns_at(&f, 6)
 }
 
 // The accession in the N1 of SUBENT or NOSUBENT.
 pub fn subent_accession(f: [u8; 11]) -> [u8; 5]
     ensures { result ≡ subent_accession f }
 {
-    [f[3], f[4], f[5], f[6], f[7]]
+    columns_at(&f, 3)
 }
 
 // The accession and the number in it.
 pub fn subent_identification(f: [u8; 11]) -> [u8; 8]
     ensures { result ≡ subent_identification f }
 {
-    [f[3], f[4], f[5], f[6], f[7], f[8], f[9], f[10]]
+    columns_at(&f, 3)
 }
 
 // Whether two identifications are equal.

@@ -2,7 +2,6 @@
 ghost use Rattle.std.specs.Prelude.{◌≡◌, ◌&&◌, ◌≤◌, eqb};
 ghost use Rattle.laws.specs.Members.{list_of};
 ghost use Rattle.paper_number.specs.Grammar.{num};
-ghost use Rattle.paper_record.specs.Text.{is_digit};
 ghost use Rattle.paper_record.specs.Flags.{is_flag, is_decay_flag, is_flag_heading, code_digits, code_digit, is_code};
 ghost use Rattle.paper_record.specs.Flags.{code_number};
 ghost use Rattle.paper_number.specs.Whole.{Short};
@@ -27,19 +26,7 @@ fn is_decay_flag(f: [u8; 11]) -> bool
 pub fn is_flag_heading(f: [u8; 11]) -> bool
     ensures { result ≡ is_flag_heading f }
 {
-    if is_flag(f) {
-        return true;
-    }
-    is_decay_flag(f)
-}
-
-fn is_digit(b: u8) -> bool
-    ensures { result ≡ is_digit b }
-{
-    if b < b'0' {
-        return false;
-    }
-    b <= b'9'
+    is_flag(f) || is_decay_flag(f)
 }
 
 // How many digits stand behind the first column.
@@ -48,13 +35,10 @@ fn digits_behind(x: &[u8]) -> usize
     ensures value { result ≡ code_digits x.now }
     ensures upper_bound { result ≤ 54 }
 {
-    let mut j = 0;
-    while j < 54 {
-        let b = x[j + 1];
-        if !is_digit(b) {
+    for j in 0..54 {
+        if !x[j + 1].is_ascii_digit() {
             return j;
         }
-        j += 1;
     }
     54
 }
@@ -66,16 +50,14 @@ fn says(x: &[u8], m: usize, n: u64) -> bool
     ensures { result ≡ eqb n (num (list_of (code_digit x.now) 0 m)) }
 {
     let mut number: u64 = 0;
-    let mut j = 0;
-    while j < m {
+    for j in 0..m {
         let b = x[j + 1];
-        let d = (b - b'0') as u64;
+        let d = u64::from(b - b'0');
         let next = number * 10 + d;
         if n < next {
             return false;
         }
         number = next;
-        j += 1;
     }
     n == number
 }
@@ -89,17 +71,5 @@ pub fn is_code_of(x: &[u8], n: u64) -> bool
         return false;
     }
     let m = digits_behind(x);
-    if m == 0 {
-        return false;
-    }
-    if m > 52 {
-        return false;
-    }
-    if x[m + 1] != b'.' {
-        return false;
-    }
-    if x[m + 2] != b')' {
-        return false;
-    }
-    says(x, m, n)
+    m != 0 && m <= 52 && x[m + 1] == b'.' && x[m + 2] == b')' && says(x, m, n)
 }

@@ -1,6 +1,6 @@
 // The sixteen system identifiers.
 ghost use Rattle.std.specs.Prelude.{◌≡◌, ℕ, ◌<◌};
-ghost use Rattle.paper_record.specs.Identifier.{OTHER, name_table, NamesLent, is_name, identifier_of, is_end};
+ghost use Rattle.paper_record.specs.Identifier.{OTHER, name_table, is_name, identifier_of, is_end};
 
 pub const ENTRY: usize = 0;
 
@@ -37,9 +37,7 @@ pub const ENDTRANS: usize = 15;
 pub const OTHER: usize = 16;
 
 // Eleven columns for each name.
-pub type Names = [u8; 11 * OTHER];
-
-const NAMES: Names = *b"\
+const NAMES: [u8; 11 * OTHER] = *b"\
     ENTRY      \
     SUBENT     \
     NOSUBENT   \
@@ -57,58 +55,53 @@ const NAMES: Names = *b"\
     TRANS      \
     ENDTRANS   ";
 
-// The names, eleven columns each. They are written out at each use, so a caller takes them once and lends them.
-pub fn names() -> Names
-    ensures { result ≡ name_table }
-{
-    NAMES
+// The names. They are written out where they are made, so a caller makes them once and lends them.
+#[derive(Drop)]
+pub struct Names {
+    columns: [u8; 11 * OTHER],
+    ghost same: { columns ≡ name_table },
 }
 
-// Whether a field is the name at `k`.
-fn is_name(t: &Names, f: [u8; 11], k: usize) -> bool
-    requires names_lent { NamesLent t.now }
-    requires k_bound { k < OTHER }
-    ensures { result ≡ is_name f k }
-{
-    let mut i = 0;
-    while i < 11 {
-        if f[i] != t[11 * k + i] {
+impl Names {
+    pub fn new() -> Self
+        ensures { result.columns ≡ name_table }
+    {
+        Names { columns: NAMES }
+    }
+
+    // Whether a field is the name at `k`.
+    fn is_name(&self, f: [u8; 11], k: usize) -> bool
+        requires { k < OTHER }
+        ensures { result ≡ is_name f k }
+    {
+        for (i, &b) in f.iter().enumerate() {
+            if b != self.columns[11 * k + i] {
+                return false;
+            }
+        }
+        true
+    }
+
+    // The system identifier that a field is, or OTHER.
+    pub fn identifier_of(&self, f: [u8; 11]) -> usize
+        ensures { result ≡ identifier_of f }
+    {
+        for k in 0..OTHER {
+            if self.is_name(f, k) {
+                return k;
+            }
+        }
+        OTHER
+    }
+
+    // Whether the name at `k` begins with END.
+    pub fn is_end(&self, k: usize) -> bool
+        ensures { result ≡ is_end k }
+    {
+        if OTHER <= k {
             return false;
         }
-        i += 1;
+        let at = 11 * k;
+        self.columns[at] == b'E' && self.columns[at + 1] == b'N' && self.columns[at + 2] == b'D'
     }
-    true
-}
-
-// The system identifier that a field is, or OTHER.
-pub fn identifier_of(t: &Names, f: [u8; 11]) -> usize
-    requires { NamesLent t.now }
-    ensures { result ≡ identifier_of f }
-{
-    let mut k = 0;
-    while k < OTHER {
-        if is_name(t, f, k) {
-            return k;
-        }
-        k += 1;
-    }
-    OTHER
-}
-
-// Whether the name at `k` begins with END.
-pub fn is_end(t: &Names, k: usize) -> bool
-    requires { NamesLent t.now }
-    ensures { result ≡ is_end k }
-{
-    if OTHER <= k {
-        return false;
-    }
-    let at = 11 * k;
-    if t[at] != b'E' {
-        return false;
-    }
-    if t[at + 1] != b'N' {
-        return false;
-    }
-    t[at + 2] == b'D'
 }

@@ -2,7 +2,7 @@
 ghost use Rattle.std.specs.Prelude.{◌≡◌, ℕ, ◌+◌, ◌*◌, ◌≤◌, length};
 ghost use Rattle.paper_record.specs.Text.{within};
 ghost use Rattle.paper_record.specs.Word.{blank_to, equal_to, word_end, filled_from, is_word};
-ghost use Rattle.paper_record.specs.Word.{four_at, eight_at};
+ghost use Rattle.paper_record.specs.Word.{eight_at};
 
 // The first filled one of the columns of a field from `from` up to `w`, or `w`.
 pub fn filled_from(f: [u8; 11], from: usize, w: usize) -> usize
@@ -11,12 +11,11 @@ pub fn filled_from(f: [u8; 11], from: usize, w: usize) -> usize
     ensures value { result ≡ filled_from w f from }
     ensures upper_bound { result ≤ w }
 {
-    let mut i = from;
-    while i < w {
+    // A loop, since what `position` finds in a part of an array was not proved.
+    for i in from..w {
         if f[i] != b' ' {
             return i;
         }
-        i += 1;
     }
     w
 }
@@ -42,14 +41,7 @@ pub fn equal_to(a: &[u8], b: &[u8], w: usize) -> bool
     requires w_in_bounds_2 { w ≤ length b.now }
     ensures { result ≡ equal_to w a.now b.now }
 {
-    let mut i = 0;
-    while i < w {
-        if a[i] != b[i] {
-            return false;
-        }
-        i += 1;
-    }
-    true
+    a[..w] == b[..w]
 }
 
 // Whether two keyword places are equal.
@@ -59,35 +51,21 @@ pub fn same_keyword(a: [u8; 11], b: [u8; 11]) -> bool
     equal_to(&a, &b, 10)
 }
 
-// Two columns as one number.
-fn two(high: u8, low: u8) -> u64
-    ensures value { result ≡ high * 256 + low }
-    ensures upper_bound { result ≤ 65535 }
-{
-    let a = high as u64;
-    let b = low as u64;
-    a * 256 + b
-}
-
-// Four columns of a part.
-fn four(part: &[u8], at: usize) -> u64
-    requires { at + 4 ≤ length part.now }
-    ensures value { result ≡ four_at part.now at }
-    ensures upper_bound { result ≤ 4294967295 }
-{
-    let high = two(part[at], part[at + 1]);
-    let low = two(part[at + 2], part[at + 3]);
-    high * 65536 + low
-}
-
-// Eight columns of a part.
+// Eight columns of a part as one number.
 pub fn eight_columns(part: &[u8], at: usize) -> u64
     requires { at + 8 ≤ length part.now }
     ensures { result ≡ eight_at part.now at }
 {
-    let high = four(part, at);
-    let low = four(part, at + 4);
-    high * 4294967296 + low
+    u64::from_be_bytes([
+        part[at],
+        part[at + 1],
+        part[at + 2],
+        part[at + 3],
+        part[at + 4],
+        part[at + 5],
+        part[at + 6],
+        part[at + 7],
+    ])
 }
 
 // Whether two headings are equal, each with its pointer.
@@ -102,12 +80,11 @@ pub fn word_end(f: [u8; 11]) -> usize
     ensures value { result ≡ word_end 10 f }
     ensures upper_bound { result ≤ 10 }
 {
-    let mut i = 0;
-    while i < 10 {
-        if f[i] == b' ' {
+    // A loop, as in `filled_from`.
+    for (i, b) in f[..10].iter().enumerate() {
+        if *b == b' ' {
             return i;
         }
-        i += 1;
     }
     10
 }
@@ -117,25 +94,19 @@ pub fn is_word(f: [u8; 11]) -> bool
     ensures { result ≡ is_word 10 f }
 {
     let end = word_end(f);
-    if end == 0 {
-        return false;
-    }
-    filled_from(f, end, 10) == 10
+    end != 0 && filled_from(f, end, 10) == 10
 }
 
 // Whether `low <= n <= high`.
 pub fn is_within(low: u64, high: u64, n: u64) -> bool
     ensures { result ≡ within low high n }
 {
-    if low <= n {
-        return n <= high;
-    }
-    false
+    low <= n && n <= high
 }
 
 // Whether a byte is one of the characters from `low` to `high`.
 pub fn is_from(low: u8, high: u8, b: u8) -> bool
     ensures { result ≡ within low high b }
 {
-    is_within(low as u64, high as u64, b as u64)
+    is_within(u64::from(low), u64::from(high), u64::from(b))
 }

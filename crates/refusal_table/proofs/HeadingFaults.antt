@@ -1,4 +1,5 @@
 -- An entry that is refused with 13 or 14 has such a heading there, and no such heading passes. Assumes nothing.
+use Rattle.std.specs.Prelude.{Ok, Err}
 use Prim.Native.Nat.{ℕ, ◌+◌, ◌<◌}
 use mathlib.Core.Path.{◌≡◌, refl, sym, ap, subst}
 use mathlib.Core.Bool.{Bool, true}
@@ -7,9 +8,7 @@ use native.Mathlib.Omega.{arith}
 use lib.Dec.{eqb}
 use lib.ListN.{length, get_or}
 use Rattle.laws.specs.Blocks.{block_at}
-use Rattle.paper_faults.specs.declared.types.Fault.{Fault}
-use Rattle.paper_faults.specs.declared.types.Fault.TheVariants.{Fine, At}
-use Rattle.paper_faults.specs.Fault.{on}
+use Rattle.paper_faults.specs.Fault.{on, Checked}
 use Rattle.paper_rules.specs.Roles.{DATA-HEADING, is_heading}
 use Rattle.paper_rules.specs.Headings.{rule13}
 use Rattle.paper_rules.specs.Pointers.{rule14}
@@ -86,7 +85,7 @@ fourteen_said s i k e =
 module _ (s : List ℕ) (i : ℕ) (due : ℕ → Bool) (d : DueThere s i due) (n k at : ℕ) (l : at < length (found_at s i))
     (number : (get_or (found_at s i) at no_finding).number ≡ n)
     (found : Some (λ c. c ≡ k) (get_or (found_at s i) at no_finding).columns) where
-  abbrev fault : Fault
+  abbrev fault : Checked
   fault =
       fault_of (context_at s i).track (context_at s i).seen (role_at s i) (fields_in s i) (block_at 81 s i)
 
@@ -116,14 +115,14 @@ module _ (s : List ℕ) (i : ℕ) (due : ℕ → Bool) (d : DueThere s i due) (n
                 (w.least at j l h));
           }
 
-      by-fault : (x : Fault) → fault ≡ x → RefusedThere s i n k
-      by-fault Fine e =
+      by-fault : (x : Checked) → fault ≡ x → RefusedThere s i n k
+      by-fault (Ok u) e =
           absurd
           (nothing
           (fault-none (context_at s i).track (context_at s i).seen (role_at s i) (fields_in s i) (block_at 81 s i) e at l))
-      by-fault (At m c) e =
-          by_least m c
-          (fault-least (context_at s i).track (context_at s i).seen (role_at s i) (fields_in s i) (block_at 81 s i) m c e)
+      by-fault (Err fault) e =
+          by_least fault.number fault.column
+          (fault-least (context_at s i).track (context_at s i).seen (role_at s i) (fields_in s i) (block_at 81 s i) fault.number fault.column e)
 
 -- the rule is made on such a record
 pub some-on : (P : ℕ → Type 0) (b : Bool) (ks : List ℕ) → b ≡ true → Some P ks → Some P (on b ks)

@@ -1,5 +1,6 @@
 -- Where the judge stands inside BIB: the record that opened it, how far behind it, and the text records since then.
 -- Assumes nothing.
+use Rattle.paper_faults.specs.Fault.{faultless}
 use Prim.Native.Nat.{ℕ, suc, ◌+◌, ◌*◌, ◌-◌, ◌<◌, ◌≤◌}
 use mathlib.Core.Path.{◌≡◌, refl, sym, ◌∙◌, ap, subst}
 use mathlib.Core.Bool.{Bool, true, false}
@@ -19,7 +20,6 @@ use Rattle.paper_record.proofs.ReadColumns.{field-of}
 use Rattle.paper_record.specs.Identifier.{BIB, OTHER}
 use Rattle.paper_record.proofs.PlainColumns.{blank-exactly}
 use Rattle.paper_record.specs.Word.{blank_to}
-use Rattle.paper_faults.specs.declared.types.Fault.TheVariants.{Fine}
 use Rattle.paper_rules.specs.declared.types.Track.{Track}
 use Rattle.paper_rules.specs.Record.{Record}
 use Rattle.paper_rules.specs.State.{Context}
@@ -76,7 +76,7 @@ between_next s j i l =
 -- no rule finds anything on the record with the index i
 abbrev pub FineAt : List ℕ → ℕ → Type 0
 FineAt s i =
-    fault_of (context_at s i).track (context_at s i).seen (role_at s i) (fields_in s i) (block_at 81 s i) ≡ Fine
+    fault_of (context_at s i).track (context_at s i).seen (role_at s i) (fields_in s i) (block_at 81 s i) ≡ faultless
 
 -- so it is whole
 block-long : (s : List ℕ) (i : ℕ) → FineAt s i → Long (block_at 81 s i)

@@ -39,12 +39,10 @@ fn first_of(entry: &[u8], n: u32) -> usize
     ensures upper_bound { result ≤ records_of entry.now }
 {
     let records = entry.len() / 81;
-    let mut i = 0;
-    while i < records {
+    for i in 0..records {
         if number_at(entry, i) == n {
             return i;
         }
-        i += 1;
     }
     records
 }
@@ -57,12 +55,10 @@ pub fn past_from(entry: &[u8], from: usize, n: u32) -> usize
     ensures upper_bound { result ≤ records_of entry.now }
 {
     let records = entry.len() / 81;
-    let mut i = from;
-    while i < records {
+    for i in from..records {
         if number_at(entry, i) != n {
             return i;
         }
-        i += 1;
     }
     records
 }

@@ -1,5 +1,6 @@
 -- Columns 72 to 74 of an accepted entry: what they say on each record, and that they never fall.
 -- Assumes nothing.
+use Rattle.paper_faults.specs.Fault.{faultless}
 use Prim.Native.Nat.{ℕ, zero, suc, ◌+◌, ◌-◌, ◌/◌, ◌<◌, ◌≤◌}
 use mathlib.Core.Path.{◌≡◌, refl, sym, ap, subst, ◌∙◌}
 use mathlib.Core.Bool.{Bool, true, false, cond, not, ◌&&◌, ◌||◌}
@@ -15,7 +16,6 @@ use Rattle.laws.proofs.EitherWay.{no}
 use Rattle.laws.proofs.Search.{either}
 use Rattle.paper_record.specs.Fields.{fields_of}
 use Rattle.paper_record.specs.Identifier.{ENTRY, SUBENT, NOSUBENT, ENDENTRY, identifier_of}
-use Rattle.paper_faults.specs.declared.types.Fault.TheVariants.{Fine}
 use Rattle.paper_rules.specs.declared.types.Phase.{Phase}
 use Rattle.paper_rules.specs.declared.types.Phase.TheVariants.{Start, Opened, InSubentry, InBib, AfterBib, InCommon}
 use Rattle.paper_rules.specs.declared.types.Phase.TheVariants.{AfterCommon, InData, AfterData, Between, Done}
@@ -75,7 +75,7 @@ module _ (s : List ℕ) (accepted : Accepted s) where
 
   fine-at : (i : ℕ) → i < n
       → fault_of (context_at s i).track (context_at s i).seen (role_at s i) (fields_of (block_at 81 s i)) (block_at 81 s i)
-      ≡ Fine
+      ≡ faultless
   fine-at i h = (go-fine (context_at s i) i (block_at 81 s i) (context_at s (suc i)) (way.turns i h)).0
 
   due-at : (i : ℕ) → i < n → eqb (role_at s i) NOT-DUE ≡ false

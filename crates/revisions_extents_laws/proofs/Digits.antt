@@ -1,5 +1,6 @@
 -- The number in columns 72 to 74 of a record without fault, by its role.
 -- Assumes nothing.
+use Rattle.paper_faults.specs.Fault.{faultless}
 use Prim.Native.Nat.{ℕ, zero, suc, ◌+◌, ◌-◌, ◌*◌, ◌/◌, ◌%◌, ◌<◌}
 use mathlib.Core.Path.{◌≡◌, refl, sym, ◌∙◌}
 use mathlib.Core.Bool.{Bool, true, false, cond, not}
@@ -16,7 +17,6 @@ use Rattle.paper_record.specs.Expected.{identification_of, in_digits, identifica
 use Rattle.paper_record.specs.Expected.{subent_identification}
 use Rattle.paper_record.specs.Identifier.{ENTRY, ENDENTRY}
 use Rattle.paper_record.proofs.EqualColumns.{equal-at}
-use Rattle.paper_faults.specs.declared.types.Fault.TheVariants.{Fine}
 use Rattle.paper_faults.proofs.NoColumns.{when-none}
 use Rattle.paper_rules.specs.declared.types.Track.{Track}
 use Rattle.paper_rules.specs.State.{Seen}
@@ -75,7 +75,7 @@ number_for t role fs =
     (cond (opens_subentry role) (subentry_of (n1 fs)) (cond (eqb role ENDENTRY) 999 t.subentry.number))
 
 module _ (t : Track) (seen : Seen) (role : ℕ) (fs : List (List ℕ)) (r : List ℕ)
-    (fine : fault_of t seen role fs r ≡ Fine) where
+    (fine : fault_of t seen role fs r ≡ faultless) where
   abbrev expected : List ℕ
   expected = expected_identification t role fs
 

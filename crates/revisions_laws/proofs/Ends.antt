@@ -10,7 +10,7 @@ use lib.Seq.{length-take-le, take_all, take_at, drop_at, get_or-take, get_or-dro
 use Rattle.laws.specs.Blocks.{block_at}
 use Rattle.laws.specs.Members.{join_of}
 use Rattle.laws.proofs.Search.{many-to, many-same}
-use Rattle.paper_record.specs.declared.types.Count.TheVariants.{Number}
+use Rattle.std.proofs.Common.{Some}
 use Rattle.paper_record.specs.Fields.{field_at, fields_of, n1}
 use Rattle.paper_record.specs.System.{start_of, count_of}
 use Rattle.paper_record.proofs.ReadColumns.{field-of}
@@ -239,7 +239,7 @@ module _ (held revision : List ℕ) (a : Accepted held) (b : Accepted revision) 
   true-count =
       record {
         written =
-            ap count_of end-count ∙ (count-read (how_many_of held revision) count-few).reads ∙ ap Number count-is;
+            ap count_of end-count ∙ (count-read (how_many_of held revision) count-few).reads ∙ ap Some count-is;
         leading = λ e.
             (count-read (how_many_of held revision) count-few).leading count-some
             (sym (ap (λ (l : List ℕ). get_or l (start_of 11 l) 0) end-count) ∙ e);

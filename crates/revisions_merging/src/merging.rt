@@ -23,10 +23,8 @@ fn put_subentries(held: &[u8], revision: &[u8], out: &mut [u8]) -> Cursors
         at: 81,
         count: 0,
     };
-    let mut n = 1;
-    while n < 999 {
+    for n in 1..999 {
         c = put_one(held, revision, out, n, c);
-        n += 1;
     }
     c
 }

@@ -10,7 +10,7 @@ use columns::fields::field;
 use entry_verdict::answer::answer_of;
 use paper_entry::types::Answer;
 use paper_revisions::types::{Extent, Picked};
-use record_names::identifier::{NOSUBENT, identifier_of, names};
+use record_names::identifier::{NOSUBENT, Names};
 use revisions_extents::extents::{extent, is_subentry};
 use revisions_extents::taken::{by_revision, some};
 
@@ -23,8 +23,8 @@ pub fn is_gone(entry: &[u8], n: u32, e: Extent) -> bool
     let from = e.from * 81;
     let past = from + 81;
     let f = field(&entry[from..past], 0);
-    let names = names();
-    let name = identifier_of(&names, f);
+    let names = Names::new();
+    let name = names.identifier_of(f);
     name == NOSUBENT
 }
 

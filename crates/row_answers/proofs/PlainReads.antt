@@ -19,8 +19,7 @@ use Rattle.paper_record.specs.Identifier.{SUBENT, OTHER}
 use Rattle.paper_record.specs.System.{count_of, is_count, number_of, is_subent_n1, subentry_of}
 use Rattle.paper_record.specs.Plain.{CountSays, SubentN1, UnitWord}
 use Rattle.paper_record.specs.PlainNames.{Named}
-use Rattle.paper_record.specs.declared.types.Count.{Count}
-use Rattle.paper_record.specs.declared.types.Count.TheVariants.{Number, Bad}
+use Rattle.std.proofs.Common.{Option, Some, None}
 use Rattle.paper_record.specs.declared.types.Place.{Place}
 use Rattle.paper_record.specs.declared.types.RecordNo.{RecordNo}
 use Rattle.paper_record.proofs.Within.{within-bounds}
@@ -123,9 +122,9 @@ opener-below bib = omega arith
 opener-below common = omega arith
 opener-below table = omega arith
 
-count-is : (c : Count) → is_count c ≡ true → c ≡ Number (number_of c)
-count-is (Number n) e = refl
-count-is Bad e = differ (sym e)
+count-is : (c : Option ℕ) → is_count c ≡ true → c ≡ Some (number_of c)
+count-is (Some n) e = refl
+count-is None e = differ (sym e)
 
 -- the limits of its counts
 range-of : (k : Section) (a b : ℕ) → meets (limit_n1 (opener k)) a ≡ true → meets (limit_n2 (opener k) a) b ≡ true
@@ -183,10 +182,10 @@ module _ (s : List ℕ) (at : RecordNo) (k : Section) where
       }
 
   module _ (a b : ℕ) (r : SectionThere s at (opener k) a b) where
-    said1 : count_of (n1 fs) ≡ Number a
+    said1 : count_of (n1 fs) ≡ Some a
     said1 = rw (field_in_lem s at r.lies 1 (omega arith)) ((count-exactly 11 (field_in s at 1) a).1 r.first)
 
-    said2 : count_of (n2 fs) ≡ Number b
+    said2 : count_of (n2 fs) ≡ Some b
     said2 = rw (field_in_lem s at r.lies 2 (omega arith)) ((count-exactly 11 (field_in s at 2) b).1 r.second)
 
     pub counts_of : (count_n1 fs ≡ a) × (count_n2 fs ≡ b)

@@ -1,9 +1,6 @@
 // The fault of a record: the first by the order of the table.
 ghost use Rattle.std.specs.Prelude.{◌≡◌, ℕ, ◌+◌, ◌-◌, ◌*◌, ◌≤◌, ◌<◌, cond, eqb, length, get_or, drop};
 ghost use Rattle.paper_record.specs.Columns.{Whole};
-ghost use Rattle.paper_record.specs.Class.{ClassesLent};
-ghost use Rattle.paper_record.specs.Identifier.{NamesLent};
-ghost use Rattle.paper_number.specs.Form.{Tables};
 ghost use Rattle.paper_rules.specs.Ranging.{Stands, seen_of};
 ghost use Rattle.paper_rules.specs.Parts.{bytes_of};
 ghost use Rattle.paper_rules.specs.Roles.{TEXT, is_heading};
@@ -12,10 +9,11 @@ ghost use Rattle.paper_rules.specs.Text.{rule11_text};
 ghost use Rattle.paper_rules.specs.Headings.{rule11_heading};
 ghost use Rattle.paper_rules.specs.Order.{findings, fault_of, Judged};
 
+use faults::found::found;
+use judge_tables::tables::Tables;
 use paper_faults::types::Fault;
 use paper_record::types::Values;
 use paper_rules::types::{Ranges, Track};
-use record_names::identifier::Names;
 use rules_counts::counts::rule8;
 use rules_every::every::{rule2, rule3, rule4, rule5, rule6};
 use rules_flags::flags::rule17;
@@ -41,150 +39,92 @@ fn rule11(track: Track, ranges: Ranges, before: &[u8], role: usize, fs: [[u8; 11
 }
 
 // The rules for value records, 15 and 17.
+#[tactic(auto, unfolding(paper_faults::specs::Fault::first_fault))]
 fn value_fault<'a>(
     track: Track,
-    kinds: &[u8; 256],
-    nexts: &[u8; 88],
+    tables: &Tables,
     ranges: Ranges,
     before: &'a [u8],
     rec: &'a [u8],
     role: usize,
     fs: [[u8; 11]; 6],
     values: Values,
-) -> Fault
-    requires tables { Tables kinds.now nexts.now }
-    requires judged { Judged track ranges before.now rec.now role fs values }
+) -> Result<(), Fault>
+    requires { Judged track ranges before.now rec.now role fs values }
     ensures { result
         ≡ first_fault (drop 13 (findings track (seen_of before.now ranges) role fs rec.now)) }
 {
-    let a = rule15(track, kinds, nexts, role, fs, values);
-    if a != 0 {
-        return Fault::At(15, a);
-    }
-    let b = rule17(track, ranges, before, role, fs);
-    if b != 0 {
-        return Fault::At(17, b);
-    }
-    Fault::Fine
+    found(15, rule15(track, &tables.numbers, role, fs, values))?;
+    found(17, rule17(track, ranges, before, role, fs))
 }
 
 // From rule 10 on.
+#[tactic(auto, unfolding(paper_faults::specs::Fault::first_fault))]
 fn section_fault<'a>(
     track: Track,
-    kinds: &[u8; 256],
-    nexts: &[u8; 88],
+    tables: &Tables,
     ranges: Ranges,
     before: &'a [u8],
     rec: &'a [u8],
     role: usize,
     fs: [[u8; 11]; 6],
     values: Values,
-) -> Fault
-    requires tables { Tables kinds.now nexts.now }
-    requires judged { Judged track ranges before.now rec.now role fs values }
+) -> Result<(), Fault>
+    requires { Judged track ranges before.now rec.now role fs values }
     ensures { result
         ≡ first_fault (drop 8 (findings track (seen_of before.now ranges) role fs rec.now)) }
 {
-    let a = rule10(track, ranges, before, role, fs);
-    if a != 0 {
-        return Fault::At(10, a);
-    }
-    let b = rule11(track, ranges, before, role, fs);
-    if b != 0 {
-        return Fault::At(11, b);
-    }
-    let c = rule12(track, role, fs);
-    if c != 0 {
-        return Fault::At(12, c);
-    }
-    let d = rule13(track, ranges, before, role, fs, rec);
-    if d != 0 {
-        return Fault::At(13, d);
-    }
-    let e = rule14(track, ranges, before, role, fs);
-    if e != 0 {
-        return Fault::At(14, e);
-    }
-    value_fault(track, kinds, nexts, ranges, before, rec, role, fs, values)
+    found(10, rule10(track, ranges, before, role, fs))?;
+    found(11, rule11(track, ranges, before, role, fs))?;
+    found(12, rule12(track, role, fs))?;
+    found(13, rule13(track, ranges, before, role, fs, rec))?;
+    found(14, rule14(track, ranges, before, role, fs))?;
+    value_fault(track, tables, ranges, before, rec, role, fs, values)
 }
 
 // From rule 4 on.
+#[tactic(auto, unfolding(paper_faults::specs::Fault::first_fault))]
 fn record_fault<'a>(
     track: Track,
-    names: &Names,
-    kinds: &[u8; 256],
-    nexts: &[u8; 88],
+    tables: &Tables,
     ranges: Ranges,
     before: &'a [u8],
     rec: &'a [u8],
     role: usize,
     fs: [[u8; 11]; 6],
     values: Values,
-) -> Fault
-    requires names_lent { NamesLent names.now }
-    requires tables { Tables kinds.now nexts.now }
-    requires judged { Judged track ranges before.now rec.now role fs values }
+) -> Result<(), Fault>
+    requires { Judged track ranges before.now rec.now role fs values }
     ensures { result
         ≡ first_fault (drop 2 (findings track (seen_of before.now ranges) role fs rec.now)) }
 {
-    let a = rule4(role);
-    if a != 0 {
-        return Fault::At(4, a);
-    }
-    let b = rule5(track, role, fs, rec);
-    if b != 0 {
-        return Fault::At(5, b);
-    }
-    let c = rule6(track, role, rec);
-    if c != 0 {
-        return Fault::At(6, c);
-    }
-    let d = rule7(names, role, fs);
-    if d != 0 {
-        return Fault::At(7, d);
-    }
-    let e = rule8(track, names, role, fs);
-    if e != 0 {
-        return Fault::At(8, e);
-    }
-    let f = rule9(track, role, fs);
-    if f != 0 {
-        return Fault::At(9, f);
-    }
-    section_fault(track, kinds, nexts, ranges, before, rec, role, fs, values)
+    found(4, rule4(role))?;
+    found(5, rule5(track, role, fs, rec))?;
+    found(6, rule6(track, role, rec))?;
+    found(7, rule7(&tables.names, role, fs))?;
+    found(8, rule8(track, &tables.names, role, fs))?;
+    found(9, rule9(track, role, fs))?;
+    section_fault(track, tables, ranges, before, rec, role, fs, values)
 }
 
 // The fault of a record with its role, its fields and what they read to.
+#[tactic(auto, unfolding(paper_rules::specs::Order::fault_of, paper_faults::specs::Fault::first_fault))]
 pub fn fault<'a>(
     track: Track,
-    classes: &[u8; 256],
-    names: &Names,
-    kinds: &[u8; 256],
-    nexts: &[u8; 88],
+    tables: &Tables,
     ranges: Ranges,
     before: &'a [u8],
     rec: &'a [u8],
     role: usize,
     fs: [[u8; 11]; 6],
     values: Values,
-) -> Fault
-    requires classes_lent { ClassesLent classes.now }
-    requires names_lent { NamesLent names.now }
-    requires tables { Tables kinds.now nexts.now }
-    requires judged { Judged track ranges before.now rec.now role fs values }
+) -> Result<(), Fault>
+    requires { Judged track ranges before.now rec.now role fs values }
     ensures value { result ≡ fault_of track (seen_of before.now ranges) role fs rec.now }
     ensures result_value { fault_answer result
         ≡ fault_answer (fault_of track (seen_of before.now ranges) role fs rec.now) }
 {
-    let a = rule2(rec);
-    if a != 0 {
-        return Fault::At(2, a);
-    }
-    let b = rule3(classes, rec);
-    if b != 0 {
-        return Fault::At(3, b);
-    }
-    record_fault(
-        track, names, kinds, nexts, ranges, before, rec, role, fs, values,
-    )
+    found(2, rule2(rec))?;
+    found(3, rule3(&tables.classes, rec))?;
+    record_fault(track, tables, ranges, before, rec, role, fs, values)
 }

@@ -15,11 +15,11 @@ use record_words::word::is_keyword_blank;
 fn is_under(before: bool, f: [u8; 11]) -> bool
     ensures { result ≡ cond (blank_to 10 f) before (is_flag f) }
 {
-    let blank = is_keyword_blank(f);
-    if blank {
-        return before;
+    if is_keyword_blank(f) {
+        before
+    } else {
+        is_flag(f)
     }
-    is_flag(f)
 }
 
 // Whether the text record at `at`, under FLAG or not, has the code n.
@@ -27,12 +27,7 @@ fn code_at(part: &[u8], at: usize, under: bool, n: u64) -> bool
     requires { (at + 81 ≤ length part.now) × Short n }
     ensures { result ≡ any_of (eqb n) (code_of under (columns_at at 81 part.now)) }
 {
-    if !under {
-        return false;
-    }
-    let from = at + 11;
-    let past = at + 66;
-    is_code_of(&part[from..past], n)
+    under && is_code_of(&part[at + 11..at + 66], n)
 }
 
 // Whether n is one of the codes of a part of text records.
@@ -40,17 +35,13 @@ fn code_in(part: &[u8], n: u64) -> bool
     requires { Short n }
     ensures { result ≡ any_of (eqb n) (codes_of part.now) }
 {
-    let total = part.len() / 81;
     let mut under = false;
-    let mut i = 0;
-    while i < total {
+    for i in 0..part.len() / 81 {
         let at = i * 81;
-        let f = field(part, at);
-        under = is_under(under, f);
+        under = is_under(under, field(part, at));
         if code_at(part, at, under, n) {
             return true;
         }
-        i += 1;
     }
     false
 }
@@ -60,8 +51,5 @@ pub fn code_met(bib: &[u8], bib001: &[u8], n: u64) -> bool
     requires { Short n }
     ensures { result ≡ any_of (eqb n) (codes_of bib.now ++ codes_of bib001.now) }
 {
-    if code_in(bib, n) {
-        return true;
-    }
-    code_in(bib001, n)
+    code_in(bib, n) || code_in(bib001, n)
 }

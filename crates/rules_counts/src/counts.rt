@@ -1,6 +1,5 @@
 // The rule for counts: refusal 8. It gives the leftmost column at fault, 0 where there is none.
 ghost use Rattle.std.specs.Prelude.{◌≡◌, ◌-◌};
-ghost use Rattle.paper_record.specs.Identifier.{NamesLent};
 ghost use Rattle.paper_rules.specs.Roles.{is_system};
 ghost use Rattle.paper_faults.specs.Fault.{leftmost, on};
 ghost use Rattle.paper_rules.specs.Counts.{true_count};
@@ -8,7 +7,7 @@ ghost use Rattle.paper_rules.specs.Counts.{keywords_true, count_true, rule8};
 
 use paper_rules::types::Track;
 use record::system::{count_of, number_of};
-use record_names::identifier::{ENDBIB, ENDENTRY, ENDSUBENT, Names, is_end};
+use record_names::identifier::{ENDBIB, ENDENTRY, ENDSUBENT, Names};
 use rules_limits::limits::announced;
 use rules_roles::roles::{is_system, opens_section};
 
@@ -50,7 +49,6 @@ fn count_true(track: Track, role: usize, n: u64) -> bool
 }
 
 pub fn rule8(track: Track, names: &Names, role: usize, fs: [[u8; 11]; 6]) -> u8
-    requires { NamesLent names.now }
     ensures { result ≡ leftmost (on (is_system role) (rule8 track role fs)) }
 {
     if !is_system(role) {
@@ -63,7 +61,7 @@ pub fn rule8(track: Track, names: &Names, role: usize, fs: [[u8; 11]; 6]) -> u8
         let b = number_of(count_of(g));
         return announced(role, a, b);
     }
-    if !is_end(names, role) {
+    if !names.is_end(role) {
         return 0;
     }
     if count_true(track, role, a) {

@@ -1,12 +1,11 @@
 // What a record is: its role, from what is due and its system identifier.
 ghost use Rattle.std.specs.Prelude.{◌≡◌, ◌-◌, ◌<◌};
-ghost use Rattle.paper_record.specs.Identifier.{NamesLent};
 ghost use Rattle.paper_rules.specs.Role.{only, either, bib_role, table_role, data_role, next_role, role_in};
 
 use paper_rules::types::{Phase, Track};
 use record_names::identifier::{
     BIB, COMMON, DATA, ENDBIB, ENDCOMMON, ENDDATA, ENDENTRY, ENDSUBENT, ENTRY, NOBIB, NOCOMMON,
-    NODATA, NOSUBENT, Names, OTHER, SUBENT, is_end,
+    NODATA, NOSUBENT, Names, OTHER, SUBENT,
 };
 use rules_roles::roles::{
     COMMON_HEADING, COMMON_UNIT, COMMON_VALUE, DATA_HEADING, DATA_UNIT, DATA_VALUE, HEADINGS,
@@ -53,7 +52,6 @@ fn table_role(
     value: usize,
     k: usize,
 ) -> usize
-    requires { NamesLent names.now }
     ensures { result ≡ table_role end heading unit value track k }
 {
     let t = track.table;
@@ -62,7 +60,7 @@ fn table_role(
     if last.0 < line.0 {
         return only(end, k);
     }
-    if is_end(names, k) {
+    if names.is_end(k) {
         return NOT_DUE;
     }
     if t.row == HEADINGS {
@@ -95,7 +93,6 @@ fn next_role(k: usize) -> usize
 
 // The role of a record whose system identifier is `k`.
 pub fn role(track: Track, names: &Names, phase: Phase, k: usize) -> usize
-    requires { NamesLent names.now }
     ensures { result ≡ role_in phase track k }
 {
     match phase {

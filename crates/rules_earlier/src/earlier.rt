@@ -5,7 +5,7 @@ ghost use Rattle.paper_rules.specs.Earlier.{headings_in, earlier, part_of, headi
 ghost use Rattle.paper_rules.specs.Earlier.{heading_found, equal_heading};
 
 use columns::fields::field;
-use paper_rules::types::Found;
+use paper_rules::types::HeadingPlace;
 use record_words::word::same_heading;
 
 // The headings of a part of heading records, six to a record.
@@ -28,16 +28,12 @@ fn part_of<'a>(
         ≡ part_of (earlier common001.now common.now table.now here.now 0)
         s }
 {
-    if s == 0 {
-        return common001;
+    match s {
+        0 => common001,
+        1 => common,
+        2 => table,
+        _ => here,
     }
-    if s == 1 {
-        return common;
-    }
-    if s == 2 {
-        return table;
-    }
-    here
 }
 
 // How many of the headings of a section count: in the record in hand those to the left.
@@ -47,25 +43,25 @@ fn headings_of(part: &[u8], left: usize, s: usize) -> usize
     ensures upper_bound { result ≤ headings_in part.now }
     ensures upper_bound_2 { result < FAR }
 {
-    let all = headings_in(part);
-    if s == 3 {
-        return left;
-    }
-    all
+    if s == 3 { left } else { headings_in(part) }
 }
 
 // Where a heading stands that was found at m in a section; `before` are those of the section in hand.
-fn place_of(before: usize, s: usize, m: usize) -> Found
+fn place_of(before: usize, s: usize, m: usize) -> HeadingPlace
     requires { Near before s m }
     ensures { result ≡ heading_found before s m }
 {
-    let column = m + 1;
     if s == 3 {
-        let further = before + column;
-        return Found::At(3, further);
+        HeadingPlace {
+            section: 3,
+            column: before + (m + 1),
+        }
+    } else {
+        HeadingPlace {
+            section: s + 1,
+            column: m + 1,
+        }
     }
-    let section = s + 1;
-    Found::At(section, column)
 }
 
 // The first earlier heading that is equal to f. The search ends there.
@@ -76,7 +72,7 @@ pub fn equal_heading<'a>(
     here: &'a [u8],
     left: usize,
     f: [u8; 11],
-) -> Found
+) -> Option<HeadingPlace>
     requires whole { Whole here.now }
     requires left_bound { left ≤ 6 }
     ensures { result
@@ -84,22 +80,15 @@ pub fn equal_heading<'a>(
         (earlier common001.now common.now table.now here.now left) }
 {
     let before = headings_in(table);
-    let mut found = Found::Nothing;
-    let mut s = 0;
-    'sections: while s < 4 {
+    let mut found = None;
+    'sections: for s in 0..4 {
         let part = part_of(common001, common, table, here, s);
-        let n = headings_of(part, left, s);
-        let mut m = 0;
-        while m < n {
-            let at = m / 6 * 81 + m % 6 * 11;
-            let g = field(part, at);
-            if same_heading(f, g) {
-                found = place_of(before, s, m);
+        for m in 0..headings_of(part, left, s) {
+            if same_heading(f, field(part, m / 6 * 81 + m % 6 * 11)) {
+                found = Some(place_of(before, s, m));
                 break 'sections;
             }
-            m += 1;
         }
-        s += 1;
     }
     found
 }

@@ -1,13 +1,12 @@
 // The rules for every record: refusals 2 to 6. Each gives the leftmost column at fault, 0 where there is none.
 ghost use Rattle.std.specs.Prelude.{◌≡◌, ℕ, ◌+◌, ◌-◌, ◌*◌, ◌≤◌, ◌<◌, length, get_or};
 ghost use Rattle.paper_record.specs.Columns.{Whole};
-ghost use Rattle.paper_record.specs.Class.{ClassesLent};
 ghost use Rattle.paper_rules.specs.Ranging.{Bounded};
 ghost use Rattle.paper_faults.specs.Fault.{leftmost};
 ghost use Rattle.paper_rules.specs.Every.{rule2, rule3, rule4, expected_identification, rule5, expected_sequence};
 ghost use Rattle.paper_rules.specs.Every.{rule6};
 
-use classes::class::permitted_to;
+use classes::class::Classes;
 use columns::columns::has_line_feed;
 use paper_rules::types::Track;
 use record_expected::expected::{
@@ -27,12 +26,11 @@ pub fn rule2(rec: &[u8]) -> u8
     81
 }
 
-pub fn rule3(classes: &[u8; 256], rec: &[u8]) -> u8
-    requires classes_lent { ClassesLent classes.now }
-    requires whole { Whole rec.now }
+pub fn rule3(classes: &Classes, rec: &[u8]) -> u8
+    requires { Whole rec.now }
     ensures { result ≡ leftmost (rule3 rec.now) }
 {
-    let n = permitted_to(classes, rec);
+    let n = classes.permitted_to(rec);
     if n < 80 {
         let column = (n + 1) as u8;
         return column;

@@ -1,18 +1,16 @@
 -- What is wrong at a flag, by what the number layer tells of the field.
 -- Assumes nothing.
 use Prim.Native.Nat.{ℕ}
-use mathlib.Core.Path.{◌≡◌, refl, sym, ◌∙◌, ap}
-use mathlib.Core.Bool.{Bool, true, false, cond, not, ◌&&◌, ◌||◌}
-use mathlib.Core.List.{List, [], ◌∷◌, ◌++◌}
+use mathlib.Core.Path.{◌≡◌, refl, sym, ◌∙◌}
+use mathlib.Core.Bool.{true, false, not, ◌&&◌}
+use mathlib.Core.List.{List, ◌++◌}
 use lib.Dec.{eqb}
 use Rattle.laws.specs.Members.{any_of}
 use Rattle.laws.proofs.Booleans.{and-with-true}
 use Rattle.laws.proofs.Listing.{any_same, any-never}
-use Rattle.paper_number.specs.Form.{form_of}
-use Rattle.paper_number.specs.Reading.{read_field}
 use Rattle.paper_number.specs.declared.types.WholeRead.TheVariants.{NoNumber, Raised, Broken, Whole}
-use Rattle.paper_number.specs.Whole.{has_exponent, whole_read, whole_is}
-use Rattle.paper_number.proofs.WholeTold.{tells_number, tells_exponent, number-told, exponent-told, told-broken, told-whole}
+use Rattle.paper_number.specs.Whole.{whole_read, whole_is}
+use Rattle.paper_number.proofs.WholeTold.{tells_number, number-told, exponent-told, told-broken, told-whole}
 use Rattle.paper_record.specs.Numbers.{form_at, says_number}
 use Rattle.paper_record.specs.Flags.{is_flag}
 use Rattle.paper_rules.specs.Codes.{codes_of}

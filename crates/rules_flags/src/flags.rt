@@ -1,5 +1,5 @@
 // The rule for values under FLAG and DECAY-FLAG: refusal 17. It gives the leftmost column at fault, 0 where there is
-// none.
+// none: `leftmost` (paper_faults) gives that number.
 ghost use Rattle.std.specs.Prelude.{◌≡◌, ◌*◌, ◌≤◌, ◌<◌};
 ghost use Rattle.laws.specs.Search.{first};
 ghost use Rattle.paper_record.specs.Columns.{columns_at};
@@ -27,25 +27,15 @@ fn heading_record(track: Track) -> usize
     ensures value { result ≡ records_over track * 81 }
     ensures record_at { RecordAt result }
 {
-    let t = track.table;
-    let columns = t.columns;
-    let rest = t.rest;
-    if columns < rest {
-        return 0;
-    }
-    let before = columns - rest;
-    let records = before as usize / 6;
-    records * 81
+    let before = track.table.columns.saturating_sub(track.table.rest);
+    before as usize / 6 * 81
 }
 
 // Whether one of the two words may start with the letter. One load tells most other headings.
 fn may_flag(b: u8) -> bool
     ensures { result ≡ starts_flag b }
 {
-    if b == b'F' {
-        return true;
-    }
-    b == b'D'
+    b == b'F' || b == b'D'
 }
 
 // Whether the heading at `at` is FLAG or DECAY-FLAG.
@@ -53,14 +43,7 @@ fn is_flag_at(table: &[u8], at: usize) -> bool
     requires { Room table.now at }
     ensures { result ≡ is_flag_heading (columns_at at 11 table.now) }
 {
-    if table.len() <= at {
-        return false;
-    }
-    if !may_flag(table[at]) {
-        return false;
-    }
-    let h = field(table, at);
-    is_flag_heading(h)
+    at < table.len() && may_flag(table[at]) && is_flag_heading(field(table, at))
 }
 
 // Whether the field k of a value record stands under FLAG or DECAY-FLAG.
@@ -68,26 +51,18 @@ pub fn is_flag_column(track: Track, table: &[u8], k: usize) -> bool
     requires { WholeRecords table.now × (k < 6) }
     ensures { result ≡ flag_column table.now track k }
 {
-    let at = heading_record(track) + k * 11;
-    is_flag_at(table, at)
+    is_flag_at(table, heading_record(track) + k * 11)
 }
 
 // Whether a field under such a heading has an exponent, or is a flag without code.
 fn is_wrong(bib: &[u8], bib001: &[u8], h: [u8; 11], f: [u8; 11]) -> bool
     ensures { result ≡ flag_wrong bib.now bib001.now h f }
 {
-    let w = whole_read(f);
-    let flag = is_flag(h);
-    match w {
+    match whole_read(f) {
         WholeRead::NoNumber => false,
         WholeRead::Raised => true,
-        WholeRead::Broken => flag,
-        WholeRead::Whole(n) => {
-            if !flag {
-                return false;
-            }
-            !code_met(bib, bib001, n)
-        }
+        WholeRead::Broken => is_flag(h),
+        WholeRead::Whole(n) => is_flag(h) && !code_met(bib, bib001, n),
     }
 }
 
@@ -97,11 +72,7 @@ fn is_fault_at(bib: &[u8], bib001: &[u8], table: &[u8], at: usize, f: [u8; 11]) 
     ensures { result
         ≡ flag_fault bib.now bib001.now (columns_at at 11 table.now) f }
 {
-    if !is_flag_at(table, at) {
-        return false;
-    }
-    let h = field(table, at);
-    is_wrong(bib, bib001, h, f)
+    is_flag_at(table, at) && is_wrong(bib, bib001, field(table, at), f)
 }
 
 // The first of the first n fields that is at fault, or n; their headings stand in the record at `from`.
@@ -118,20 +89,17 @@ fn first_fault(
     ensures { result
         ≡ first (fault_below bib.now bib001.now table.now from fs) 0 n }
 {
-    let mut k = 0;
-    while k < n {
-        let f = fs[k];
-        let at = from + k * 11;
-        if is_fault_at(bib, bib001, table, at, f) {
+    for k in 0..n {
+        if is_fault_at(bib, bib001, table, from + k * 11, fs[k]) {
             return k;
         }
-        k += 1;
     }
     n
 }
 
 // Whether a heading of the record at `from` starts with a letter of the two words. Most tables have none, and this is all
 // that they cost; with all loads before the first test there is one branch.
+#[tactic(auto, unfolding(crate::specs::Below::letter_in))]
 fn has_letter(table: &[u8], from: usize) -> bool
     requires { WholeRecords table.now × RecordAt from }
     ensures { result ≡ letter_in table.now from }
@@ -145,22 +113,7 @@ fn has_letter(table: &[u8], from: usize) -> bool
     let d = table[from + 33];
     let e = table[from + 44];
     let f = table[from + 55];
-    if may_flag(a) {
-        return true;
-    }
-    if may_flag(b) {
-        return true;
-    }
-    if may_flag(c) {
-        return true;
-    }
-    if may_flag(d) {
-        return true;
-    }
-    if may_flag(e) {
-        return true;
-    }
-    may_flag(f)
+    may_flag(a) || may_flag(b) || may_flag(c) || may_flag(d) || may_flag(e) || may_flag(f)
 }
 
 pub fn rule17(track: Track, ranges: Ranges, before: &[u8], role: usize, fs: [[u8; 11]; 6]) -> u8
@@ -173,13 +126,17 @@ pub fn rule17(track: Track, ranges: Ranges, before: &[u8], role: usize, fs: [[u8
     }
     let n = used(track);
     let from = heading_record(track);
-    let a = ranges.table;
-    let table = part(before, a);
+    let table = part(before, ranges.table);
     if !has_letter(table, from) {
         return 0;
     }
-    let b = ranges.bib;
-    let c = ranges.bib001;
-    let k = first_fault(part(before, b), part(before, c), table, from, fs, n);
+    let k = first_fault(
+        part(before, ranges.bib),
+        part(before, ranges.bib001),
+        table,
+        from,
+        fs,
+        n,
+    );
     field_column(k, n)
 }

@@ -13,28 +13,30 @@ pub const MOST_COLUMNS: u64 = 18;
 
 pub const MOST_LINES: u64 = 20000;
 
+#[tactic(auto, unfolding(paper_rules::specs::Counts::limit_n1))]
 pub fn limit_n1(role: usize) -> Limit
     ensures { result ≡ limit_n1 role }
 {
     if role == BIB {
-        return Limit::AtLeast(1);
+        Limit::AtLeast(1)
+    } else {
+        Limit::Between(1, MOST_COLUMNS)
     }
-    Limit::Between(1, MOST_COLUMNS)
 }
 
+#[tactic(auto, unfolding(paper_rules::specs::Counts::limit_n2))]
 pub fn limit_n2(role: usize, n: u64) -> Limit
     requires { Few role n }
     ensures { result ≡ limit_n2 role n }
 {
-    if role == BIB {
-        return Limit::AtLeast(n);
+    match role {
+        BIB => Limit::AtLeast(n),
+        COMMON => {
+            let records = 3 * u64::from(records_for(n as u32));
+            Limit::Between(records, records)
+        }
+        _ => Limit::Between(1, MOST_LINES),
     }
-    if role == COMMON {
-        let k = records_for(n as u32) as u64;
-        let records = 3 * k;
-        return Limit::Between(records, records);
-    }
-    Limit::Between(1, MOST_LINES)
 }
 
 fn meets(limit: Limit, n: u64) -> bool
@@ -46,15 +48,15 @@ fn meets(limit: Limit, n: u64) -> bool
     }
 }
 
-// Of a record that opens a section.
+// Of a record that opens a section; 0 where there is no fault: `leftmost` (paper_faults) gives that number.
 pub fn announced(role: usize, a: u64, b: u64) -> u8
     ensures { result ≡ leftmost (announced_fault role a b) }
 {
     if !meets(limit_n1(role), a) {
-        return 12;
+        12
+    } else if !meets(limit_n2(role, a), b) {
+        23
+    } else {
+        0
     }
-    if !meets(limit_n2(role, a), b) {
-        return 23;
-    }
-    0
 }

@@ -1,4 +1,4 @@
-// The rule for subentry numbers: refusal 9. It gives the leftmost column at fault, 0 where there is none.
+// The rule for subentry numbers: refusal 9. It gives the leftmost column at fault, 0 for none, as `leftmost` does.
 ghost use Rattle.std.specs.Prelude.{◌≡◌, ◌-◌, ◌<◌};
 ghost use Rattle.paper_rules.specs.Roles.{opens_subentry};
 ghost use Rattle.paper_faults.specs.Fault.{leftmost, on};
@@ -15,17 +15,14 @@ pub const LAST_SUBENTRY: u32 = 998;
 fn number_due(track: Track, number: u32) -> bool
     ensures { result ≡ number_due track number }
 {
-    let x = track.totals;
-    let s = track.subentry;
-    if x.subentries == 0 {
-        return number == 1;
+    if track.totals.subentries == 0 {
+        number == 1
+    } else {
+        track.subentry.number < number && number <= LAST_SUBENTRY
     }
-    if s.number < number {
-        return number <= LAST_SUBENTRY;
-    }
-    false
 }
 
+#[tactic(auto, unfolding(paper_rules::specs::System::rule9))]
 pub fn rule9(track: Track, role: usize, fs: [[u8; 11]; 6]) -> u8
     ensures { result ≡ leftmost (on (opens_subentry role) (rule9 track fs)) }
 {
@@ -33,15 +30,10 @@ pub fn rule9(track: Track, role: usize, fs: [[u8; 11]; 6]) -> u8
         return 0;
     }
     // Both the accession and the number stand in N1.
-    let column = 12;
     let f = fs[1];
-    let own = subent_accession(f);
-    let accession = track.accession;
-    if !same_five(own, accession) {
-        return column;
+    if same_five(subent_accession(f), track.accession) && number_due(track, subentry_of(f)) {
+        0
+    } else {
+        12
     }
-    if number_due(track, subentry_of(f)) {
-        return 0;
-    }
-    column
 }

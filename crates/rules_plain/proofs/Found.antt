@@ -1,6 +1,7 @@
 -- The search hands back the first place with an equal heading, and nothing where there is none.
 -- Assumes nothing.
 use Prim.Native.Nat.{ℕ, ◌+◌, ◌-◌, ◌<◌, ◌≤◌}
+use Rattle.std.specs.Prelude.{Option, Some, None}
 use mathlib.Core.Path.{◌≡◌, refl, sym, ◌∙◌, ap, subst}
 use mathlib.Core.Bool.{Bool, true, false}
 use mathlib.Core.List.{List, []}
@@ -11,26 +12,25 @@ use Rattle.laws.proofs.Booleans.{differ}
 use Rattle.laws.proofs.Search.{either}
 use Rattle.paper_record.proofs.PlainColumns.{equal-exactly}
 use Rattle.paper_rules.specs.Record.{Record}
-use Rattle.paper_rules.specs.declared.types.Found.{Found}
-use Rattle.paper_rules.specs.declared.types.Found.TheVariants.{At, Nothing}
-use Rattle.paper_rules.specs.Earlier.{equal_heading}
+use Rattle.paper_rules.specs.declared.types.HeadingPlace.{HeadingPlace}
+use Rattle.paper_rules.specs.Earlier.{place_at, equal_heading}
 use Rattle.rules_plain.specs.Repeated.{RecordsBefore, headings_on, table_so_far}
 use Rattle.rules_plain.specs.Found.{headings_of_section, EqualAt, Sooner, FirstEqual, searched, FoundExactly}
 use Rattle.rules_plain.specs.Found.{NothingExactly}
 use Rattle.rules_plain.proofs.SearchEnd.{NoneIn, FirstIn, SearchEnd, in-first, in-second, in-third, in-none}
 use Rattle.rules_plain.proofs.SearchEnd.{search-end}
 
-abbrev is_found : Found → Bool
-is_found (At section column) = true
-is_found Nothing = false
+abbrev is_found : Option HeadingPlace → Bool
+is_found (Some place) = true
+is_found None = false
 
-abbrev section_in : Found → ℕ
-section_in (At section column) = section
-section_in Nothing = 0
+abbrev section_in : Option HeadingPlace → ℕ
+section_in (Some place) = place.section
+section_in None = 0
 
-abbrev column_in : Found → ℕ
-column_in (At section column) = column
-column_in Nothing = 0
+abbrev column_in : Option HeadingPlace → ℕ
+column_in (Some place) = place.column
+column_in None = 0
 
 module _ (f : List ℕ) (b : RecordsBefore) (r : Record) (k : ℕ) where
   abbrev Equal : ℕ → ℕ → Type 0
@@ -91,11 +91,11 @@ module _ (f : List ℕ) (b : RecordsBefore) (r : Record) (k : ℕ) where
 
   -- ---- what the search hands back
 
-  data Said : Found → Type 0 where
-    said-first : (s c : ℕ) → First s c → Said (At s c)
-    said-nothing : ((s c : ℕ) → Equal s c → ⊥) → Said Nothing
+  data Said : Option HeadingPlace → Type 0 where
+    said-first : (s c : ℕ) → First s c → Said (Some (place_at s c))
+    said-nothing : ((s c : ℕ) → Equal s c → ⊥) → Said None
 
-  said : (found : Found) → SearchEnd f (headings_on b.common001) (headings_on b.common) (table_so_far b r k) found
+  said : (found : Option HeadingPlace) → SearchEnd f (headings_on b.common001) (headings_on b.common) (table_so_far b r k) found
       → Said found
   said found (in-first m h) =
       said-first 1 (m + 1) (first-equal 1 m (omega arith) (omega arith) (λ q a l. absurd (omega arith)) h)
@@ -119,20 +119,20 @@ module _ (f : List ℕ) (b : RecordsBefore) (r : Record) (k : ℕ) where
       either q 3 (λ l. let z : 2 ≡ q = omega arith in subst NoneThere z p)
       (λ m. let z : 3 ≡ q = omega arith in subst NoneThere z o))) c e)
 
-  said_at : (found : Found) → Said found → (s c : ℕ) → found ≡ At s c → First s c
+  said_at : (found : Option HeadingPlace) → Said found → (s c : ℕ) → found ≡ Some (place_at s c) → First s c
   said_at found (said-first q d h) s c e =
       subst (λ (x : ℕ). First s x) (ap column_in e) (subst (λ (x : ℕ). First x d) (ap section_in e) h)
   said_at found (said-nothing n) s c e = differ (sym (ap is_found e))
 
-  at-said : (found : Found) → Said found → (s c : ℕ) → First s c → found ≡ At s c
+  at-said : (found : Option HeadingPlace) → Said found → (s c : ℕ) → First s c → found ≡ Some (place_at s c)
   at-said found (said-first q d h) s c g = let (x, y) = one-first q d s c h g in rw (x, y)
   at-said found (said-nothing n) s c g = absurd (n s c g.equal)
 
-  said-none : (found : Found) → Said found → found ≡ Nothing → (s c : ℕ) → Equal s c → ⊥
+  said-none : (found : Option HeadingPlace) → Said found → found ≡ None → (s c : ℕ) → Equal s c → ⊥
   said-none found (said-first q d h) e = differ (ap is_found e)
   said-none found (said-nothing n) e = n
 
-  none_said : (found : Found) → Said found → ((s c : ℕ) → Equal s c → ⊥) → found ≡ Nothing
+  none_said : (found : Option HeadingPlace) → Said found → ((s c : ℕ) → Equal s c → ⊥) → found ≡ None
   none_said found (said-first q d h) n = absurd (n q d h.equal)
   none_said found (said-nothing n) g = refl
 

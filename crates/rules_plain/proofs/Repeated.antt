@@ -1,6 +1,7 @@
 -- The rules 13 and 14 find exactly the headings that are repeated, and those whose pointer is lost.
 -- Assumes nothing.
 use Prim.Native.Nat.{ℕ, zero, suc, ◌+◌, ◌-◌, ◌<◌, ◌≤◌}
+use Rattle.std.specs.Prelude.{Option}
 use mathlib.Core.Path.{◌≡◌, refl, sym, ◌∙◌, ap}
 use mathlib.Core.Bool.{Bool, true, false, cond, not, ◌&&◌}
 use mathlib.Core.List.{List, [], ◌++◌, append-nil}
@@ -26,7 +27,7 @@ use Rattle.paper_rules.specs.declared.types.Track.{Track}
 use Rattle.paper_rules.specs.State.{Seen, used}
 use Rattle.paper_rules.specs.Record.{Record, field_column}
 use Rattle.paper_rules.proofs.FewUsed.{used-few}
-use Rattle.paper_rules.specs.declared.types.Found.{Found}
+use Rattle.paper_rules.specs.declared.types.HeadingPlace.{HeadingPlace}
 use Rattle.paper_rules.specs.Roles.{DATA-HEADING}
 use Rattle.paper_rules.specs.Earlier.{heading_at, headings_in, equal_heading}
 use Rattle.paper_rules.specs.Repeats.{left_of, clash, heading_repeated}
@@ -115,7 +116,7 @@ module _ (in_data : Bool) (b : RecordsBefore) (r : Record) (k : ℕ) where
   abbrev f : List ℕ
   f = field_at r k
 
-  abbrev Ended : Found → Type 0
+  abbrev Ended : Option HeadingPlace → Type 0
   Ended found = SearchEnd f (headings_on b.common001) (headings_on b.common) (table_so_far b r k) found
 
   -- the test on the place that was found, where `left` is the heading to the left
@@ -125,7 +126,7 @@ module _ (in_data : Bool) (b : RecordsBefore) (r : Record) (k : ℕ) where
   there : (m : ℕ) → FirstIn f (table_so_far b r k) m → 0 < length (table_so_far b r k)
   there m h = let l = h.there in omega arith
 
-  clash-said : (found : Found) (left : List ℕ) → Left left → Ended found → clash in_data found f left ≡ true
+  clash-said : (found : Option HeadingPlace) (left : List ℕ) → Left left → Ended found → clash in_data found f left ≡ true
       → Repeated in_data b r k
   unfolding clash
   clash-said found left l (in-first m h) e =
@@ -145,7 +146,7 @@ module _ (in_data : Bool) (b : RecordsBefore) (r : Record) (k : ℕ) where
       by_tests true true p q e = differ (sym e)
   clash-said found left l (in-none n p q) e = differ (sym e)
 
-  said-clash : (found : Found) (left : List ℕ) → Left left → Ended found → Repeated in_data b r k
+  said-clash : (found : Option HeadingPlace) (left : List ℕ) → Left left → Ended found → Repeated in_data b r k
       → clash in_data found f left ≡ true
   unfolding clash
   said-clash found left l (in-first m h) w = refl

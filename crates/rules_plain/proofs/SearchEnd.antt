@@ -1,5 +1,6 @@
 -- How the search for an equal heading ends: turn by turn, over the headings as lists. Assumes nothing.
 use Prim.Native.Nat.{ℕ, ◌+◌, ◌-◌, ◌<◌, ◌≤◌}
+use Rattle.std.specs.Prelude.{Option, Some, None}
 use mathlib.Core.Path.{◌≡◌, refl, sym, ◌∙◌, ap, subst}
 use mathlib.Core.Bool.{Bool, true, false, cond}
 use mathlib.Core.List.{List, [], ◌++◌}
@@ -16,9 +17,8 @@ use Rattle.laws.proofs.Counting.{first-before, first_holds}
 use Rattle.paper_record.specs.Fields.{fields_of}
 use Rattle.paper_record.specs.Word.{equal_to}
 use Rattle.paper_rules.specs.Record.{Record}
-use Rattle.paper_rules.specs.declared.types.Found.{Found}
-use Rattle.paper_rules.specs.declared.types.Found.TheVariants.{At, Nothing}
-use Rattle.paper_rules.specs.Earlier.{heading_at, headings_in, equal_at, equal_in, equal_heading, section_turn, nowhere}
+use Rattle.paper_rules.specs.declared.types.HeadingPlace.{HeadingPlace}
+use Rattle.paper_rules.specs.Earlier.{place_at, heading_at, headings_in, equal_at, equal_in, equal_heading, section_turn, nowhere}
 use Rattle.rules_plain.specs.Places.{Long}
 use Rattle.rules_plain.specs.Repeated.{RecordsBefore, LongHeadings, headings_on, table_so_far}
 use Rattle.rules_plain.specs.Found.{searched}
@@ -97,21 +97,21 @@ module _ (f part : List ℕ) (xs : List (List ℕ)) (n : ℕ) (long : length xs 
 -- ---- through all parts
 
 -- the section and the column, both numbered from 1, of the first equal heading, or nothing
-pub data SearchEnd (f : List ℕ) (xs ys zs : List (List ℕ)) : Found → Type 0 where
-  in-first : (m : ℕ) → FirstIn f xs m → SearchEnd f xs ys zs (At 1 (m + 1))
-  in-second : NoneIn f xs (length xs) → (m : ℕ) → FirstIn f ys m → SearchEnd f xs ys zs (At 2 (m + 1))
+pub data SearchEnd (f : List ℕ) (xs ys zs : List (List ℕ)) : Option HeadingPlace → Type 0 where
+  in-first : (m : ℕ) → FirstIn f xs m → SearchEnd f xs ys zs (Some (place_at 1 (m + 1)))
+  in-second : NoneIn f xs (length xs) → (m : ℕ) → FirstIn f ys m → SearchEnd f xs ys zs (Some (place_at 2 (m + 1)))
   in-third : NoneIn f xs (length xs) → NoneIn f ys (length ys) → (m : ℕ) → FirstIn f zs m
-      → SearchEnd f xs ys zs (At 3 (m + 1))
-  in-none : NoneIn f xs (length xs) → NoneIn f ys (length ys) → NoneIn f zs (length zs) → SearchEnd f xs ys zs Nothing
+      → SearchEnd f xs ys zs (Some (place_at 3 (m + 1)))
+  in-none : NoneIn f xs (length xs) → NoneIn f ys (length ys) → NoneIn f zs (length zs) → SearchEnd f xs ys zs None
 
 -- a turn ends the search, or goes on
-turn-either : (P : Found → Type 0) (b : Bool) (x : Found) (rest : Unit {0} → Found) → (b ≡ true → P x)
+turn-either : (P : Option HeadingPlace → Type 0) (b : Bool) (x : Option HeadingPlace) (rest : Unit {0} → Option HeadingPlace) → (b ≡ true → P x)
     → (b ≡ false → P (rest tt)) → P (after (cond b (out x) (go tt)) rest)
 turn-either P true x rest p q = p refl
 turn-either P false x rest p q = q refl
 
 module _ (f : List ℕ) (b : RecordsBefore) (r : Record) (k : ℕ) (long : LongHeadings b) (few : k ≤ 6) where
-  abbrev End : Found → Type 0
+  abbrev End : Option HeadingPlace → Type 0
   End found = SearchEnd f (headings_on b.common001) (headings_on b.common) (table_so_far b r k) found
 
   -- one list of records, and the record in hand
@@ -138,13 +138,13 @@ module _ (f : List ℕ) (b : RecordsBefore) (r : Record) (k : ℕ) (long : LongH
   left-none e = part_none f r (take k (fields_of r)) k (left-length r k few) (λ m l. left-bytes r k m few l) e
 
   -- behind the table's records the headings to the left are numbered on
-  numbered : (m : ℕ) → End (At 3 (length (headings_on b.table) + m + 1))
-      → End (At 3 (headings_in (joined b.table) + (m + 1)))
+  numbered : (m : ℕ) → End (Some (place_at 3 (length (headings_on b.table) + m + 1)))
+      → End (Some (place_at 3 (headings_in (joined b.table) + (m + 1))))
   numbered m h =
       let n = headings-in b.table long.table in
       let l = headings-length b.table in
       let e : length (headings_on b.table) + m + 1 ≡ headings_in (joined b.table) + (m + 1) = omega arith in
-      subst (λ (x : ℕ). End (At 3 x)) e h
+      subst (λ (x : ℕ). End (Some (place_at 3 x))) e h
 
   none_at_all : NoneIn f (headings_on b.table) (length (headings_on b.table))
       → NoneIn f (take k (fields_of r)) (length (take k (fields_of r)))
@@ -160,7 +160,7 @@ module _ (f : List ℕ) (b : RecordsBefore) (r : Record) (k : ℕ) (long : LongH
       let first = joined b.common001 in
       let common = joined b.common in
       let table = joined b.table in
-      let t : ℕ → Unit {0} → Turn (Unit {0}) Found = λ s u. section_turn f e u s in
+      let t : ℕ → Unit {0} → Turn (Unit {0}) (Option HeadingPlace) = λ s u. section_turn f e u s in
       turn-either End (ltb (equal_in f first (headings_in first)) (headings_in first)) _
       (λ u. after (t 1 u) (λ u. after (t 2 u) (λ u. after (t 3 u) nowhere)))
       (λ p. in-first _ (rows-first b.common001 long.common001 p))

@@ -4,12 +4,11 @@
 --
 -- The code follows `equal_heading` (paper_rules, Earlier). That it hands back the first place with an equal heading
 -- is stated here (`FoundExactly`), and that it hands back none exactly where no heading is equal (`NothingExactly`).
-use Rattle.std.specs.Prelude.{ℕ, ◌-◌, ◌<◌, ◌≤◌, ◌≡◌, cond, List, [], ◌↔◌, ◌⊎◌, eqb, length, get_or}
+use Rattle.std.specs.Prelude.{ℕ, ◌-◌, ◌<◌, ◌≤◌, ◌≡◌, cond, List, [], ◌↔◌, ◌⊎◌, eqb, length, get_or, Some, None}
 use Rattle.laws.specs.Blocks.{joined}
 use Rattle.paper_record.specs.Same.{SameColumns}
 use Rattle.paper_rules.specs.Record.{Record}
-use Rattle.paper_rules.specs.declared.types.Found.TheVariants.{At, Nothing}
-use Rattle.paper_rules.specs.Earlier.{Earlier, equal_heading, earlier}
+use Rattle.paper_rules.specs.Earlier.{Earlier, place_at, equal_heading, earlier}
 use Rattle.rules_plain.specs.Repeated.{RecordsBefore, LongHeadings, headings_on, table_so_far}
 
 -- ---- places
@@ -47,9 +46,9 @@ searched b r k = earlier (joined b.common001) (joined b.common) (joined b.table)
 abbrev pub FoundExactly : Type 0
 FoundExactly =
     (f : List ℕ) (b : RecordsBefore) (r : Record) (k : ℕ) → LongHeadings b → k ≤ 6 → (section column : ℕ)
-    → (equal_heading f (searched b r k) ≡ At section column) ↔ FirstEqual f b r k section column
+    → (equal_heading f (searched b r k) ≡ Some (place_at section column)) ↔ FirstEqual f b r k section column
 
 abbrev pub NothingExactly : Type 0
 NothingExactly =
     (f : List ℕ) (b : RecordsBefore) (r : Record) (k : ℕ) → LongHeadings b → k ≤ 6
-    → (equal_heading f (searched b r k) ≡ Nothing) ↔ ((section column : ℕ) → EqualAt f b r k section column → ⊥)
+    → (equal_heading f (searched b r k) ≡ None) ↔ ((section column : ℕ) → EqualAt f b r k section column → ⊥)

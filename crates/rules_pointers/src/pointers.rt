@@ -1,4 +1,5 @@
-// The rule for the pointers of DATA headings: refusal 14. It gives the leftmost column at fault, 0 where there is none.
+// The rule for the pointers of DATA headings: refusal 14. It gives the leftmost column at fault, 0 where there is none, as
+// `leftmost` (paper_faults) does.
 ghost use Rattle.std.specs.Prelude.{◌≡◌, ◌+◌, ◌-◌, ◌*◌, ◌/◌, ◌%◌, ◌≤◌, ◌<◌, eqb};
 ghost use Rattle.laws.specs.Members.{any_of};
 ghost use Rattle.laws.specs.Search.{first};
@@ -19,35 +20,25 @@ use rules_text::text::pointer_in;
 fn heading_pointer_in(part: &[u8], pointer: u8) -> bool
     ensures { result ≡ any_of (eqb pointer) (heading_pointers part.now) }
 {
-    let n = headings_in(part);
-    let mut m = 0;
-    while m < n {
-        let at = m / 6 * 81 + m % 6 * 11 + 10;
-        let p = part[at];
-        if pointer == p {
+    for m in 0..headings_in(part) {
+        if pointer == part[m / 6 * 81 + m % 6 * 11 + 10] {
             return true;
         }
-        m += 1;
     }
     false
 }
 
 // Whether a pointer stands in a BIB or on a heading of a COMMON.
+#[tactic(auto, using(laws::proofs::Members::any_append), unfolding(paper_rules::specs::Pointers::pointers_for))]
 fn pointer_found(bib: &[u8], bib001: &[u8], common: &[u8], common001: &[u8], pointer: u8) -> bool
     ensures { result
         ≡ any_of (eqb pointer)
         (pointers_for bib.now bib001.now common.now common001.now) }
 {
-    if pointer_in(bib, pointer) {
-        return true;
-    }
-    if pointer_in(bib001, pointer) {
-        return true;
-    }
-    if heading_pointer_in(common, pointer) {
-        return true;
-    }
-    heading_pointer_in(common001, pointer)
+    pointer_in(bib, pointer)
+        || pointer_in(bib001, pointer)
+        || heading_pointer_in(common, pointer)
+        || heading_pointer_in(common001, pointer)
 }
 
 fn pointer_lost(bib: &[u8], bib001: &[u8], common: &[u8], common001: &[u8], f: [u8; 11]) -> bool
@@ -55,11 +46,7 @@ fn pointer_lost(bib: &[u8], bib001: &[u8], common: &[u8], common001: &[u8], f: [
         ≡ pointer_lost
         (pointers_for bib.now bib001.now common.now common001.now) f }
 {
-    let pointer = f[10];
-    if pointer == b' ' {
-        return false;
-    }
-    !pointer_found(bib, bib001, common, common001, pointer)
+    f[10] != b' ' && !pointer_found(bib, bib001, common, common001, f[10])
 }
 
 // The first of the first n fields whose pointer is not found, or n.
@@ -77,13 +64,10 @@ fn lost_at(
         (pointers_for bib.now bib001.now common.now common001.now) fs) 0
         n }
 {
-    let mut k = 0;
-    while k < n {
-        let f = fs[k];
-        if pointer_lost(bib, bib001, common, common001, f) {
+    for k in 0..n {
+        if pointer_lost(bib, bib001, common, common001, fs[k]) {
             return k;
         }
-        k += 1;
     }
     n
 }
@@ -96,16 +80,12 @@ pub fn rule14(track: Track, ranges: Ranges, before: &[u8], role: usize, fs: [[u8
     if role != DATA_HEADING {
         return 0;
     }
-    let a = ranges.bib;
-    let b = ranges.bib001;
-    let c = ranges.common;
-    let d = ranges.common001;
     let n = used(track);
     let k = lost_at(
-        part(before, a),
-        part(before, b),
-        part(before, c),
-        part(before, d),
+        part(before, ranges.bib),
+        part(before, ranges.bib001),
+        part(before, ranges.common),
+        part(before, ranges.common001),
         fs,
         n,
     );

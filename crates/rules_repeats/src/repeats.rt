@@ -3,7 +3,7 @@ ghost use Rattle.std.specs.Prelude.{◌≡◌, [], ◌<◌, get_or};
 ghost use Rattle.paper_rules.specs.Repeats.{left_of, clash};
 
 use columns::fields::field;
-use paper_rules::types::Found;
+use paper_rules::types::HeadingPlace;
 use record_repeats::repeats::may_repeat;
 use record_words::word::same_heading;
 use rules_earlier::earlier::headings_in;
@@ -21,27 +21,27 @@ fn left_of(table: &[u8], fs: [[u8; 11]; 6], k: usize) -> [u8; 11]
         return [b' '; 11];
     }
     let m = n - 1;
-    let at = m / 6 * 81 + m % 6 * 11;
-    field(table, at)
+    field(table, m / 6 * 81 + m % 6 * 11)
 }
 
 // Whether the heading in the field k may not repeat the one that was found.
-pub fn is_clash(found: Found, in_data: bool, table: &[u8], fs: [[u8; 11]; 6], k: usize) -> bool
+#[tactic(auto, unfolding(paper_rules::specs::Repeats::clash))]
+pub fn is_clash(
+    found: Option<HeadingPlace>,
+    in_data: bool,
+    table: &[u8],
+    fs: [[u8; 11]; 6],
+    k: usize,
+) -> bool
     requires { k < 6 }
     ensures { result ≡ clash in_data found (get_or fs k []) (left_of table.now fs k) }
 {
     match found {
-        Found::At(section, _) => {
-            if section != 3 {
-                return true;
-            }
-            let f = fs[k];
-            if !may_repeat(in_data, f) {
-                return true;
-            }
-            let left = left_of(table, fs, k);
-            !same_heading(f, left)
+        Some(place) => {
+            place.section != 3
+                || !may_repeat(in_data, fs[k])
+                || !same_heading(fs[k], left_of(table, fs, k))
         }
-        Found::Nothing => false,
+        None => false,
     }
 }

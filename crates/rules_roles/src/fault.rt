@@ -10,11 +10,7 @@ pub fn field_column(k: usize, n: usize) -> u8
     requires { n ≤ 6 }
     ensures { result ≡ column_at field_column k n }
 {
-    if k < n {
-        let column = (k * 11 + 1) as u8;
-        return column;
-    }
-    0
+    if k < n { (k * 11 + 1) as u8 } else { 0 }
 }
 
 // Its eleventh.
@@ -22,9 +18,5 @@ pub fn pointer_column(k: usize, n: usize) -> u8
     requires { n ≤ 6 }
     ensures { result ≡ column_at pointer_column k n }
 {
-    if k < n {
-        let column = (k * 11 + 11) as u8;
-        return column;
-    }
-    0
+    if k < n { (k * 11 + 11) as u8 } else { 0 }
 }

@@ -11,9 +11,5 @@ pub fn part<'a>(before: &'a [u8], range: Range) -> &'a [u8]
     requires { Lent before.now range }
     ensures { result.now ≡ bytes_of before.now range }
 {
-    let from = range.from;
-    let past = range.past;
-    let start = offset_of(from);
-    let end = offset_of(past);
-    &before[start..end]
+    &before[offset_of(range.from)..offset_of(range.past)]
 }

@@ -39,48 +39,30 @@ pub fn is_system(role: usize) -> bool
 pub fn opens_subentry(role: usize) -> bool
     ensures { result ≡ opens_subentry role }
 {
-    if role == SUBENT {
-        return true;
-    }
-    role == NOSUBENT
+    role == SUBENT || role == NOSUBENT
 }
 
 // BIB, COMMON or DATA.
 pub fn opens_section(role: usize) -> bool
     ensures { result ≡ opens_section role }
 {
-    if role == BIB {
-        return true;
-    }
-    if role == COMMON {
-        return true;
-    }
-    role == DATA
+    role == BIB || role == COMMON || role == DATA
 }
 
 pub fn is_heading(role: usize) -> bool
     ensures { result ≡ is_heading role }
 {
-    if role == COMMON_HEADING {
-        return true;
-    }
-    role == DATA_HEADING
+    role == COMMON_HEADING || role == DATA_HEADING
 }
 
 pub fn is_unit(role: usize) -> bool
     ensures { result ≡ is_unit role }
 {
-    if role == COMMON_UNIT {
-        return true;
-    }
-    role == DATA_UNIT
+    role == COMMON_UNIT || role == DATA_UNIT
 }
 
 pub fn is_value(role: usize) -> bool
     ensures { result ≡ is_value role }
 {
-    if role == COMMON_VALUE {
-        return true;
-    }
-    role == DATA_VALUE
+    role == COMMON_VALUE || role == DATA_VALUE
 }

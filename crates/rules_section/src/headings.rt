@@ -1,5 +1,5 @@
 // The rules for heading and unit records: refusals 11 to 13. Each gives the leftmost column at fault, 0 where there
-// is none.
+// is none: `leftmost` (paper_faults) gives that number.
 ghost use Rattle.std.specs.Prelude.{◌≡◌, ◌≤◌, cond};
 ghost use Rattle.laws.specs.Search.{first};
 ghost use Rattle.paper_record.specs.Columns.{Whole};
@@ -34,14 +34,11 @@ fn repeated_at<'a>(
         ≡ first (heading_repeated in_data common001.now common.now table.now
         here.now fs) 0 n }
 {
-    let mut k = 0;
-    while k < n {
-        let f = fs[k];
-        let found = equal_heading(common001, common, table, here, k, f);
+    for k in 0..n {
+        let found = equal_heading(common001, common, table, here, k, fs[k]);
         if is_clash(found, in_data, table, fs, k) {
             return k;
         }
-        k += 1;
     }
     n
 }
@@ -53,8 +50,7 @@ pub fn rule11_heading(track: Track, role: usize, fs: [[u8; 11]; 6]) -> u8
     if !is_heading(role) {
         return 0;
     }
-    let k = pointer_fault(fs, used(track));
-    pointer_column(k, 6)
+    pointer_column(pointer_fault(fs, used(track)), 6)
 }
 
 pub fn rule12(track: Track, role: usize, fs: [[u8; 11]; 6]) -> u8
@@ -62,14 +58,12 @@ pub fn rule12(track: Track, role: usize, fs: [[u8; 11]; 6]) -> u8
         ≡ leftmost (cond (is_heading role) (rule12_heading track fs) (on (is_unit role) (rule12_unit track fs))) }
 {
     if is_heading(role) {
-        let k = heading_fault(fs, used(track));
-        return field_column(k, 6);
+        field_column(heading_fault(fs, used(track)), 6)
+    } else if is_unit(role) {
+        field_column(unit_fault(fs, used(track)), 6)
+    } else {
+        0
     }
-    if is_unit(role) {
-        let k = unit_fault(fs, used(track));
-        return field_column(k, 6);
-    }
-    0
 }
 
 pub fn rule13<'a>(
@@ -89,15 +83,12 @@ pub fn rule13<'a>(
     if !is_heading(role) {
         return 0;
     }
-    let a = ranges.common001;
-    let b = ranges.common;
-    let c = ranges.table;
     let n = used(track);
     let k = repeated_at(
         role == DATA_HEADING,
-        part(before, a),
-        part(before, b),
-        part(before, c),
+        part(before, ranges.common001),
+        part(before, ranges.common),
+        part(before, ranges.table),
         rec,
         fs,
         n,

@@ -46,46 +46,40 @@ pub fn start_track() -> Track
     }
 }
 
-pub fn with_accession(mut track: Track, accession: [u8; 5]) -> Track
+pub fn with_accession(track: Track, accession: [u8; 5]) -> Track
     ensures { result ≡ with_accession track accession }
 {
-    track.accession = accession;
-    track
+    Track { accession, ..track }
 }
 
-pub fn with_totals(mut track: Track, totals: Totals) -> Track
+pub fn with_totals(track: Track, totals: Totals) -> Track
     ensures { result ≡ with_totals track totals }
 {
-    track.totals = totals;
-    track
+    Track { totals, ..track }
 }
 
-pub fn with_subentry(mut track: Track, subentry: Subentry) -> Track
+pub fn with_subentry(track: Track, subentry: Subentry) -> Track
     ensures { result ≡ with_subentry track subentry }
 {
-    track.subentry = subentry;
-    track
+    Track { subentry, ..track }
 }
 
-pub fn with_section(mut track: Track, section: u32) -> Track
+pub fn with_section(track: Track, section: u32) -> Track
     ensures { result ≡ with_section track section }
 {
-    track.section = section;
-    track
+    Track { section, ..track }
 }
 
-pub fn with_bib(mut track: Track, bib: Bib) -> Track
+pub fn with_bib(track: Track, bib: Bib) -> Track
     ensures { result ≡ with_bib track bib }
 {
-    track.bib = bib;
-    track
+    Track { bib, ..track }
 }
 
-pub fn with_table(mut track: Track, table: Table) -> Track
+pub fn with_table(track: Track, table: Table) -> Track
     ensures { result ≡ with_table track table }
 {
-    track.table = table;
-    track
+    Track { table, ..track }
 }
 
 // The record in hand is counted.
@@ -94,27 +88,14 @@ pub fn counted(track: Track) -> Track
     requires records_bound { track.records.0 < MOST-RECORDS }
     ensures { result ≡ counted track }
 {
-    let before = track.records;
-    let records = before.0 + 1;
-    let sub = track.subentry;
-    let behind = sub.records + 1;
-    let section = track.section + 1;
-    let subentry = Subentry {
-        number: sub.number,
-        records: behind,
-    };
-    let accession = track.accession;
-    let totals = track.totals;
-    let bib = track.bib;
-    let table = track.table;
     Track {
-        records: Index(records),
-        accession,
-        totals,
-        subentry,
-        section,
-        bib,
-        table,
+        records: Index(track.records.0 + 1),
+        subentry: Subentry {
+            records: track.subentry.records + 1,
+            ..track.subentry
+        },
+        section: track.section + 1,
+        ..track
     }
 }
 
@@ -123,17 +104,16 @@ pub fn used(track: Track) -> usize
     ensures value { result ≡ used track }
     ensures upper_bound { result ≤ 6 }
 {
-    let t = track.table;
-    if t.rest <= 6 {
-        return t.rest as usize;
+    if row_ends(track) {
+        track.table.rest as usize
+    } else {
+        6
     }
-    6
 }
 
 // Whether the record in hand is the last of its row.
 pub fn row_ends(track: Track) -> bool
     ensures { result ≡ row_ends track }
 {
-    let t = track.table;
-    t.rest <= 6
+    track.table.rest <= 6
 }

@@ -1,12 +1,11 @@
 // The rule for the fields of system records: refusal 7. It gives the leftmost column at fault, 0 where there is none.
 ghost use Rattle.std.specs.Prelude.{◌≡◌, ◌-◌};
-ghost use Rattle.paper_record.specs.Identifier.{NamesLent};
 ghost use Rattle.paper_rules.specs.Roles.{is_system};
 ghost use Rattle.paper_faults.specs.Fault.{leftmost, on};
 ghost use Rattle.paper_rules.specs.System.{form_n1, form_n2, in_form, rule7};
 
 use record::system::{count_of, is_count, is_date, is_entry_n1, is_subent_n1};
-use record_names::identifier::{ENTRY, Names, is_end};
+use record_names::identifier::{ENTRY, Names};
 use rules_roles::roles::{is_system, opens_section, opens_subentry};
 
 // The forms of N1 and N2.
@@ -21,7 +20,6 @@ const DATE: usize = 3;
 const COUNT: usize = 4;
 
 fn form_n1(names: &Names, role: usize) -> usize
-    requires { NamesLent names.now }
     ensures { result ≡ form_n1 role }
 {
     if role == ENTRY {
@@ -33,7 +31,7 @@ fn form_n1(names: &Names, role: usize) -> usize
     if opens_section(role) {
         return COUNT;
     }
-    if is_end(names, role) {
+    if names.is_end(role) {
         return COUNT;
     }
     FREE
@@ -73,7 +71,6 @@ fn in_form(form: usize, f: [u8; 11]) -> bool
 }
 
 pub fn rule7(names: &Names, role: usize, fs: [[u8; 11]; 6]) -> u8
-    requires { NamesLent names.now }
     ensures { result ≡ leftmost (on (is_system role) (rule7 role fs)) }
 {
     if !is_system(role) {

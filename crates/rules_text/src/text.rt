@@ -1,5 +1,5 @@
 // The rules for text records: refusal 10, and 11 as far as it is theirs. Each gives the leftmost column at fault, 0
-// where there is none.
+// where there is none: `leftmost` (paper_faults) gives that number.
 ghost use Rattle.std.specs.Prelude.{◌≡◌, ℕ, ◌+◌, ◌-◌, ◌*◌, ◌/◌, ◌≤◌, ◌<◌, eqb, length, get_or};
 ghost use Rattle.laws.specs.Members.{any_of};
 ghost use Rattle.paper_record.specs.Word.{equal_to};
@@ -22,15 +22,10 @@ use rules_roles::roles::TEXT;
 fn eight_in(part: &[u8], number: u64) -> bool
     ensures { result ≡ any_of (eqb number) (eights_of part.now) }
 {
-    let n = part.len() / 81;
-    let mut i = 0;
-    while i < n {
-        let at = i * 81 + 2;
-        let here = eight_columns(part, at);
-        if number == here {
+    for i in 0..part.len() / 81 {
+        if number == eight_columns(part, i * 81 + 2) {
             return true;
         }
-        i += 1;
     }
     false
 }
@@ -39,15 +34,10 @@ fn eight_in(part: &[u8], number: u64) -> bool
 fn keyword_among(part: &[u8], f: [u8; 11]) -> bool
     ensures { result ≡ any_of (equal_to 10 f) (places_of part.now) }
 {
-    let n = part.len() / 81;
-    let mut i = 0;
-    while i < n {
-        let at = i * 81;
-        let g = field(part, at);
-        if same_keyword(f, g) {
+    for i in 0..part.len() / 81 {
+        if same_keyword(f, field(part, i * 81)) {
             return true;
         }
-        i += 1;
     }
     false
 }
@@ -56,26 +46,17 @@ fn keyword_among(part: &[u8], f: [u8; 11]) -> bool
 fn keyword_in(part: &[u8], f: [u8; 11]) -> bool
     ensures { result ≡ any_of (equal_to 10 f) (places_of part.now) }
 {
-    let number = eight_columns(&f, 2);
-    if eight_in(part, number) {
-        return keyword_among(part, f);
-    }
-    false
+    eight_in(part, eight_columns(&f, 2)) && keyword_among(part, f)
 }
 
 // Whether one of the records of a part has the pointer.
 pub fn pointer_in(part: &[u8], pointer: u8) -> bool
     ensures { result ≡ any_of (eqb pointer) (pointers_of part.now) }
 {
-    let n = part.len() / 81;
-    let mut i = 0;
-    while i < n {
-        let at = i * 81 + 10;
-        let p = part[at];
-        if pointer == p {
+    for i in 0..part.len() / 81 {
+        if pointer == part[i * 81 + 10] {
             return true;
         }
-        i += 1;
     }
     false
 }
@@ -84,55 +65,41 @@ fn keyword_fault(track: Track, bib: &[u8], f: [u8; 11]) -> bool
     ensures { result ≡ keyword_fault bib.now track f }
 {
     if is_keyword_blank(f) {
-        return track.section == 0;
+        track.section == 0
+    } else {
+        !is_word(f) || keyword_in(bib, f)
     }
-    if !is_word(f) {
-        return true;
-    }
-    keyword_in(bib, f)
 }
 
 fn pointer_repeated(under: &[u8], f: [u8; 11]) -> bool
     ensures { result ≡ pointer_repeated under.now f }
 {
-    let p = f[10];
-    if p == b' ' {
-        return false;
-    }
-    if !is_keyword_blank(f) {
-        return false;
-    }
-    pointer_in(under, p)
+    f[10] != b' ' && is_keyword_blank(f) && pointer_in(under, f[10])
 }
 
+#[tactic(auto, unfolding(paper_rules::specs::Text::rule10))]
 pub fn rule10(track: Track, ranges: Ranges, before: &[u8], role: usize, fs: [[u8; 11]; 6]) -> u8
     requires { Stands track ranges before.now }
     ensures { result
         ≡ leftmost (on (eqb role TEXT) (rule10 (bytes_of before.now ranges.bib) track fs)) }
 {
-    if role != TEXT {
-        return 0;
+    if role == TEXT && keyword_fault(track, part(before, ranges.bib), fs[0]) {
+        1
+    } else {
+        0
     }
-    let bib = ranges.bib;
-    let f = fs[0];
-    if keyword_fault(track, part(before, bib), f) {
-        return 1;
-    }
-    0
 }
 
 // Rule 11 on a text record.
+#[tactic(auto, unfolding(paper_rules::specs::Text::rule11_text))]
 pub fn rule11_text(track: Track, ranges: Ranges, before: &[u8], fs: [[u8; 11]; 6]) -> u8
     requires { Stands track ranges before.now }
     ensures { result ≡ leftmost (rule11_text (bytes_of before.now ranges.under) fs) }
 {
     let f = fs[0];
-    if bad_pointer(f) {
-        return 11;
+    if bad_pointer(f) || pointer_repeated(part(before, ranges.under), f) {
+        11
+    } else {
+        0
     }
-    let under = ranges.under;
-    if pointer_repeated(part(before, under), f) {
-        return 11;
-    }
-    0
 }

@@ -43,8 +43,10 @@ fn read_at(entry: &[u8], place: Place) -> FieldRead
     let at = place.at;
     let k = place.field;
     if !has_record(entry, at) {
-        let reading = Reading::Blank;
-        return FieldRead { reading, digits: 0 };
+        return FieldRead {
+            reading: Reading::Blank,
+            digits: 0,
+        };
     }
     let before = at.0 as usize - 1;
     let first = before * 81;
@@ -60,16 +62,25 @@ pub fn one_on(entry: &[u8], walk: Walk) -> Step
     ensures given_value { given_said result.given ≡ given_said (step_of entry.now walk).given }
 {
     if !stands(walk) {
-        let given = Given::Done;
-        return Step { walk, given };
+        return Step { walk, given: None };
     }
-    let section = walk.section;
-    let columns = walk.columns;
-    let line = walk.line;
-    let column = walk.column;
+    let Walk {
+        section,
+        columns,
+        line,
+        column,
+        ..
+    } = walk;
     let place = place_of(section, columns, line, column);
-    let value = read_at(entry, place);
-    let given = Given::At(line, column, value);
+    let field = read_at(entry, place);
     let next = onward(walk);
-    Step { walk: next, given }
+    let given = Given {
+        line,
+        column,
+        field,
+    };
+    Step {
+        walk: next,
+        given: Some(given),
+    }
 }

@@ -20,10 +20,10 @@ use Rattle.inside.specs.Inside.{is_said}
 use Rattle.inside.proofs.Asked.{section-named, answered-said}
 use Rattle.inside.proofs.NotRefused.{asked_of}
 use Rattle.row_answers.proofs.ReadRecords.{in_entry_lem}
-use Rattle.paper_walk.specs.declared.types.Given.TheVariants.{At}
-use Rattle.paper_walk.specs.Walk.{walk_from}
+use Rattle.paper_walk.specs.Walk.{walk_from, at_place}
 use Rattle.paper_walk.specs.Claims.{value_there, Fits, WalkGives, WalkOnce}
 use Rattle.paper_walk.proofs.Order.{gives-each, gives-once}
+use Rattle.paper_walk.proofs.Steps.{same_place}
 use Rattle.paper_walk.proofs.Started.{few-columns, few-lines, number-said, made, value-said, walk-places}
 use Rattle.walk_laws.specs.Said.{WalkSaid}
 
@@ -55,7 +55,7 @@ walk-gives s n section e line column =
     rw (made s n section none)
     (λ p.
     gives-each s (own s n section) (shape s n section) (fits s n section none) line column p
-    ∙ ap (At line column) (sym (value-said s n section line column none p)))
+    ∙ ap (at_place line column) (sym (value-said s n section line column none p)))
 
 pub walk-once : WalkOnce
 walk-once s n section e =
@@ -66,8 +66,8 @@ pub walk-said : WalkSaid
 walk-said s n section e i line column field g =
     let (t, p) = walk-once s n section e i line column field g in
     let v = value_there s n section line column in
-    let h : At line column v ≡ At line column field =
+    let h : at_place line column v ≡ at_place line column field =
     sym (rw (← t) at (walk-gives s n section e line column p)) ∙ g in
-    let same : v ≡ field = cc in
+    let same : v ≡ field = (same_place line line column column v field h).1.1 in
     ap (λ (f : FieldRead). is_said f.reading) (sym same)
     ∙ answered-said s n section line column ((walk-places s n section e line column).1 p)

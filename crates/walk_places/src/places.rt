@@ -28,47 +28,28 @@ pub fn done_walk(answer: Answer) -> Walk
 pub fn walk_from(at: RecordNo, shape: Shape) -> Walk
     ensures { result ≡ walk_from at shape }
 {
-    let answer = answer_of(0);
-    let columns = shape.columns;
-    let lines = shape.lines;
     Walk {
-        answer,
+        answer: answer_of(0),
         section: at,
-        columns,
-        lines,
+        columns: shape.columns,
+        lines: shape.lines,
         line: LineNo(1),
         column: 1,
     }
 }
 
 // Whether a walk stands at a place of its table.
+#[tactic(auto, unfolding(paper_walk::specs::Walk::stands))]
 pub fn stands(walk: Walk) -> bool
     ensures { result ≡ stands walk }
 {
-    let section = walk.section;
-    let columns = walk.columns;
-    let lines = walk.lines;
-    let line = walk.line;
-    let column = walk.column;
-    if MOST_RECORDS < section.0 {
-        return false;
-    }
-    if MOST_COLUMNS < columns as u64 {
-        return false;
-    }
-    if MOST_LINES < lines as u64 {
-        return false;
-    }
-    if line.0 < 1 {
-        return false;
-    }
-    if lines < line.0 {
-        return false;
-    }
-    if column < 1 {
-        return false;
-    }
-    column <= columns
+    walk.section.0 <= MOST_RECORDS
+        && u64::from(walk.columns) <= MOST_COLUMNS
+        && u64::from(walk.lines) <= MOST_LINES
+        && 1 <= walk.line.0
+        && walk.line.0 <= walk.lines
+        && 1 <= walk.column
+        && walk.column <= walk.columns
 }
 
 // The walk at the next place; behind the last it stands in a line that the table has not.
@@ -76,29 +57,22 @@ pub fn onward(walk: Walk) -> Walk
     requires { stands walk ≡ true }
     ensures { result ≡ onward walk }
 {
-    let answer = walk.answer;
-    let section = walk.section;
-    let columns = walk.columns;
-    let lines = walk.lines;
-    let line = walk.line;
-    let column = walk.column;
+    let Walk {
+        columns,
+        line,
+        column,
+        ..
+    } = walk;
     if column < columns {
         return Walk {
-            answer,
-            section,
-            columns,
-            lines,
-            line,
             column: column + 1,
+            ..walk
         };
     }
     let below = line.0 + 1;
     Walk {
-        answer,
-        section,
-        columns,
-        lines,
         line: LineNo(below),
         column: 1,
+        ..walk
     }
 }

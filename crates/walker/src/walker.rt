@@ -4,7 +4,7 @@ ghost use Rattle.std.specs.Prelude.{◌≡◌};
 ghost use Rattle.paper_walk.specs.Walk.{start_of, given_said};
 ghost use Rattle.walker.specs.Walker.{moved_to, next_of};
 
-use paper_walk::types::{Given, Walk};
+use paper_walk::types::{Given, Step, Walk};
 use walk::walk::one_on;
 use walk_start::start::start;
 
@@ -24,15 +24,13 @@ impl<'a> Walker<'a> {
         Walker { entry, walk }
     }
 
-    // The next value with its line and column, or done.
-    pub fn next(&mut self) -> Given
+    // The next value with its line and column, nothing when the walk is done.
+    pub fn next(&mut self) -> Option<Given>
         ensures { (self.new ≡ moved_to self.old (next_of self.old).walk)
             × ((result ≡ (next_of self.old).given) × (given_said result ≡ given_said (next_of self.old).given)) }
     {
-        let walk = self.walk;
-        let on = one_on(self.entry, walk);
-        let moved = on.walk;
-        self.walk = moved;
-        on.given
+        let Step { walk, given } = one_on(self.entry, self.walk);
+        self.walk = walk;
+        given
     }
 }

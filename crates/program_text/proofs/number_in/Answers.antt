@@ -12,7 +12,7 @@ loop-i-preserved c =
     let inv = c.loop-i.invariant in (
       omega arith,
       omega arith,
-      c.with_digit-n.ensures.value ∙ one_more _ _ _ _ _ inv.0 inv.2 c.byte_at-b.ensures,
+      c.with_digit-n.ensures.value ∙ one_more _ _ _ _ _ inv.0 inv.2 c.byte_at.ensures,
       c.with_digit-n.ensures.upper_bound,
     )
 

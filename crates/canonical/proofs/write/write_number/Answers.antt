@@ -1,7 +1,7 @@
 use Rattle.paper_canonical.proofs.Numbers.{flat-power}
 use Rattle.canonical.proofs.Answers.{answer-number, in-eleven, not_eleven}
-use Rattle.paper_canonical.specs.declared.types.Written.TheVariants.{Refused}
-use Rattle.laws.proofs.Table.{at}
+use Rattle.paper_canonical.specs.declared.types.WriteError.TheVariants.{NotEleven}
+use Rattle.std.specs.Prelude.{Err}
 use Rattle.paper_number.specs.Value.{value_of}
 use Rattle.canonical.proofs.write.write_number.Goals as goal
 
@@ -15,7 +15,7 @@ returns-then-out-ne11 c =
       out_after = a.1;
       result_value = answer-number c.args.out.now
           (value_of c.args.negative c.args.coefficient
-          c.args.power) (Refused 40) a.0;
+          c.args.power) (Err NotEleven) a.0;
     }
 
 pub returns : goal.returns

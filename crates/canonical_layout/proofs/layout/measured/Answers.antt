@@ -1,21 +1,14 @@
 use Prim.Native.Nat.{ℕ}
 use Rattle.paper_number.proofs.Tens.{ten-more}
 use mathlib.Core.Path.{◌∙◌, ap}
-use Prim.Native.Nat.{◌-◌, ◌^◌}
+use Prim.Native.Nat.{◌^◌}
 use Rattle.paper_number.proofs.Tens.{ten-suc, ten-le}
 use Rattle.paper_canonical.proofs.Numbers.{suc-less}
 use Rattle.paper_number.proofs.Count.{count-is}
-use Rattle.laws.proofs.Table.{at}
 use mathlib.Core.Path.{◌≡◌, refl}
 use native.Mathlib.Numerals.{add-one}
 use native.Mathlib.Omega.{arith}
 use Rattle.canonical_layout.proofs.layout.measured.Goals as goal
-
-pub loop-i-init : goal.loop-i-init
-loop-i-init c = (omega arith, (refl, λ h. absurd (omega arith)))
-
-pub overflow_add-result : goal.overflow_add-result
-overflow_add-result c = omega arith
 
 pub returns-then-v-least : goal.returns-then-v-least
 returns-then-v-least c =
@@ -33,9 +26,6 @@ returns-then-v-least c =
 pub overflow_mul-least : goal.overflow_mul-least
 overflow_mul-least c =
     omega (arith, c.loop-i.invariant.1.0, ten-le {i = c.loop-i.i} {j = 18} (omega arith))
-
-pub loop-i-smaller : goal.loop-i-smaller
-loop-i-smaller c = omega arith
 
 pub loop-i-preserved : goal.loop-i-preserved
 loop-i-preserved c =

@@ -1,9 +1,6 @@
-use Prim.Native.Nat.{◌-◌, ◌<◌, ◌^◌, ◌≤◌}
+use Prim.Native.Nat.{◌<◌, ◌^◌, ◌≤◌}
 use mathlib.Core.Path.{◌≡◌}
 use Rattle.canonical_layout.proofs.layout.measured.Given as goal
 
 abbrev pub invariant-loop-i : goal.invariant-loop-i
 invariant-loop-i l = (l.i ≤ 19) × ((l.least ≡ 10 ^ l.i) × (0 < l.i → 10 ^ l.i ≤ l.v))
-
-abbrev pub decreases-loop-i : goal.decreases-loop-i
-decreases-loop-i l = 19 - l.i

@@ -3,7 +3,6 @@ use Rattle.canonical_parts.proofs.Filled.{filled-body}
 use Rattle.canonical_parts.proofs.Once.{body-stored}
 use Rattle.paper_canonical.specs.Closed.{digits_n, shift}
 use Rattle.paper_canonical.specs.Storing.{put}
-use Rattle.laws.proofs.Table.{at}
 use Rattle.paper_number.specs.Grammar.{digits_text}
 use mathlib.Core.Path.{◌≡◌, ◌∙◌, ap}
 use Rattle.canonical_parts.proofs.parts.put_body.Goals as goal

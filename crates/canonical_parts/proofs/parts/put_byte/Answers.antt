@@ -1,5 +1,4 @@
 use Rattle.canonical_parts.proofs.Puts.{put_one}
-use Rattle.laws.proofs.Table.{at}
 use Rattle.canonical_parts.proofs.parts.put_byte.Goals as goal
 
 pub returns : goal.returns

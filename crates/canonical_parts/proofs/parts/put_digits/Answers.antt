@@ -1,6 +1,5 @@
 use Prim.Native.Nat.{◌%◌, ◌+◌, ◌-◌}
 use Rattle.canonical_parts.proofs.Puts.{digits-go, digits-out, put-digits, shift-go, shift-out}
-use Rattle.laws.proofs.Table.{at}
 use lib.ListN.{length-set}
 use mathlib.Core.Path.{◌∙◌, refl, sym}
 use native.Mathlib.Omega.{arith}
@@ -8,24 +7,6 @@ use Rattle.canonical_parts.proofs.parts.put_digits.Goals as goal
 
 pub loop-k-init : goal.loop-k-init
 loop-k-init c = (omega arith, (refl, (refl, refl)))
-
-pub overflow_sub-k : goal.overflow_sub-k
-overflow_sub-k c = omega arith
-
-pub overflow_cast-out : goal.overflow_cast-out
-overflow_cast-out c = omega arith
-
-pub overflow_add-out : goal.overflow_add-out
-overflow_add-out c = omega arith
-
-pub overflow_add-out-in-loop-k : goal.overflow_add-out-in-loop-k
-overflow_add-out-in-loop-k c = omega arith
-
-pub bounds-out-at : goal.bounds-out-at
-bounds-out-at c = omega arith
-
-pub loop-k-smaller : goal.loop-k-smaller
-loop-k-smaller c = omega arith
 
 pub loop-k-preserved : goal.loop-k-preserved
 loop-k-preserved c = (

@@ -1,5 +1,4 @@
 use Rattle.canonical_parts.proofs.Puts.{put-nothing}
-use Rattle.laws.proofs.Table.{at}
 use mathlib.Core.Path.{sym}
 use native.Mathlib.Omega.{arith}
 use Rattle.canonical_parts.proofs.parts.put_sign.Goals as goal

@@ -5,13 +5,12 @@ use Rattle.canonical_parts.proofs.Filled.{filled-field}
 use Rattle.canonical_parts.proofs.Filled.{column-parts}
 use Rattle.canonical_parts.proofs.Once.{field_stored}
 use Rattle.paper_canonical.specs.Storing.{layout_columns, one_if}
-use Rattle.laws.proofs.Table.{at}
 use native.Mathlib.Omega.{arith}
 use Rattle.canonical_store.proofs.store.put_field.Goals as goal
 
 pub layout_columns-requires : goal.layout_columns-requires
 layout_columns-requires c =
-    (c.requires.sound.whole, (c.requires.sound.part, c.requires.sound.long))
+    (c.requires.sound.whole, (c.requires.sound.part, c.requires.sound.exponent))
 
 pub overflow_sub-lead : goal.overflow_sub-lead
 overflow_sub-lead c = omega (arith, c.layout_columns.ensures, c.requires.fits)

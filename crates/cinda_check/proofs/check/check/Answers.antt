@@ -20,28 +20,24 @@ loop-i-init c =
     let g = whole-lines _ e in
     (refl, g.whole, g.most, check-start _ e)
 
-pub line_fault-fault-requires : goal.line_fault-fault-requires
-line_fault-fault-requires c =
-    record {
-      classes_lent = record { same = c.classes-classes.ensures };
-      tables = record { kinds_right = c.kinds-kinds.ensures; nexts_right = c.nexts-nexts.ensures };
-      whole_line = record { long = simp (length-take, length-drop) (omega arith) };
-    }
+pub line_fault-found-requires : goal.line_fault-found-requires
+line_fault-found-requires c =
+    record { long = simp (length-take, length-drop) (omega arith) }
 
 pub loop-i-preserved : goal.loop-i-preserved
 unfolding line_turn
 loop-i-preserved c =
     let v = c.loop-i.invariant in
-    let h = rw add-sub_cancel_left at c.line_fault-fault.ensures in
-    (v.0, v.1, v.2, run-next v.3 (omega arith) (rw (← h, c.in-Fine.is)))
+    let h = rw add-sub_cancel_left at c.line_fault-found.ensures in
+    (v.0, v.1, v.2, run-next v.3 (omega arith) (rw (← h, c.in-Ok.is)))
 
-pub returns-in-At : goal.returns-in-At
+pub returns-in-Err : goal.returns-in-Err
 unfolding line_turn
-returns-in-At c =
+returns-in-Err c =
     let v = c.loop-i.invariant in
-    let h = rw add-sub_cancel_left at c.line_fault-fault.ensures in
-    c.said_at-in-At.ensures
-    ∙ run_out v.3 c.loop-i-test.true (rw (← h, c.in-At.is) refl)
+    let h = rw add-sub_cancel_left at c.line_fault-found.ensures in
+    c.said_at-in-Err.ensures
+    ∙ run_out v.3 (omega arith) (rw (← h, c.in-Err.is) refl)
 
 pub returns : goal.returns
 returns c = c.said_at-2.ensures ∙ run-done c.loop-i.invariant.3 (omega arith)

@@ -5,23 +5,18 @@ use mathlib.Core.Path.{◌≡◌, ◌∙◌, refl}
 use native.Mathlib.Omega.{arith}
 use Rattle.cinda_columns.proofs.date.is_date.Goals as goal
 
-pub returns-then-not-digits_in : goal.returns-then-not-digits_in
+pub returns-then-digits_in : goal.returns-then-digits_in
 unfolding good_date
-returns-then-not-digits_in c =
+returns-then-digits_in c =
     let l = c.args.line.now in
     let d : c.digits_in.result ≡ digits_in l 79 6 = c.digits_in.ensures
     ∙ rw c.field-f.ensures (digits-in-part 79 11 l 0 6 (omega arith)) in
-    rw (← d, c.if-not-digits_in.true) refl
+    rw (← d, c.if-digits_in.true, ← c.month_of.ensures) c.is_within.ensures
 
-pub returns : goal.returns
+pub returns-else-digits_in : goal.returns-else-digits_in
 unfolding good_date
-returns c =
+returns-else-digits_in c =
     let l = c.args.line.now in
     let d : c.digits_in.result ≡ digits_in l 79 6 = c.digits_in.ensures
     ∙ rw c.field-f.ensures (digits-in-part 79 11 l 0 6 (omega arith)) in
-    rw (
-      ← d,
-      c.if-not-digits_in.false,
-      ← c.month_of-month.ensures,
-    )
-    c.is_within.ensures
+    rw (← d, c.if-digits_in.false) refl

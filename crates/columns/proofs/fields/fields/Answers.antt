@@ -6,11 +6,11 @@ pub returns : goal.returns
 unfolding fields_of
 returns c =
     rw (
-      c.field-a.ensures,
-      c.field-b.ensures,
-      c.field-c.ensures,
-      c.field-d.ensures,
-      c.field-e.ensures,
-      c.field-f.ensures,
+      c.field.ensures,
+      c.field-2.ensures,
+      c.field-3.ensures,
+      c.field-4.ensures,
+      c.field-5.ensures,
+      c.field-6.ensures,
     )
     refl

@@ -1,38 +1,24 @@
-use Prim.Native.Nat.{◌-◌}
-use lib.ListN.{drop, length-drop, length-set}
-use lib.Seq.{get_or-drop, paste-suc, paste-zero}
-use mathlib.Core.Path.{◌≡◌, refl}
-use native.Mathlib.Numerals.{add-one}
+use Prim.Native.Nat.{ℕ, ◌+◌, ◌-◌}
+use lib.ListN.{take, drop, length, length-drop}
+use lib.Seq.{paste, length-take-le, take-take}
+use mathlib.Core.List.{List, ◌++◌}
+use mathlib.Core.Path.{◌≡◌, ◌∙◌, ap, sym}
 use native.Mathlib.Omega.{arith}
-use borrow.Author.Rules.{rules}
+use Rattle.std.proofs.lemmas.Slice.{put_mid-paste}
 use Rattle.copy_records.proofs.records.copy_columns.Goals as goal
 
-pub loop-i-init : goal.loop-i-init
-loop-i-init c =
-    let a = c.args in
-    (search rules, c.requires.1, paste-zero a.out.now a.at (drop a.from a.rec.now), refl)
-
-pub bounds-rec-column : goal.bounds-rec-column
-bounds-rec-column c = let l = c.loop-i.invariant.1 in search rules
-
-pub bounds-out-to : goal.bounds-out-to
-bounds-out-to c =
-    let c3 = c in
-    let l = c.loop-i.invariant.3 in let w = c3.requires.0 in omega arith
-
-pub loop-i-preserved : goal.loop-i-preserved
-loop-i-preserved c =
-    let c3 = c in
-    let a = c3.args in
-    let l = c.loop-i.invariant.1 in (
-      search rules,
-      c.loop-i.invariant.1,
-      rw (c.loop-i.invariant.2, add-one, ← get_or-drop a.from a.rec.now c.loop-i.i 0)
-          (paste-suc a.out.now a.at (drop a.from a.rec.now) c.loop-i.i 0 (omega arith)
-          (simp length-drop (omega arith))),
-      simp length-set c.loop-i.invariant.3,
-    )
+-- what is stored of a list are its first n elements
+same-front : (d x y : List ℕ) (at n : ℕ) → take n x ≡ take n y → paste d at x n ≡ paste d at y n
+same-front d x y at n e = ap (λ (z : List ℕ). take at d ++ z ++ drop (at + n) d) e
 
 pub returns : goal.returns
 returns c =
-    let e : ◌≡◌ c.loop-i.i c.args.n = omega arith in rw e at c.loop-i.invariant.2
+    let a = c.args in
+    let inside = c.requires.1 in
+    let behind = drop a.from a.rec.now in
+    let n : a.at + a.n - a.at ≡ a.n = omega arith in
+    let m : a.from + a.n - a.from ≡ a.n = omega arith in
+    let copied = rw m at c.copy_from_slice.ensures.after in
+    let long : length (take a.n behind) ≡ a.n = length-take-le a.n behind (simp length-drop (omega arith)) in
+    put_mid-paste a.at (a.at + a.n - a.at) a.out.now _ (take a.n behind) a.n copied (sym n) (sym long)
+    ∙ same-front a.out.now (take a.n behind) behind a.at a.n (take-take a.n a.n behind (omega arith))

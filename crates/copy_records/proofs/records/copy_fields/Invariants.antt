@@ -1,4 +1,4 @@
-use Prim.Native.Nat.{◌*◌, ◌-◌, ◌≤◌}
+use Prim.Native.Nat.{◌*◌, ◌≤◌}
 use Rattle.paper_copy.specs.CopyField.{copy_field, number_in}
 use Rattle.paper_copy.specs.Replaced.{mask, replaced}
 use Rattle.rules_flags.specs.Lent.{WholeRecords}
@@ -11,6 +11,3 @@ abbrev pub invariant-loop-k : goal.invariant-loop-k
 invariant-loop-k l =
     WholeRecords l.table × (l.k ≤ 6) × (length l.rec ≡ 81) × (length l.out ≡ length l.initial.out)
     × (l.out ≡ paste l.initial.out l.at (replaced copy_field (mask (number_in l.table l.t l.role) 0 6) l.rec) (l.k * 11))
-
-abbrev pub decreases-loop-k : goal.decreases-loop-k
-decreases-loop-k l = 6 - l.k

@@ -29,8 +29,6 @@ pass-passed-requires c =
     let t = c.loop-i-test in
     let at = c in
     record {
-      names_lent = record { same = at.names-names.ensures };
-      tables = record { kinds_right = at.kinds-kinds.ensures; nexts_right = at.nexts-nexts.ensures };
       walking = loop.invariant.walking;
       i_in_bounds = copied-there loop.invariant (omega arith);
     }

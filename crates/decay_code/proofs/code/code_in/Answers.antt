@@ -1,16 +1,6 @@
 use Rattle.decay_code.proofs.Stored.{asked-for, refused, short, stored}
-use borrow.Author.Rules.{rules}
 use Rattle.decay_code.proofs.code.code_in.Goals as goal
 
--- src/code.rt:42:9
-pub opening-first-requires : goal.opening-first-requires
-opening-first-requires c = search rules
-
--- src/code.rt:43:9
-pub coded_from-coded-requires : goal.coded_from-coded-requires
-coded_from-coded-requires c = search rules
-
--- src/code.rt:48:9
 pub returns-then-number-ne0 : goal.returns-then-number-ne0
 returns-then-number-ne0 c =
     let d = c in
@@ -18,19 +8,6 @@ returns-then-number-ne0 c =
     let both = refused a.passage.now a.j _ _ d.opening-first.ensures d.coded_from-coded.ensures a.out.now c.if-number-ne0.true in
     record { value = both.0; out_after = both.1 }
 
--- src/code.rt:56:28
-pub slice_bounds-put_records-count : goal.slice_bounds-put_records-count
-slice_bounds-put_records-count c = search rules
-
--- src/code.rt:56:28
-pub slice_bounds-put_records-start : goal.slice_bounds-put_records-start
-slice_bounds-put_records-start c = search rules
-
--- src/code.rt:56:28
-pub slice_bounds-put_records-end : goal.slice_bounds-put_records-end
-slice_bounds-put_records-end c = search rules
-
--- src/code.rt:56:9
 pub put_records-long-requires : goal.put_records-long-requires
 put_records-long-requires c =
     let d = c in
@@ -41,7 +18,6 @@ put_records-long-requires c =
       le_column = (x.column_from, x.column_to);
     }
 
--- src/code.rt:58:9
 pub returns-then-out-long : goal.returns-then-out-long
 returns-then-out-long c =
     let put = c in
@@ -52,7 +28,6 @@ returns-then-out-long c =
     put.put_records-long.ensures.value c.if-out-long.true in
     record { value = both.0; out_after = both.1 }
 
--- src/code.rt:65:9
 pub put_records-length-requires : goal.put_records-length-requires
 put_records-length-requires c =
     let d = c in
@@ -64,7 +39,6 @@ put_records-length-requires c =
       le_column = (x.column_from, x.column_to);
     }
 
--- src/code.rt:37:1
 pub returns : goal.returns
 returns c =
     let again = c.put_records-length in

@@ -1,4 +1,3 @@
-use Prim.Native.Nat.{◌-◌}
 use mathlib.Core.Path.{◌≡◌}
 use Rattle.paper_codes.specs.Opening.{records_of, opening_of}
 use Rattle.decay_code.proofs.Left.{Left}
@@ -6,6 +5,3 @@ use Rattle.decay_code.proofs.opening.opening.Given as goal
 
 abbrev pub invariant-loop-i : goal.invariant-loop-i
 invariant-loop-i l = (l.n ≡ records_of l.passage) × Left l.passage (opening_of l.passage l.j) l.left l.i l.n
-
-abbrev pub decreases-loop-i : goal.decreases-loop-i
-decreases-loop-i l = l.n - l.i

@@ -1,23 +1,12 @@
 use borrow.Author.Tests.{eq-eqb, ne_eqb}
 use mathlib.Core.Path.{refl}
 use Rattle.paper_decay.specs.Scan.{before_nuclide}
-use borrow.Author.Rules.{rules}
 use Rattle.decay_nuclide.proofs.nuclide.before_nuclide.Goals as goal
 
--- src/nuclide.rt:169:9
-pub head-requires : goal.head-requires
-head-requires c = search rules
-
--- src/nuclide.rt:169:9
 pub returns-then-b-eq32 : goal.returns-then-b-eq32
 unfolding before_nuclide
 returns-then-b-eq32 c = rw (c.head.ensures, eq-eqb _ _ c.if-b-eq32.true) refl
 
--- src/nuclide.rt:171:5
-pub first_digit-requires : goal.first_digit-requires
-first_digit-requires c = search rules
-
--- src/nuclide.rt:165:1
 pub returns : goal.returns
 unfolding before_nuclide
 returns c = rw (c.first_digit.ensures, ne_eqb _ _ c.if-b-eq32.false) refl

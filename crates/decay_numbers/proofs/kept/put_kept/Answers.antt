@@ -1,4 +1,4 @@
-use Prim.Native.Nat.{ℕ, ◌+◌, ◌-◌, ◌<◌}
+use Prim.Native.Nat.{ℕ, ◌+◌, ◌<◌}
 use mathlib.Core.Path.{◌≡◌, refl, sym, ap, ◌∙◌}
 use mathlib.Core.List.{List, [], ◌∷◌, ◌++◌}
 use native.Mathlib.Numerals.{add-one}
@@ -7,7 +7,6 @@ use lib.ListN.{length, get_or, set, take, length-set}
 use lib.Seq.{take-suc, take-length, set_out, length-take-le}
 use Rattle.paper_decay_run.specs.Overlay.{overlay}
 use Rattle.paper_decay_run.proofs.Overlay.{overlay-none, overlay-byte}
-use borrow.Author.Rules.{rules}
 use Rattle.decay_numbers.proofs.kept.put_kept.Goals as goal
 use Rattle.decay_numbers.proofs.kept.put_kept.Goals.{then-to-room, else-to-room}
 
@@ -21,33 +20,11 @@ byte_more x y z l at i h e f =
     ∙ sym (overlay-byte x at (take i l) (get_or l i 0))
     ∙ ap (overlay x at) g
 
--- src/kept.rt:16:5
 pub loop-i-init : goal.loop-i-init
 loop-i-init c =
     let a = c.args in
-    (search rules, refl, refl, sym (overlay-none a.out.now a.at), refl)
+    (omega arith, refl, sym (overlay-none a.out.now a.at), refl)
 
--- src/kept.rt:17:18
-pub overflow_add-to : goal.overflow_add-to
-overflow_add-to c = search rules
-
--- src/kept.rt:19:23
-pub bounds-text-i : goal.bounds-text-i
-bounds-text-i c = search rules
-
--- src/kept.rt:19:13
-pub bounds-out-to : goal.bounds-out-to
-bounds-out-to c = search rules
-
--- src/kept.rt:21:9
-pub overflow_add-i : goal.overflow_add-i
-overflow_add-i c = search rules
-
--- src/kept.rt:16:5
-pub loop-i-smaller : goal.loop-i-smaller
-loop-i-smaller c = search rules
-
--- src/kept.rt:16:5
 pub loop-i-preserved : goal.loop-i-preserved
 loop-i-preserved c =
     let v = c.loop-i in
@@ -59,19 +36,14 @@ loop-i-preserved c =
       | else-to-room w ↦
           w.out-is ∙ sym (set_out v.out (a.at + v.i) (get_or a.text.now v.i 0) (omega (arith, w.if-to-room.false)))
     ] in
-    (omega arith, inv.1, inv.2, byte_more a.out.now v.out c.if-to-room.out a.text.now a.at v.i (omega arith) inv.3 stored, ap length stored ∙ length-set v.out _ _ ∙ inv.4)
+    (omega arith, inv.1, byte_more a.out.now v.out c.if-to-room.out a.text.now a.at v.i (omega arith) inv.2 stored, ap length stored ∙ length-set v.out _ _ ∙ inv.3)
 
--- src/kept.rt:23:5
-pub overflow_add-result : goal.overflow_add-result
-overflow_add-result c = search rules
-
--- src/kept.rt:8:1
 pub returns : goal.returns
 returns c =
     let v = c.loop-i in
     let a = c.args in
     let e : v.i ≡ length a.text.now = omega arith in
     record {
-      out_after = rw (e, take-length) at v.invariant.3;
-      value = rw v.invariant.1 refl;
+      out_after = rw (e, take-length) at v.invariant.2;
+      value = refl;
     }

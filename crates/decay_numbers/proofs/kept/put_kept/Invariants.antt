@@ -1,4 +1,4 @@
-use Prim.Native.Nat.{◌-◌, ◌≤◌}
+use Prim.Native.Nat.{◌≤◌}
 use mathlib.Core.Path.{◌≡◌}
 use lib.ListN.{length, take}
 use Rattle.paper_decay_run.specs.Overlay.{overlay}
@@ -6,7 +6,4 @@ use Rattle.decay_numbers.proofs.kept.put_kept.Given as goal
 
 abbrev pub invariant-loop-i : goal.invariant-loop-i
 invariant-loop-i l =
-    (l.i ≤ l.n) × (l.n ≡ length l.text) × (l.room ≡ length l.initial.out) × (l.out ≡ overlay l.initial.out l.at (take l.i l.text)) × (length l.out ≡ length l.initial.out)
-
-abbrev pub decreases-loop-i : goal.decreases-loop-i
-decreases-loop-i l = l.n - l.i
+    (l.i ≤ length l.text) × (l.room ≡ length l.initial.out) × (l.out ≡ overlay l.initial.out l.at (take l.i l.text)) × (length l.out ≡ length l.initial.out)

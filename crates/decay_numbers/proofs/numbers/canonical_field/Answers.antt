@@ -5,15 +5,6 @@ use Rattle.decay_numbers.proofs.Canonical.{stored-eleven}
 use borrow.Author.Rules.{rules}
 use Rattle.decay_numbers.proofs.numbers.canonical_field.Goals as goal
 
--- src/numbers.rt:27:55
-pub slice_bounds-write_columns-end : goal.slice_bounds-write_columns-end
-slice_bounds-write_columns-end c = search rules
-
--- src/numbers.rt:27:5
-pub write_columns-requires : goal.write_columns-requires
-write_columns-requires c = search rules
-
--- src/numbers.rt:22:1
 pub returns : goal.returns
 returns c =
     let v = c.args.v in

@@ -1,4 +1,4 @@
-use Prim.Native.Nat.{◌+◌, ◌-◌, ◌<◌}
+use Prim.Native.Nat.{◌+◌, ◌<◌}
 use mathlib.Core.Path.{refl}
 use mathlib.Core.List.{◌++◌}
 use native.Mathlib.Omega.{arith}
@@ -7,24 +7,13 @@ use Rattle.paper_decay_run.specs.Run.{run_number}
 use Rattle.paper_decay_run.proofs.Shorter.{number-shorter}
 use Rattle.decay_numbers.proofs.Storing.{storing-begun, storing-more, storing-done}
 use Rattle.decay_numbers.proofs.Words.{between, between-long, run_numbers, numbers-last, numbers-next}
-use borrow.Author.Rules.{rules}
 use Rattle.decay_numbers.proofs.numbers.put_energies.Goals as goal
 
--- src/numbers.rt:63:5
 pub loop-at-init : goal.loop-at-init
 loop-at-init c =
     let a = c.args in
     (refl, omega arith, omega arith, storing-begun a.out.now a.at (run_numbers a.text.now))
 
--- src/numbers.rt:64:13
-pub find_byte-past-requires : goal.find_byte-past-requires
-find_byte-past-requires c = search rules
-
--- src/numbers.rt:65:34
-pub slice_bounds-put_number-count : goal.slice_bounds-put_number-count
-slice_bounds-put_number-count c = search rules
-
--- src/numbers.rt:65:9
 pub put_number-to-requires : goal.put_number-to-requires
 put_number-to-requires c =
     let v = c.loop-at in
@@ -32,7 +21,6 @@ put_number-to-requires c =
     let long = between-long c.args.text.now v.i found.result found.ensures.lower_bound.0 found.ensures.lower_bound.1 in
     omega arith
 
--- src/numbers.rt:67:13
 pub returns-then-past-n : goal.returns-then-past-n
 returns-then-past-n c =
     let v = c.loop-at in
@@ -43,15 +31,6 @@ returns-then-past-n c =
     let both = storing-done v.invariant.3 _ _ _ e put.ensures.out_after put.ensures.value in
     record { out_after = both.0; value = both.1 }
 
--- src/numbers.rt:69:20
-pub overflow_add-next : goal.overflow_add-next
-overflow_add-next c = search rules
-
--- src/numbers.rt:70:32
-pub slice_bounds-put_kept-count : goal.slice_bounds-put_kept-count
-slice_bounds-put_kept-count c = search rules
-
--- src/numbers.rt:70:9
 pub put_kept-to-requires : goal.put_kept-to-requires
 put_kept-to-requires c =
     let v = c.loop-at in
@@ -64,11 +43,9 @@ put_kept-to-requires c =
     let short = number-shorter (between l v.i past) in
     omega arith
 
--- src/numbers.rt:63:5
 pub loop-at-smaller : goal.loop-at-smaller
 loop-at-smaller c = omega (arith, c.if-past-n.false)
 
--- src/numbers.rt:63:5
 pub loop-at-preserved : goal.loop-at-preserved
 loop-at-preserved c =
     let v = c.loop-at in

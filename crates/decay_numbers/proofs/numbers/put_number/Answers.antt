@@ -2,14 +2,8 @@ use mathlib.Core.Path.{◌∙◌, sym}
 use native.Mathlib.Omega.{arith}
 use Rattle.paper_canonical.proofs.Laws.{number_fits}
 use Rattle.decay_numbers.proofs.Canonical.{run_long, run-read, value_read}
-use borrow.Author.Rules.{rules}
 use Rattle.decay_numbers.proofs.numbers.put_number.Goals as goal
 
--- src/numbers.rt:43:9
-pub put_kept-requires : goal.put_kept-requires
-put_kept-requires c = search rules
-
--- src/numbers.rt:43:9
 pub returns-then-text-gt11 : goal.returns-then-text-gt11
 returns-then-text-gt11 c =
     record {
@@ -17,15 +11,6 @@ returns-then-text-gt11 c =
       value = rw (← run_long _ c.if-text-gt11.true) c.put_kept.ensures.value;
     }
 
--- src/numbers.rt:45:9
-pub read_narrow-r-requires : goal.read_narrow-r-requires
-read_narrow-r-requires c = search rules
-
--- src/numbers.rt:47:27
-pub put_kept-requires-in-Blank : goal.put_kept-requires-in-Blank
-put_kept-requires-in-Blank c = search rules
-
--- src/numbers.rt:48:31
 pub put_value-requires : goal.put_value-requires
 put_value-requires c =
     let says = sym c.read_narrow-r.ensures ∙ c.in-Number.is in
@@ -35,11 +20,6 @@ put_value-requires c =
       power_bound = rw (value_read _ _ says) (omega arith);
     }
 
--- src/numbers.rt:49:32
-pub put_kept-requires-in-Refused : goal.put_kept-requires-in-Refused
-put_kept-requires-in-Refused c = search rules
-
--- src/numbers.rt:36:1
 pub returns-in-Blank : goal.returns-in-Blank
 returns-in-Blank c =
     let says = sym c.read_narrow-r.ensures ∙ c.in-Blank.is in
@@ -48,7 +28,6 @@ returns-in-Blank c =
       value = rw (← run-read _ _ (omega arith) says) c.put_kept-in-Blank.ensures.value;
     }
 
--- src/numbers.rt:36:1
 pub returns-in-Number : goal.returns-in-Number
 returns-in-Number c =
     let says = sym c.read_narrow-r.ensures ∙ c.in-Number.is in
@@ -57,7 +36,6 @@ returns-in-Number c =
       value = rw (← run-read _ _ (omega arith) says, ← value_read _ _ says) c.put_value.ensures.value;
     }
 
--- src/numbers.rt:36:1
 pub returns-in-Refused : goal.returns-in-Refused
 returns-in-Refused c =
     let says = sym c.read_narrow-r.ensures ∙ c.in-Refused.is in

@@ -1,32 +1,16 @@
 use borrow.Author.Tests.{eq-eqb, ne_eqb}
 use mathlib.Core.Path.{refl}
 use Rattle.paper_decay.specs.Scan.{half_step}
-use borrow.Author.Rules.{rules}
 use Rattle.decay_places.proofs.places.in_half.Goals as goal
 
--- src/places.rt:360:9
-pub in_unit-requires : goal.in_unit-requires
-in_unit-requires c = search rules
-
--- src/places.rt:360:9
 pub returns-then-inner-eq12 : goal.returns-then-inner-eq12
 unfolding half_step
 returns-then-inner-eq12 c = rw (c.in_unit.ensures, eq-eqb _ _ c.if-inner-eq12.true) refl
 
--- src/places.rt:363:9
-pub in_mark-requires : goal.in_mark-requires
-in_mark-requires c = search rules
-
--- src/places.rt:363:9
 pub returns-then-inner-eq11 : goal.returns-then-inner-eq11
 unfolding half_step
 returns-then-inner-eq11 c = rw (c.in_mark.ensures, ne_eqb _ _ c.if-inner-eq12.false, eq-eqb _ _ c.if-inner-eq11.true) refl
 
--- src/places.rt:365:5
-pub in_half_number-requires : goal.in_half_number-requires
-in_half_number-requires c = search rules
-
--- src/places.rt:355:1
 pub returns : goal.returns
 unfolding half_step
 returns c = rw (c.in_half_number.ensures, ne_eqb _ _ c.if-inner-eq12.false, ne_eqb _ _ c.if-inner-eq11.false) refl

@@ -1,33 +1,13 @@
-use Prim.Native.Nat.{◌-◌}
 use mathlib.Core.Path.{refl}
 use borrow.Author.Tests.{eq-eqb, ne_eqb}
 use native.Mathlib.Omega.{arith}
 use Rattle.laws.proofs.Search.{scan-all, scan-done, scan-found, scan-next}
 use Rattle.paper_decay.specs.Records.{filled_to}
-use borrow.Author.Rules.{rules}
 use Rattle.decay_records.proofs.records.filled_to.Goals as goal
 
--- src/records.rt:33:5
 pub loop-i-init : goal.loop-i-init
 loop-i-init c = (refl, scan-all _)
 
--- src/records.rt:34:18
-pub overflow_sub-at : goal.overflow_sub-at
-overflow_sub-at c = search rules
-
--- src/records.rt:34:18
-pub overflow_sub-at-in-loop-i : goal.overflow_sub-at-in-loop-i
-overflow_sub-at-in-loop-i c = search rules
-
--- src/records.rt:35:12
-pub bounds-text-at : goal.bounds-text-at
-bounds-text-at c = search rules
-
--- src/records.rt:36:20
-pub overflow_sub-result : goal.overflow_sub-result
-overflow_sub-result c = search rules
-
--- src/records.rt:36:13
 pub returns-then-text-at-ne32 : goal.returns-then-text-at-ne32
 unfolding filled_to
 returns-then-text-at-ne32 c =
@@ -40,21 +20,11 @@ returns-then-text-at-ne32 c =
       upper_bound = omega arith;
     }
 
--- src/records.rt:38:9
-pub overflow_add-i : goal.overflow_add-i
-overflow_add-i c = search rules
-
--- src/records.rt:33:5
-pub loop-i-smaller : goal.loop-i-smaller
-loop-i-smaller c = search rules
-
--- src/records.rt:33:5
 pub loop-i-preserved : goal.loop-i-preserved
 loop-i-preserved c =
     let inv = c.loop-i.invariant in
     (inv.0, scan-next inv.1 (omega arith) (rw (← inv.0, eq-eqb _ _ c.if-text-at-ne32.false) refl))
 
--- src/records.rt:27:1
 pub returns : goal.returns
 unfolding filled_to
 returns c =

@@ -5,26 +5,8 @@ use lib.ListN.{length}
 use Rattle.paper_decay_run.specs.Run.{run_said, run_field}
 use Rattle.decay_numbers.proofs.Words.{between-long}
 use Rattle.decay_run.proofs.Halves.{stored-both}
-use borrow.Author.Rules.{rules}
 use Rattle.decay_run.proofs.fields.put_field.Goals as goal
 
--- src/fields.rt:52:9
-pub lead_of-lead-requires : goal.lead_of-lead-requires
-lead_of-lead-requires c = search rules
-
--- src/fields.rt:53:32
-pub slice_bounds-put_kept-count : goal.slice_bounds-put_kept-count
-slice_bounds-put_kept-count c = search rules
-
--- src/fields.rt:53:9
-pub put_kept-to-requires : goal.put_kept-to-requires
-put_kept-to-requires c = search rules
-
--- src/fields.rt:54:23
-pub slice_bounds-put_said-count : goal.slice_bounds-put_said-count
-slice_bounds-put_said-count c = search rules
-
--- src/fields.rt:54:5
 pub put_said-requires : goal.put_said-requires
 put_said-requires c =
     let l = c.args.text.now in
@@ -34,7 +16,6 @@ put_said-requires c =
     let b = between-long l k (length l) lead.ensures.upper_bound (omega arith) in
     omega (arith, lead.ensures.upper_bound)
 
--- src/fields.rt:46:1
 pub returns : goal.returns
 unfolding run_field
 returns c =

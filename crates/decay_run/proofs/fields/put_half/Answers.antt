@@ -6,26 +6,8 @@ use Rattle.paper_decay_run.specs.Run.{run_number}
 use Rattle.paper_decay_run.proofs.Shorter.{number-shorter}
 use Rattle.decay_numbers.proofs.Words.{between, between-long}
 use Rattle.decay_run.proofs.Halves.{stored-both}
-use borrow.Author.Rules.{rules}
 use Rattle.decay_run.proofs.fields.put_half.Goals as goal
 
--- src/fields.rt:23:9
-pub front_of-front-requires : goal.front_of-front-requires
-front_of-front-requires c = search rules
-
--- src/fields.rt:24:34
-pub slice_bounds-put_number-count : goal.slice_bounds-put_number-count
-slice_bounds-put_number-count c = search rules
-
--- src/fields.rt:24:9
-pub put_number-to-requires : goal.put_number-to-requires
-put_number-to-requires c = search rules
-
--- src/fields.rt:25:23
-pub slice_bounds-put_kept-count : goal.slice_bounds-put_kept-count
-slice_bounds-put_kept-count c = search rules
-
--- src/fields.rt:25:5
 pub put_kept-requires : goal.put_kept-requires
 put_kept-requires c =
     let l = c.args.text.now in
@@ -36,7 +18,6 @@ put_kept-requires c =
     let short = number-shorter (between l 0 k) in
     omega (arith, front.ensures.upper_bound)
 
--- src/fields.rt:16:1
 pub returns : goal.returns
 returns c =
     let l = c.args.text.now in

@@ -7,10 +7,8 @@ use Rattle.paper_decay_run.specs.Run.{run_piece, run_records}
 use Rattle.decay_numbers.proofs.Storing.{storing-begun, storing-more, storing-done}
 use Rattle.decay_numbers.proofs.Words.{between-long}
 use Rattle.decay_run.proofs.Breaks.{text-whole, text-part, record-few, records-next, records-last}
-use borrow.Author.Rules.{rules}
 use Rattle.decay_run.proofs.records.put_records.Goals as goal
 
--- src/records.rt:36:5
 pub loop-i-init : goal.loop-i-init
 loop-i-init c =
     let a = c.args in (
@@ -20,23 +18,6 @@ loop-i-init c =
       omega arith,
     )
 
--- src/records.rt:37:20
-pub overflow_mul-from : goal.overflow_mul-from
-overflow_mul-from c = search rules
-
--- src/records.rt:37:20
-pub overflow_add-from : goal.overflow_add-from
-overflow_add-from c = search rules
-
--- src/records.rt:38:20
-pub overflow_add-past : goal.overflow_add-past
-overflow_add-past c = search rules
-
--- src/records.rt:39:39
-pub slice_bounds-put_filled-count : goal.slice_bounds-put_filled-count
-slice_bounds-put_filled-count c = search rules
-
--- src/records.rt:39:13
 pub put_filled-put-requires : goal.put_filled-put-requires
 put_filled-put-requires c =
     let v = c.loop-i in
@@ -44,15 +25,6 @@ put_filled-put-requires c =
     let long = between-long s (v.i * 81 + 11) (v.i * 81 + 11 + 55) (omega arith) (omega arith) in
     (omega arith, v.invariant.3)
 
--- src/records.rt:42:9
-pub overflow_add-i : goal.overflow_add-i
-overflow_add-i c = search rules
-
--- src/records.rt:36:5
-pub loop-i-smaller : goal.loop-i-smaller
-loop-i-smaller c = search rules
-
--- src/records.rt:36:5
 pub loop-i-preserved : goal.loop-i-preserved
 loop-i-preserved c =
     let v = c.loop-i in
@@ -67,27 +39,6 @@ loop-i-preserved c =
       put.place_value.1,
     )
 
--- src/records.rt:44:16
-pub overflow_mul-from-2 : goal.overflow_mul-from-2
-overflow_mul-from-2 c = search rules
-
--- src/records.rt:44:16
-pub overflow_add-from-2 : goal.overflow_add-from-2
-overflow_add-from-2 c = search rules
-
--- src/records.rt:45:16
-pub overflow_mul-past : goal.overflow_mul-past
-overflow_mul-past c = search rules
-
--- src/records.rt:45:16
-pub overflow_add-past-2 : goal.overflow_add-past-2
-overflow_add-past-2 c = search rules
-
--- src/records.rt:46:33
-pub slice_bounds-put_text-count : goal.slice_bounds-put_text-count
-slice_bounds-put_text-count c = search rules
-
--- src/records.rt:46:9
 pub put_text-put-requires : goal.put_text-put-requires
 put_text-put-requires c =
     let v = c.loop-i in
@@ -95,7 +46,6 @@ put_text-put-requires c =
     let long = between-long a.entry.now (a.last * 81 + 11) (a.last * 81 + a.column) (omega arith) (omega arith) in
     (omega arith, v.invariant.3)
 
--- src/records.rt:26:1
 pub returns : goal.returns
 returns c =
     let v = c.loop-i in

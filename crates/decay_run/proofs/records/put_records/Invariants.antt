@@ -7,6 +7,3 @@ abbrev pub invariant-loop-i : goal.invariant-loop-i
 invariant-loop-i l =
     Storing l.initial.out 0 (run_records 0 l.entry l.first (l.last - l.first) l.column) l.out l.to (run_records l.place l.entry l.i (l.last - l.i) l.column)
     × (l.i ≤ l.last) × (l.to ≤ l.i * 81) × (l.place ≤ 4)
-
-abbrev pub decreases-loop-i : goal.decreases-loop-i
-decreases-loop-i l = l.last - l.i

@@ -1,17 +1,10 @@
 use mathlib.Core.Path.{refl}
 use native.Mathlib.Omega.{arith}
 use borrow.Author.Tests.{eq-eqb, ne_eqb}
-use borrow.Author.Rules.{rules}
 use Rattle.decay_run.proofs.texts.next_field.Goals as goal
 
--- src/texts.rt:24:9
 pub returns-then-place-eq4 : goal.returns-then-place-eq4
 returns-then-place-eq4 c = (rw (eq-eqb _ _ c.if-place-eq4.true) refl, omega arith)
 
--- src/texts.rt:26:5
-pub overflow_add-result : goal.overflow_add-result
-overflow_add-result c = search rules
-
--- src/texts.rt:19:1
 pub returns : goal.returns
 returns c = (rw (ne_eqb _ _ c.if-place-eq4.false) refl, omega (arith, c.if-place-eq4.false))

@@ -1,4 +1,4 @@
-use Prim.Native.Nat.{◌+◌, ◌-◌, ◌<◌}
+use Prim.Native.Nat.{◌+◌, ◌<◌}
 use mathlib.Core.Path.{refl, sym, ◌∙◌}
 use mathlib.Core.List.{◌++◌}
 use native.Mathlib.Omega.{arith}
@@ -8,24 +8,13 @@ use Rattle.paper_decay_run.proofs.Shorter.{field-shorter}
 use Rattle.decay_numbers.proofs.Storing.{storing-begun, storing-more, storing-done}
 use Rattle.decay_numbers.proofs.Words.{between, between-long}
 use Rattle.decay_run.proofs.Commas.{run_between, fields-last, fields-next, place-last, place-next}
-use borrow.Author.Rules.{rules}
 use Rattle.decay_run.proofs.texts.put_fields.Goals as goal
 
--- src/texts.rt:41:5
 pub loop-at-init : goal.loop-at-init
 loop-at-init c =
     let a = c.args in
     (refl, omega arith, omega arith, c.requires.1, refl, storing-begun a.out.now a.at (run_between a.first a.text.now))
 
--- src/texts.rt:42:13
-pub find_byte-past-requires : goal.find_byte-past-requires
-find_byte-past-requires c = search rules
-
--- src/texts.rt:43:33
-pub slice_bounds-put_field-count : goal.slice_bounds-put_field-count
-slice_bounds-put_field-count c = search rules
-
--- src/texts.rt:43:9
 pub put_field-to-requires : goal.put_field-to-requires
 put_field-to-requires c =
     let v = c.loop-at in
@@ -33,11 +22,6 @@ put_field-to-requires c =
     let long = between-long c.args.text.now v.i found.result found.ensures.lower_bound.0 found.ensures.lower_bound.1 in
     omega arith
 
--- src/texts.rt:44:9
-pub next_field-place-requires : goal.next_field-place-requires
-next_field-place-requires c = search rules
-
--- src/texts.rt:46:13
 pub returns-then-past-n : goal.returns-then-past-n
 returns-then-past-n c =
     let v = c.loop-at in
@@ -54,15 +38,6 @@ returns-then-past-n c =
       place_value = (next.0 ∙ sym q ∙ v.invariant.4, next.1);
     }
 
--- src/texts.rt:48:20
-pub overflow_add-next : goal.overflow_add-next
-overflow_add-next c = search rules
-
--- src/texts.rt:49:32
-pub slice_bounds-put_kept-count : goal.slice_bounds-put_kept-count
-slice_bounds-put_kept-count c = search rules
-
--- src/texts.rt:49:9
 pub put_kept-to-requires : goal.put_kept-to-requires
 put_kept-to-requires c =
     let v = c.loop-at in
@@ -75,11 +50,9 @@ put_kept-to-requires c =
     let short = field-shorter v.place (between l v.i past) in
     omega arith
 
--- src/texts.rt:41:5
 pub loop-at-smaller : goal.loop-at-smaller
 loop-at-smaller c = omega (arith, c.if-past-n.false)
 
--- src/texts.rt:41:5
 pub loop-at-preserved : goal.loop-at-preserved
 loop-at-preserved c =
     let v = c.loop-at in

@@ -3,12 +3,10 @@ use mathlib.Core.Path.{refl}
 use Rattle.paper_decay.specs.Scan.{is_flag_point}
 use Rattle.decay_scan.proofs.step.is_flag_point.Goals as goal
 
--- src/step.rt:490:9
 pub returns-then-s-eq0 : goal.returns-then-s-eq0
 unfolding is_flag_point
 returns-then-s-eq0 c = rw (eq-eqb _ _ c.if-s-eq0.true) refl
 
--- src/step.rt:486:1
 pub returns : goal.returns
 unfolding is_flag_point
 returns c = rw (ne_eqb _ _ c.if-s-eq0.false) refl

@@ -1,8 +1,5 @@
-use mathlib.Core.Path.{◌≡◌, ◌∙◌}
-use Prim.Native.Nat.{◌-◌}
 use native.Mathlib.Omega.{arith}
 use borrow.Author.Tests.{eq-eqb, ne_eqb}
-use lib.ListN.{length}
 use Rattle.laws.proofs.Search.{scan-upto, scan-done, scan-found, scan-next}
 use Rattle.decay_words.proofs.words.find_byte.Goals as goal
 
@@ -24,11 +21,8 @@ loop-i-preserved c =
 
 pub returns : goal.returns
 returns c =
-    let i = c.loop-i.i in
     let inv = c.loop-i.invariant in
-    let low = inv.1.low in
-    let z : i ≡ length c.args.text.now = omega arith in
     record {
-      value = z ∙ scan-done inv.1 (omega arith);
-      lower_bound = (inv.0, omega arith);
+      value = scan-done inv.1 (omega arith);
+      lower_bound = (c.requires, omega arith);
     }

@@ -1,5 +1,5 @@
 use mathlib.Core.Path.{◌≡◌}
-use Prim.Native.Nat.{ℕ, suc, ◌+◌, ◌-◌}
+use Prim.Native.Nat.{ℕ, suc, ◌+◌}
 use native.Mathlib.Omega.{arith}
 use lib.ListN.{drop}
 use Rattle.paper_decay_run.specs.Run.{lead_of}
@@ -12,12 +12,12 @@ shift n i a b e f = omega arith
 pub loop-i-init : goal.loop-i-init
 loop-i-init c = (omega arith, omega arith)
 
-pub returns-then-text-i-ne32 : goal.returns-then-text-i-ne32
-returns-then-text-i-ne32 c =
+pub returns-then-b-ne32 : goal.returns-then-b-ne32
+returns-then-b-ne32 c =
     let text = c.args.text.now in
     let i = c.loop-i.i in
     let inv = c.loop-i.invariant in
-    let e = lead-stop text i (omega arith) c.if-text-i-ne32.true in
+    let e = lead-stop text i (omega arith) c.if-b-ne32.true in
     record {
       value = omega (arith, e, inv.1);
       upper_bound = omega arith;
@@ -28,7 +28,7 @@ loop-i-preserved c =
     let text = c.args.text.now in
     let i = c.loop-i.i in
     let inv = c.loop-i.invariant in
-    let e = lead-more text i (omega arith) c.if-text-i-ne32.false in
+    let e = lead-more text i (omega arith) c.if-b-ne32.false in
     let z : suc i ≡ i + 1 = omega arith in
     (omega arith, rw z at (shift (lead_of text) i (lead_of (drop i text)) (lead_of (drop (suc i) text)) inv.1 e))
 

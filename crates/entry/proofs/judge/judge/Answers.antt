@@ -38,58 +38,42 @@ loop-i-init c =
 pub record_of-at-requires : goal.record_of-at-requires
 record_of-at-requires c = let h = c.loop-i.invariant.4.bounded.records in search rules
 
-pub step-s-requires : goal.step-s-requires
-step-s-requires c =
+pub step-stepped-requires : goal.step-stepped-requires
+step-stepped-requires c =
     record {
-      classes_lent = record {
-        same =
-            c.classes-classes.ensures;
-      };
-      names_lent = record {
-        same =
-            c.names-names.ensures;
-      };
-      tables = record {
-        kinds_right =
-            c.kinds-kinds.ensures;
-        nexts_right =
-            c.nexts-nexts.ensures;
-      };
-      ready = record {
-        stands = c.loop-i.invariant.4;
-        few =
-            omega arith;
-        whole = record { long = simp (length-take, length-drop) (omega arith) };
-      };
+      stands = c.loop-i.invariant.4;
+      few =
+          omega arith;
+      whole = record { long = simp (length-take, length-drop) (omega arith) };
     }
 
-pub returns-in-At : goal.returns-in-At
-returns-in-At c =
-    let h = rw add-sub_cancel_left at c.step-s.ensures.same in
-    c.refused-in-At.ensures
+pub returns-in-Err : goal.returns-in-Err
+returns-in-Err c =
+    let h = rw add-sub_cancel_left at c.step-stepped.ensures.same in
+    c.refused-in-Err.ensures
     ∙ run_out
     c.loop-i.invariant.5
     c.loop-i-test.true (rw (
       ← h,
-      c.in-At.is,
+      c.in-Err.is,
       c.record_of-at.ensures,
     ) refl) ∙ ranges-judge _
 
 pub loop-i-preserved : goal.loop-i-preserved
 loop-i-preserved c =
-    let h = rw add-sub_cancel_left at c.step-s.ensures.same in
+    let h = rw add-sub_cancel_left at c.step-stepped.ensures.same in
     let w = rw (
       add-sub_cancel_left,
-      c.in-Fine.is,
+      c.in-Ok.is,
       ← next-bytes _ _,
-    ) at c.step-s.ensures.within in (
+    ) at c.step-stepped.ensures.within in (
       c.loop-i.invariant.0,
       c.loop-i.invariant.1,
       c.loop-i.invariant.2,
-      records-counted _ _ c.step-s.result.next (omega arith) w,
+      records-counted _ _ c.in-Ok.next (omega arith) w,
       w,
       run-next
-          c.loop-i.invariant.5 (omega arith) (rw (← h, c.in-Fine.is)),
+          c.loop-i.invariant.5 (omega arith) (rw (← h, c.in-Ok.is)),
     )
 
 pub finish-requires : goal.finish-requires

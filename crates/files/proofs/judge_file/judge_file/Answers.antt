@@ -16,35 +16,29 @@ loop-i-init c = let e = sym c.file_length_good.ensures ∙ c.if-not-file_length_
 
 pub onward-s-requires : goal.onward-s-requires
 onward-s-requires c =
-    record {
-      classes_lent = record { same = c.classes-classes.ensures };
-      names_lent = record { same = c.names-names.ensures };
-      tables = record { kinds_right = c.kinds-kinds.ensures; nexts_right = c.nexts-nexts.ensures };
-      ahead = along-ahead c.loop-i.invariant.1 (omega (arith, c.loop-i-test.true, c.loop-i.invariant.0));
-    }
+    along-ahead c.loop-i.invariant.1 (omega (arith, c.loop-i-test.true, c.loop-i.invariant.0))
 
 pub record_of-at-requires : goal.record_of-at-requires
-record_of-at-requires c = let g = rw c.in-At.is at c.onward-s.ensures in record { number = omega (arith, g.0.there, g.0.along.few, c.loop-i.invariant.1.stood.sane.records) }
+record_of-at-requires c = let g = rw c.in-Err.is at c.onward-s.ensures in record { number = omega (arith, g.0.there, g.0.along.few, c.loop-i.invariant.1.stood.sane.records) }
 
 pub overflow_mul-from : goal.overflow_mul-from
-overflow_mul-from c = let g = rw c.in-At.is at c.onward-s.ensures in omega (arith, g.0.there, g.0.along.few)
+overflow_mul-from c = let g = rw c.in-Err.is at c.onward-s.ensures in omega (arith, g.0.there, g.0.along.few)
 
 pub ordinal-ordinal-requires : goal.ordinal-ordinal-requires
-ordinal-ordinal-requires c = let g = rw c.in-At.is at c.onward-s.ensures in let ready = along-ready g.0.along g.0.there in
+ordinal-ordinal-requires c = let g = rw c.in-Err.is at c.onward-s.ensures in let ready = along-ready g.0.along g.0.there in
     record {
-      names_lent = record { same = c.names-names.ensures };
       whole = rw add-sub_cancel_left ready.whole;
       entries_bound = omega (arith, ready.few, ready.sane.entries);
     }
 
-pub returns-in-At : goal.returns-in-At
-returns-in-At c = let g = rw c.in-At.is at c.onward-s.ensures in let ordinal = rw add-sub_cancel_left at c.ordinal-ordinal.ensures in c.refused_within.ensures ∙ along-out g.0.along g.0.there g.1 ordinal c.record_of-at.ensures
+pub returns-in-Err : goal.returns-in-Err
+returns-in-Err c = let g = rw c.in-Err.is at c.onward-s.ensures in let ordinal = rw add-sub_cancel_left at c.ordinal-ordinal.ensures in c.refused_within.ensures ∙ along-out g.0.along g.0.there g.1 ordinal c.record_of-at.ensures
 
 pub loop-i-smaller : goal.loop-i-smaller
-loop-i-smaller c = let g = rw c.in-Fine.is at c.onward-s.ensures in omega (arith, g.1, c.loop-i.invariant.1.counted, c.loop-i-test.true)
+loop-i-smaller c = let g = rw c.in-Ok.is at c.onward-s.ensures in omega (arith, g.1, c.loop-i.invariant.1.counted, c.loop-i-test.true)
 
 pub loop-i-preserved : goal.loop-i-preserved
-loop-i-preserved c = let g = rw c.in-Fine.is at c.onward-s.ensures in (c.loop-i.invariant.0, g.0)
+loop-i-preserved c = let g = rw c.in-Ok.is at c.onward-s.ensures in (c.loop-i.invariant.0, g.0)
 
 pub finish-requires : goal.finish-requires
 finish-requires c = c.loop-i.invariant.1.stood.sane.records

@@ -7,14 +7,11 @@ use native.Mathlib.Omega.{arith}
 use Rattle.files_parts.proofs.parts.end_of.Goals as goal
 
 pub loop-i-init : goal.loop-i-init
-loop-i-init c = (c.requires.n_value, end-scan c.args.bytes.now c.args.n c.requires.n_value)
+loop-i-init c = (c.requires, end-scan c.args.bytes.now c.args.n c.requires)
 
 pub named_at-requires : goal.named_at-requires
 named_at-requires c =
-    record {
-      names_lent = c.requires.names_lent;
-      i_bound = (let n = c.loop-i.invariant.0 in omega arith);
-    }
+    (let n = c.loop-i.invariant.0 in omega arith)
 
 pub returns-then-named_at : goal.returns-then-named_at
 returns-then-named_at c =

@@ -16,10 +16,7 @@ returns-then-n-eq0 c =
 pub named_at-requires : goal.named_at-requires
 named_at-requires c =
     let n = c.few-n.ensures.value in
-    record {
-      names_lent = record { same = c.names-names.ensures };
-      i_bound = omega arith;
-    }
+    omega arith
 
 pub returns-then-not-named_at : goal.returns-then-not-named_at
 returns-then-not-named_at c =
@@ -33,10 +30,7 @@ returns-then-not-named_at c =
 pub end_of-last-requires : goal.end_of-last-requires
 end_of-last-requires c =
     let n = c.few-n.ensures.value in
-    record {
-      names_lent = record { same = c.names-names.ensures };
-      n_value = n;
-    }
+    n
 
 pub returns-then-last-n : goal.returns-then-last-n
 returns-then-last-n c =

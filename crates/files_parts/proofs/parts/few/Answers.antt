@@ -10,8 +10,8 @@ returns-then-n-le-MOST c =
       upper_bound = (omega arith, omega arith);
     }
 
-pub returns : goal.returns
-returns c =
+pub returns-else-n-le-MOST : goal.returns-else-n-le-MOST
+returns-else-n-le-MOST c =
     record {
       value = rw (lt-leb c.args.n MOST-RECORDS c.if-n-le-MOST.false);
       upper_bound = (omega arith, omega arith);

@@ -9,13 +9,13 @@ use Rattle.files_parts.proofs.parts.named_at.Goals as goal
 pub overflow_mul-i : goal.overflow_mul-i
 overflow_mul-i c =
     let u = (few-upto (length c.args.bytes.now / 81)).0 in
-    let l = c.requires.i_bound in
+    let l = c.requires in
     search rules
 
 pub field-f-requires : goal.field-f-requires
 field-f-requires c =
     let u = (few-upto (length c.args.bytes.now / 81)).0 in
-    let l = c.requires.i_bound in
+    let l = c.requires in
     record { room = omega arith }
 
 pub returns : goal.returns

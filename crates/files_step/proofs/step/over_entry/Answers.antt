@@ -23,29 +23,24 @@ overflow_add-past c = let w = c.loop-i.invariant.1.along.whole in search rules
 pub overflow_sub-first : goal.overflow_sub-first
 overflow_sub-first c = let own = own-few c.loop-i.invariant.1.along in omega (arith, c.offset_of.ensures)
 
-pub step-s-requires : goal.step-s-requires
-step-s-requires c =
-    record {
-      classes_lent = c.requires.classes_lent;
-      names_lent = c.requires.names_lent;
-      tables = c.requires.tables;
-      ready = rw (own-lent c.loop-i.invariant.1.along _ c.offset_of.ensures, add-sub_cancel_left) (over-ready c.loop-i.invariant.1 (omega arith) (omega arith));
-    }
+pub step-stepped-requires : goal.step-stepped-requires
+step-stepped-requires c =
+    rw (own-lent c.loop-i.invariant.1.along _ c.offset_of.ensures, add-sub_cancel_left) (over-ready c.loop-i.invariant.1 (omega arith) (omega arith))
 
 pub behind-ended-requires : goal.behind-ended-requires
-behind-ended-requires c = rw c.on-here-then-is_done.ensures (over-room c.loop-i.invariant.1 (omega (arith, c.loop-i-test.true, c.loop-i.invariant.0)) (omega (arith, c.if-own-ge-MOST_RECORDS.false)) c.step-s.result (rw (own-lent c.loop-i.invariant.1.along _ c.offset_of.ensures, add-sub_cancel_left) at c.step-s.ensures.same) c.in-Fine.is (rw (own-lent c.loop-i.invariant.1.along _ c.offset_of.ensures, add-sub_cancel_left, c.in-Fine.is) at c.step-s.ensures.within))
+behind-ended-requires c = rw c.on-here-then-is_done.ensures (over-room c.loop-i.invariant.1 (omega (arith, c.loop-i-test.true, c.loop-i.invariant.0)) (omega (arith, c.if-own-ge-MOST_RECORDS.false)) c.step-stepped.result (rw (own-lent c.loop-i.invariant.1.along _ c.offset_of.ensures, add-sub_cancel_left) at c.step-stepped.ensures.same) _ c.in-Ok.is (rw (own-lent c.loop-i.invariant.1.along _ c.offset_of.ensures, add-sub_cancel_left, c.in-Ok.is) at c.step-stepped.ensures.within))
 
 pub returns-then-is_done : goal.returns-then-is_done
-returns-then-is_done c = rw (c.behind-ended.ensures, c.on-here-then-is_done.ensures) (over-ended c.loop-i.invariant.1 (omega (arith, c.loop-i-test.true, c.loop-i.invariant.0)) (omega (arith, c.if-own-ge-MOST_RECORDS.false)) c.step-s.result (rw (own-lent c.loop-i.invariant.1.along _ c.offset_of.ensures, add-sub_cancel_left) at c.step-s.ensures.same) c.in-Fine.is (rw (own-lent c.loop-i.invariant.1.along _ c.offset_of.ensures, add-sub_cancel_left, c.in-Fine.is) at c.step-s.ensures.within) (sym c.is_done.ensures ∙ c.if-is_done.true))
+returns-then-is_done c = rw (c.behind-ended.ensures, c.on-here-then-is_done.ensures) (over-ended c.loop-i.invariant.1 (omega (arith, c.loop-i-test.true, c.loop-i.invariant.0)) (omega (arith, c.if-own-ge-MOST_RECORDS.false)) c.step-stepped.result (rw (own-lent c.loop-i.invariant.1.along _ c.offset_of.ensures, add-sub_cancel_left) at c.step-stepped.ensures.same) _ c.in-Ok.is (rw (own-lent c.loop-i.invariant.1.along _ c.offset_of.ensures, add-sub_cancel_left, c.in-Ok.is) at c.step-stepped.ensures.within) (sym c.is_done.ensures ∙ c.if-is_done.true))
 
-pub returns-in-At : goal.returns-in-At
-returns-in-At c = rw c.on-here-in-At.ensures (over-fault c.loop-i.invariant.1 (omega (arith, c.loop-i-test.true, c.loop-i.invariant.0)) (omega (arith, c.if-own-ge-MOST_RECORDS.false)) c.step-s.result (rw (own-lent c.loop-i.invariant.1.along _ c.offset_of.ensures, add-sub_cancel_left) at c.step-s.ensures.same) _ _ c.in-At.is)
+pub returns-in-Err : goal.returns-in-Err
+returns-in-Err c = rw c.on-here-in-Err.ensures (over-fault c.loop-i.invariant.1 (omega (arith, c.loop-i-test.true, c.loop-i.invariant.0)) (omega (arith, c.if-own-ge-MOST_RECORDS.false)) c.step-stepped.result (rw (own-lent c.loop-i.invariant.1.along _ c.offset_of.ensures, add-sub_cancel_left) at c.step-stepped.ensures.same) _ c.in-Err.is)
 
 pub overflow_add-i : goal.overflow_add-i
 overflow_add-i c = let w = c.loop-i.invariant.1.along.few in search rules
 
 pub loop-i-preserved : goal.loop-i-preserved
-loop-i-preserved c = (c.loop-i.invariant.0, over-next c.loop-i.invariant.1 (omega (arith, c.loop-i-test.true, c.loop-i.invariant.0)) (omega (arith, c.if-own-ge-MOST_RECORDS.false)) c.step-s.result (rw (own-lent c.loop-i.invariant.1.along _ c.offset_of.ensures, add-sub_cancel_left) at c.step-s.ensures.same) c.in-Fine.is (rw (own-lent c.loop-i.invariant.1.along _ c.offset_of.ensures, add-sub_cancel_left, c.in-Fine.is) at c.step-s.ensures.within) (sym c.is_done.ensures ∙ c.if-is_done.false))
+loop-i-preserved c = (c.loop-i.invariant.0, over-next c.loop-i.invariant.1 (omega (arith, c.loop-i-test.true, c.loop-i.invariant.0)) (omega (arith, c.if-own-ge-MOST_RECORDS.false)) c.step-stepped.result (rw (own-lent c.loop-i.invariant.1.along _ c.offset_of.ensures, add-sub_cancel_left) at c.step-stepped.ensures.same) _ c.in-Ok.is (rw (own-lent c.loop-i.invariant.1.along _ c.offset_of.ensures, add-sub_cancel_left, c.in-Ok.is) at c.step-stepped.ensures.within) (sym c.is_done.ensures ∙ c.if-is_done.false))
 
 pub returns : goal.returns
 returns c = rw c.on-here-2.ensures (over_done c.loop-i.invariant.1 (omega arith))

@@ -14,16 +14,16 @@ loop-i-init c = (refl, scan-all (length c.args.index.now / 5))
 pub returns-then-index-at : goal.returns-then-index-at
 returns-then-index-at c =
     record {
-      value = scan-found c.loop-i.invariant.1 c.loop-i-test.true (eq-eqb _ _ c.if-index-at.true);
-      upper_bound = omega (arith, c.loop-i-test.true);
+      value = scan-found c.loop-i.invariant.1 (omega arith) (eq-eqb _ _ c.if-index-at.true);
+      upper_bound = omega arith;
     }
 
 pub loop-i-preserved : goal.loop-i-preserved
-loop-i-preserved c = (refl, scan-next c.loop-i.invariant.1 c.loop-i-test.true (ne_eqb _ _ c.if-index-at.false))
+loop-i-preserved c = (refl, scan-next c.loop-i.invariant.1 (omega arith) (ne_eqb _ _ c.if-index-at.false))
 
 pub returns : goal.returns
 returns c =
     record {
-      value = scan-done c.loop-i.invariant.1 c.loop-i-test.false;
+      value = scan-done c.loop-i.invariant.1 (omega arith);
       upper_bound = omega arith;
     }

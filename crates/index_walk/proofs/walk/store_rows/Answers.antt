@@ -20,9 +20,6 @@ overflow_add-at c =
     let few = c.loop-i.invariant.few in
     record { fits = omega (arith, few, c.loop-i-test.true) }
 
-pub system_at-found-requires : goal.system_at-found-requires
-system_at-found-requires c = record { same = c.names-names.ensures }
-
 pub rows_behind-rows-requires : goal.rows_behind-rows-requires
 rows_behind-rows-requires c =
     let inv = c.loop-i.invariant in

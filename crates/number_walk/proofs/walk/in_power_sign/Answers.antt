@@ -1,70 +1,34 @@
-use mathlib.Core.Bool.{false}
-use mathlib.Core.Path.{sym, ◌∙◌}
-use Prim.Native.Nat.{◌+◌, ◌-◌}
-use native.Mathlib.Omega.{arith}
-use lib.ListN.{get_or}
-use Rattle.paper_number.proofs.Steps.{bad-power-sign, digit-in, is_digit, moves, over, raises-none, raises-on}
-use Rattle.paper_number.proofs.Steps.{stuck}
+use Rattle.std.proofs.Common.{arith, ◌+◌}
+use Rattle.paper_number.proofs.Steps.{power-none, power-stuck, power-size, power-done}
 use Rattle.paper_number.proofs.Tens.{ten-le}
-use Rattle.paper_number.specs.Reading.{PowerSign, column, digit}
-use Rattle.paper_number.specs.Walk.{spelt_at}
 use Rattle.number_walk.proofs.walk.in_power_sign.Goals as goal
 
-pub bounds-s-i : goal.bounds-s-i
-bounds-s-i c = omega arith
+pub returns-in_err-first : goal.returns-in_err-first
+returns-in_err-first c =
+    rw c.from_residual.ensures
+    (power-none c.args.s.now c.args.i c.args.below c.requires.0.short c.requires.1 c.in_err-first.ensures c.requires.0.inside)
 
-pub overflow_sub-d : goal.overflow_sub-d
-overflow_sub-d c =
-    let args = c.args in
-    let is-digit-call = c.is_digit in
-    (digit-in (get_or args.s.now args.i 0) (sym is-digit-call.ensures ∙ c.if-is_digit.true)).0
+pub digits_from-end-requires : goal.digits_from-end-requires
+digits_from-end-requires c =
+    let x = c.in_ok-first.ensures in
+    let p = ten-le {i = 1} {j = c.args.i + 1} (omega arith) in
+    (record { short = c.requires.0.short; inside = omega (arith, x.0) }, omega (arith, x.1, c.from.ensures, p))
 
-pub overflow_cast-d : goal.overflow_cast-d
-overflow_cast-d c =
-    let args = c.args in
-    let is-digit-call = c.is_digit in
-    let d = digit-in (get_or args.s.now args.i 0) (sym is-digit-call.ensures ∙ c.if-is_digit.true) in
-    omega arith
+pub returns-then-end-s : goal.returns-then-end-s
+returns-then-end-s c =
+    let y = rw c.from.ensures at c.digits_from-end.ensures in
+    power-stuck c.args.s.now c.args.i c.args.below c.requires.0.short c.requires.1 c.in_ok-first.first _ _
+    c.in_ok-first.ensures y c.if-end-s.true
 
-pub overflow_add-i : goal.overflow_add-i
-overflow_add-i c = omega arith
-
-pub in_power-requires : goal.in_power-requires
-in_power-requires c =
-    let args = c.args in
-    let pre = c.requires in
-    let is-digit-call = c.is_digit in
-    let s = args.s.now in
-    let i = args.i in
-    let d = digit-in (get_or s i 0) (sym is-digit-call.ensures ∙ c.if-is_digit.true) in
-    let p = ten-le {i = 4} {j = i + 1} (omega arith) in
-    (record { short = pre.0.short; inside = omega arith }, omega arith)
-
-pub returns-then-is_digit : goal.returns-then-is_digit
-returns-then-is_digit c =
-    let args = c.args in
-    let is-digit-call = c.is_digit in
-    let if2 = c.if-is_digit in
-    let s = args.s.now in
-    let i = args.i in
-    let y = is_digit (get_or s i 0) (sym is-digit-call.ensures ∙ if2.true) in
-    raises-on s i (i + 1) _ _ _ c.in_power.ensures
-    (λ m. moves s (PowerSign m args.below) i (column digit (get_or s i 0 - 48) false) (omega arith) y)
-
-pub returns-then-i-s : goal.returns-then-i-s
-returns-then-i-s c =
-    let args = c.args in
-    let is-digit-call = c.is_digit in
-    let if2 = c.if-is_digit in
-    let s = args.s.now in
-    let i = args.i in
-    let e = sym is-digit-call.ensures ∙ if2.false in
-    raises-none s i _ _ c.bad_exponent.ensures
-    (λ m. stuck s (PowerSign m args.below) i (omega arith) (bad-power-sign (get_or s i 0) m args.below e))
+pub overflow_cast-size : goal.overflow_cast-size
+overflow_cast-size c =
+    let y = rw c.from.ensures at c.digits_from-end.ensures in
+    let z = power-size c.args.s.now c.args.i c.args.below c.requires.0.short c.requires.1 c.in_ok-first.first _ _
+    c.in_ok-first.ensures y in
+    omega (arith, z)
 
 pub returns : goal.returns
-unfolding spelt_at
 returns c =
-    let args = c.args in
-    raises-none args.s.now args.i _ _ c.bad_exponent-2.ensures
-    (λ m. over args.s.now (PowerSign m args.below) args.i (omega arith))
+    let y = rw c.from.ensures at c.digits_from-end.ensures in
+    power-done c.args.s.now c.args.i c.args.below c.requires.0.short c.requires.1 c.in_ok-first.first _ _
+    c.in_ok-first.ensures y (omega (arith, c.if-end-s.false))

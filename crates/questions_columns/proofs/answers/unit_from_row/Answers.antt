@@ -1,5 +1,7 @@
 use Rattle.paper_index.proofs.PartsRead.{unit-by-before, unit-by-field}
-use mathlib.Core.Path.{◌∙◌}
+use mathlib.Core.Bool.{◌&&◌}
+use mathlib.Core.Path.{◌≡◌, ◌∙◌}
+use native.Mathlib.Omega.{arith}
 use Rattle.questions_columns.proofs.answers.unit_from_row.Goals as goal
 
 pub returns-then-number-ne0 : goal.returns-then-number-ne0
@@ -18,17 +20,17 @@ unit_place-place-requires c =
       columns_bound = c.column_read-read.ensures.columns_bound;
     }
 
-pub returns-then-not-both : goal.returns-then-not-both
-returns-then-not-both c = let a = c.args in
+pub returns-then-not-named : goal.returns-then-not-named
+returns-then-not-named c = let a = c.args in
     let at = c.section_in-at in
     let read = c.column_read-read in
     let heading = c.heading_at-heading in
     let unit = c.unit_at-unit in
     let place = c.unit_place-place in
-    let both = c.both in
-    c.refused_part-then-not-both.ensures
-    ∙ rw c.if-not-both.true at
-    (unit-by-field a.entry.now a.row a.section a.column at.result at.ensures read.result.number read.ensures.number_value c.if-number-ne0.false c.heading_place-above.result c.heading_place-above.ensures.value heading.result.good heading.ensures.good_value place.result (rw (read.ensures.columns_value c.if-number-ne0.false) at place.ensures.value) unit.result both.result unit.ensures both.ensures)
+    let both : c.if-heading.named ≡ (heading.result.good && unit.result) = grind arith in
+    c.refused_part-then-not-named.ensures
+    ∙ rw c.if-not-named.true at
+    (unit-by-field a.entry.now a.row a.section a.column at.result at.ensures read.result.number read.ensures.number_value c.if-number-ne0.false c.heading_place-above.result c.heading_place-above.ensures.value heading.result.good heading.ensures.good_value place.result (rw (read.ensures.columns_value c.if-number-ne0.false) at place.ensures.value) unit.result c.if-heading.named unit.ensures both)
 
 pub returns : goal.returns
 returns c = let a = c.args in
@@ -37,7 +39,7 @@ returns c = let a = c.args in
     let heading = c.heading_at-heading in
     let unit = c.unit_at-unit in
     let place = c.unit_place-place in
-    let both = c.both in
+    let both : c.if-heading.named ≡ (heading.result.good && unit.result) = grind arith in
     rw (c.byte_of-first.ensures, heading.ensures.pointer_value) at c.part_from.ensures
-    ∙ rw c.if-not-both.false at
-    (unit-by-field a.entry.now a.row a.section a.column at.result at.ensures read.result.number read.ensures.number_value c.if-number-ne0.false c.heading_place-above.result c.heading_place-above.ensures.value heading.result.good heading.ensures.good_value place.result (rw (read.ensures.columns_value c.if-number-ne0.false) at place.ensures.value) unit.result both.result unit.ensures both.ensures)
+    ∙ rw c.if-not-named.false at
+    (unit-by-field a.entry.now a.row a.section a.column at.result at.ensures read.result.number read.ensures.number_value c.if-number-ne0.false c.heading_place-above.result c.heading_place-above.ensures.value heading.result.good heading.ensures.good_value place.result (rw (read.ensures.columns_value c.if-number-ne0.false) at place.ensures.value) unit.result c.if-heading.named unit.ensures both)

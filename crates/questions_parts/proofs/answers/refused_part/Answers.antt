@@ -3,4 +3,4 @@ use mathlib.Core.Path.{◌∙◌, ap}
 use Rattle.questions_parts.proofs.answers.refused_part.Goals as goal
 
 pub returns : goal.returns
-returns c = c.no_part.ensures ∙ ap no_part c.answer_of-refused.ensures
+returns c = c.no_part.ensures ∙ ap no_part c.answer_of.ensures

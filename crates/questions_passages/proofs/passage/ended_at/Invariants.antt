@@ -1,4 +1,4 @@
-use Prim.Native.Nat.{◌+◌, ◌-◌, ◌≤◌}
+use Prim.Native.Nat.{◌+◌, ◌≤◌}
 use Rattle.laws.proofs.Search.{Scan}
 use Rattle.paper_index.specs.PassageAnswers.{ended_at}
 use Rattle.paper_questions.specs.Passage.{begins, text_at}
@@ -6,6 +6,3 @@ use Rattle.questions_passages.proofs.passage.ended_at.Given as goal
 
 abbrev pub invariant-loop-past : goal.invariant-loop-past
 invariant-loop-past l = (l.p + 1 ≤ l.past) × Scan (λ m. begins (text_at l.entry l.bib m)) (ended_at l.entry l.bib l.p l.n) l.past l.n
-
-abbrev pub decreases-loop-past : goal.decreases-loop-past
-decreases-loop-past l = l.n - l.past

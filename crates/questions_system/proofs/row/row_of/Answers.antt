@@ -20,9 +20,6 @@ loop-i-init c =
       rw c.empty_row-row.ensures (row-begun _ _),
     )
 
-pub system_at-found-requires : goal.system_at-found-requires
-system_at-found-requires c = record { same = c.names-names.ensures }
-
 pub loop-i-preserved : goal.loop-i-preserved
 loop-i-preserved c =
     let inv = c.loop-i.invariant in

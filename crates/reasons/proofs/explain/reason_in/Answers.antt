@@ -12,7 +12,6 @@ pub state_at-j-requires : goal.state_at-j-requires
 state_at-j-requires c =
     let l = c.requires.there in
     record {
-      names_lent = record { same = c.names-names.ensures };
       value = c.requires.good;
       n_in_bounds = omega arith;
     }
@@ -58,7 +57,6 @@ reason_at-requires c =
     let g = whole-records _ c.requires.good in
     let l = c.requires.there in
     record {
-      names_lent = record { same = c.names-names.ensures };
       stands = state-stands c.state_at-j.ensures;
       whole = record { long = simp (length-take, length-drop) (omega arith) };
       in_field = c.requires.heading;

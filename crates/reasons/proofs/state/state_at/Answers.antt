@@ -15,11 +15,6 @@ loop-i-init c = (
 pub pass-p-requires : goal.pass-p-requires
 pass-p-requires c =
     record {
-      names_lent = c.requires.names_lent;
-      tables = record {
-        kinds_right = c.kinds-kinds.ensures;
-        nexts_right = c.nexts-nexts.ensures;
-      };
       walking = c.loop-i.invariant.1;
       i_in_bounds = omega (arith, c.loop-i.invariant.0, c.loop-i-test.true);
     }

@@ -12,9 +12,9 @@ returns-then-opens_section c = rw (
   ← c.number_of-b.ensures,
 ) c.announced_facts.ensures
 
-pub returns : goal.returns
+pub returns-else-opens_section : goal.returns-else-opens_section
 unfolding count_facts
-returns c = rw (
+returns-else-opens_section c = rw (
   ← c.opens_section.ensures,
   c.if-opens_section.false,
   ← c.count_of.ensures.value,

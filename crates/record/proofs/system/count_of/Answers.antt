@@ -1,7 +1,7 @@
 use Prim.Native.Nat.{ℕ}
 use mathlib.Core.Path.{ap}
 use Rattle.laws.proofs.Promise.{said-too}
-use Rattle.paper_record.specs.declared.types.Count.TheVariants.{Number}
+use Rattle.std.proofs.Common.{Some}
 use Rattle.paper_record.specs.System.{count_answer, integer_of}
 use borrow.Author.Tests.{eq-eqb, ne_eqb}
 use Rattle.record.proofs.system.count_of.Goals as goal
@@ -33,5 +33,5 @@ returns c =
           c.if-start-eq11.false,
       ← c.digits_in.ensures,
       c.if-not-digits_in.false,
-    ) (ap (λ (n : ℕ). Number n) c.number_in-number.ensures.value)) in
+    ) (ap (λ (n : ℕ). Some n) c.number_in-number.ensures.value)) in
     record { value = both.0; result_value = both.1 }

@@ -6,6 +6,3 @@ use Rattle.record.proofs.system.digits_in.Given as goal
 
 abbrev pub invariant-loop-i : goal.invariant-loop-i
 invariant-loop-i l = (l.end ≤ 11) × Scan (no_digit_at l.f) (first (no_digit_at l.f) l.from l.n) l.i l.end
-
-abbrev pub decreases-loop-i : goal.decreases-loop-i
-decreases-loop-i l = l.end - l.i

@@ -1,15 +1,11 @@
 use Rattle.paper_record.specs.System.{is_accession}
+use Rattle.std.proofs.Common.{arith}
 use Rattle.record.proofs.system.is_accession.Goals as goal
 
-pub returns-then-not-is_capital_or_digit : goal.returns-then-not-is_capital_or_digit
+pub returns-then-is_capital_or_digit : goal.returns-then-is_capital_or_digit
 unfolding is_accession
-returns-then-not-is_capital_or_digit c =
-    rw (← c.is_capital_or_digit.ensures, c.if-not-is_capital_or_digit.true)
+returns-then-is_capital_or_digit c = grind arith
 
-pub returns : goal.returns
+pub returns-else-is_capital_or_digit : goal.returns-else-is_capital_or_digit
 unfolding is_accession
-returns c =
-    rw (
-      ← c.is_capital_or_digit.ensures,
-      c.if-not-is_capital_or_digit.false,
-    ) c.digits_in.ensures
+returns-else-is_capital_or_digit c = grind arith

@@ -1,12 +1,11 @@
 use Rattle.paper_record.specs.System.{is_entry_n1}
+use Rattle.std.proofs.Common.{arith}
 use Rattle.record.proofs.system.is_entry_n1.Goals as goal
 
-pub returns-then-not-blank_to : goal.returns-then-not-blank_to
+pub returns-then-blank_to : goal.returns-then-blank_to
 unfolding is_entry_n1
-returns-then-not-blank_to c = rw (← c.blank_to.ensures, c.if-not-blank_to.true)
+returns-then-blank_to c = grind arith
 
-pub returns : goal.returns
+pub returns-else-blank_to : goal.returns-else-blank_to
 unfolding is_entry_n1
-returns c =
-    rw (← c.blank_to.ensures, c.if-not-blank_to.false)
-    c.is_accession.ensures
+returns-else-blank_to c = grind arith

@@ -6,6 +6,6 @@ pub returns-then-k-used : goal.returns-then-k-used
 unfolding pointer_fault
 returns-then-k-used c = rw (lt-ltb _ _ c.if-k-used.true) c.bad_pointer.ensures
 
-pub returns : goal.returns
+pub returns-else-k-used : goal.returns-else-k-used
 unfolding pointer_fault
-returns c = rw (le-ltb _ _ c.if-k-used.false)
+returns-else-k-used c = rw (le-ltb _ _ c.if-k-used.false)

@@ -1,10 +1,10 @@
 use Rattle.paper_record.specs.Faults.{is_unit_word}
 use Rattle.record_faults.proofs.faults.is_unit.Goals as goal
 
-pub returns-then-not-is_word : goal.returns-then-not-is_word
+pub returns-then-is_word : goal.returns-then-is_word
 unfolding is_unit_word
-returns-then-not-is_word c = rw (← c.is_word.ensures, c.if-not-is_word.true)
+returns-then-is_word c = rw (← c.is_word.ensures, c.if-is_word.true)
 
-pub returns : goal.returns
+pub returns-else-is_word : goal.returns-else-is_word
 unfolding is_unit_word
-returns c = rw (← c.is_word.ensures, c.if-not-is_word.false)
+returns-else-is_word c = rw (← c.is_word.ensures, c.if-is_word.false)

@@ -6,6 +6,6 @@ pub returns-then-k-used : goal.returns-then-k-used
 unfolding unit_fault
 returns-then-k-used c = rw (lt-ltb _ _ c.if-k-used.true, ← c.is_unit.ensures)
 
-pub returns : goal.returns
+pub returns-else-k-used : goal.returns-else-k-used
 unfolding unit_fault
-returns c = rw (le-ltb _ _ c.if-k-used.false, ← c.is_blank.ensures)
+returns-else-k-used c = rw (le-ltb _ _ c.if-k-used.false, ← c.is_blank.ensures)

@@ -8,6 +8,3 @@ use Rattle.record_flags.proofs.flags.digits_behind.Given as goal
 
 abbrev pub invariant-loop-j : goal.invariant-loop-j
 invariant-loop-j l = (length l.x ≡ 55) × Scan (λ i. not (digit_behind l.x i)) (code_digits l.x) l.j 54
-
-abbrev pub decreases-loop-j : goal.decreases-loop-j
-decreases-loop-j l = 54 - l.j

@@ -14,21 +14,13 @@ overflow_add-b c = let few = digits-few c.args.x.now in let l = c.loop-j.invaria
 
 pub bounds-x-j : goal.bounds-x-j
 bounds-x-j c =
-    let c3 = c in
-    let few = digits-few c3.args.x.now in
+    let few = digits-few c.args.x.now in
     let l = c.loop-j.invariant.2 in let t = c.loop-j.invariant.0.long in search rules
 
-pub overflow_sub-d : goal.overflow_sub-d
-overflow_sub-d c =
-    let c3 = c in
+pub overflow_sub-b : goal.overflow_sub-b
+overflow_sub-b c =
     let l = c.loop-j.invariant.2 in
-    let d = digit_at c3.args.x.now c.loop-j.j (omega arith) in search rules
-
-pub overflow_cast-d : goal.overflow_cast-d
-overflow_cast-d c =
-    let c3 = c in
-    let l = c.loop-j.invariant.2 in
-    let d = digit_at c3.args.x.now c.loop-j.j (omega arith) in search rules
+    let d = digit_at c.args.x.now c.loop-j.j (omega arith) in search rules
 
 pub overflow_mul-next : goal.overflow_mul-next
 overflow_mul-next c =
@@ -36,19 +28,21 @@ overflow_mul-next c =
 
 pub overflow_add-next : goal.overflow_add-next
 overflow_add-next c =
-    let c3 = c in
     let f = c.loop-j.invariant.1.few in
     let s = c.loop-j.invariant.3.small in
     let l = c.loop-j.invariant.2 in
-    let d = digit_at c3.args.x.now c.loop-j.j (omega arith) in search rules
+    let d = digit_at c.args.x.now c.loop-j.j (omega arith) in search rules
 
 pub returns-then-n-next : goal.returns-then-n-next
-returns-then-n-next c = saying-past c.loop-j.invariant.3 (omega arith) c.if-n-next.true
+returns-then-n-next c = saying-past c.loop-j.invariant.3 (omega arith) (rw c.from-d.ensures at c.if-n-next.true)
 
 pub loop-j-preserved : goal.loop-j-preserved
-loop-j-preserved c =
-    let c3 = c in
-    (c3.loop-j.invariant.0, c3.loop-j.invariant.1, c3.loop-j.invariant.2, saying-next c3.loop-j.invariant.3 (omega arith) c.if-n-next.false)
+loop-j-preserved c = (
+  c.loop-j.invariant.0,
+  c.loop-j.invariant.1,
+  c.loop-j.invariant.2,
+  rw c.from-d.ensures (saying-next c.loop-j.invariant.3 (omega arith) (rw c.from-d.ensures at c.if-n-next.false)),
+)
 
 pub returns : goal.returns
 returns c = let e = saying-done c.loop-j.invariant.3 (omega arith) in rw e refl

@@ -7,6 +7,3 @@ use Rattle.record_flags.proofs.flags.says.Given as goal
 
 abbrev pub invariant-loop-j : goal.invariant-loop-j
 invariant-loop-j l = TextColumns l.x × Short l.n × (l.m ≤ code_digits l.x) × Saying l.x l.m l.n l.number l.j
-
-abbrev pub decreases-loop-j : goal.decreases-loop-j
-decreases-loop-j l = l.m - l.j

@@ -1,11 +1,11 @@
 use Rattle.paper_record.specs.Repeats.{ends_in}
-use borrow.Author.Tests.{le-leb, lt-leb}
+use Rattle.std.proofs.Common.{arith}
 use Rattle.record_repeats.proofs.repeats.ends_in.Goals as goal
 
-pub returns-then-end-n : goal.returns-then-end-n
+pub returns-then-w-end : goal.returns-then-w-end
 unfolding ends_in
-returns-then-end-n c = rw (← c.word_end-end.ensures.value, lt-leb _ _ c.if-end-n.true)
+returns-then-w-end c = grind arith
 
-pub returns : goal.returns
+pub returns-else-w-end : goal.returns-else-w-end
 unfolding ends_in
-returns c = rw (← c.word_end-end.ensures.value, le-leb _ _ c.if-end-n.false) c.letters_at.ensures
+returns-else-w-end c = grind arith

@@ -1,11 +1,11 @@
 use Rattle.paper_record.specs.Repeats.{spells}
-use borrow.Author.Tests.{eq-eqb, ne_eqb}
+use Rattle.std.proofs.Common.{arith}
 use Rattle.record_repeats.proofs.repeats.spells.Goals as goal
 
-pub returns-then-end-n : goal.returns-then-end-n
+pub returns-then-end-w : goal.returns-then-end-w
 unfolding spells
-returns-then-end-n c = rw (← c.word_end-end.ensures.value, ne_eqb c.word_end-end.result _ c.if-end-n.true)
+returns-then-end-w c = grind arith
 
-pub returns : goal.returns
+pub returns-else-end-w : goal.returns-else-end-w
 unfolding spells
-returns c = rw (← c.word_end-end.ensures.value, eq-eqb c.word_end-end.result _ c.if-end-n.false) c.letters_at.ensures
+returns-else-end-w c = grind arith

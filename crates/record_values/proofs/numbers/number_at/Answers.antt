@@ -17,8 +17,8 @@ returns-then-is_number_form c =
       upper_bound = omega arith;
     }
 
-pub returns : goal.returns
-returns c =
+pub returns-else-is_number_form : goal.returns-else-is_number_form
+returns-else-is_number_form c =
     record {
       value = rw (lt-ltb _ _ c.if-used-k.false, ← c.is_number_form.ensures, c.if-is_number_form.false) refl;
       upper_bound = omega arith;

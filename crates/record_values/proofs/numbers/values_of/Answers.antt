@@ -10,36 +10,35 @@ use Rattle.record_values.proofs.numbers.values_of.Goals as goal
 
 pub loop-k-init : goal.loop-k-init
 unfolding how_many
-loop-k-init c = (c.requires, scan-all 6, refl, omega arith)
+loop-k-init c = (scan-all 6, refl, omega arith)
 
 pub returns-then-is_value_fault : goal.returns-then-is_value_fault
 unfolding values_of value_fault
 returns-then-is_value_fault c =
     rw (
-      ← scan-found c.loop-k.invariant.1 (omega arith)
+      ← scan-found c.loop-k.invariant.0 (omega arith)
           (rw (← c.form_of_field-form.ensures.value) (sym c.is_value_fault.ensures ∙ c.if-is_value_fault.true)),
-      ← c.loop-k.invariant.2,
+      ← c.loop-k.invariant.1,
     )
 
 pub loop-k-preserved : goal.loop-k-preserved
 unfolding value_fault how_many is_number_at
 loop-k-preserved c = (
-  c.loop-k.invariant.0,
-  scan-next c.loop-k.invariant.1 (omega arith)
+  scan-next c.loop-k.invariant.0 (omega arith)
       (rw (← c.form_of_field-form.ensures.value)
       (sym c.is_value_fault.ensures ∙ c.if-is_value_fault.false)),
   rw (
     add-one,
-    c.number_at-numbers.ensures.value,
+    c.number_at-count.ensures.value,
     c.form_of_field-form.ensures.value,
     zero-add,
-    c.loop-k.invariant.2,
+    c.loop-k.invariant.1,
   ),
-  omega (arith, c.loop-k.invariant.3, c.number_at-numbers.ensures.upper_bound),
+  omega (arith, c.loop-k.invariant.2, c.number_at-count.ensures.upper_bound),
 )
 
 pub returns : goal.returns
 unfolding values_of
 returns c =
-    let e : c.loop-k.k ≡ 6 = omega (arith, c.loop-k.invariant.1.low) in
-    rw (← scan-done c.loop-k.invariant.1 (omega arith), c.loop-k.invariant.2, e)
+    let e : c.loop-k.k ≡ 6 = omega (arith, c.loop-k.invariant.0.low) in
+    rw (← scan-done c.loop-k.invariant.0 (omega arith), c.loop-k.invariant.1, e)

@@ -1,7 +1,6 @@
-use Prim.Native.Nat.{◌-◌, ◌≤◌}
+use Prim.Native.Nat.{◌≤◌}
 use Rattle.laws.proofs.Search.{Scan}
 use Rattle.laws.specs.Search.{how_many}
-use Rattle.paper_number.specs.Form.{Tables}
 use Rattle.paper_record.specs.Fields.{first_field, in_field}
 use Rattle.paper_record.specs.Numbers.{is_number_at, value_fault}
 use mathlib.Core.Path.{◌≡◌}
@@ -9,9 +8,6 @@ use Rattle.record_values.proofs.numbers.values_of.Given as goal
 
 abbrev pub invariant-loop-k : goal.invariant-loop-k
 invariant-loop-k l =
-    (Tables l.kinds l.nexts) × Scan (in_field (value_fault l.optional l.used) l.fields)
-    (first_field (value_fault l.optional l.used) l.fields) l.k 6 × (l.numbers ≡ how_many (in_field (is_number_at l.used) l.fields) 0 l.k)
-    × (l.numbers ≤ l.k)
-
-abbrev pub decreases-loop-k : goal.decreases-loop-k
-decreases-loop-k l = 6 - l.k
+    Scan (in_field (value_fault l.optional l.used) l.fn.fields)
+    (first_field (value_fault l.optional l.used) l.fn.fields) l.k 6 × (l.count ≡ how_many (in_field (is_number_at l.used) l.fn.fields) 0 l.k)
+    × (l.count ≤ l.k)

@@ -5,6 +5,3 @@ use Rattle.record_words.proofs.word.filled_from.Given as goal
 
 abbrev pub invariant-loop-i : goal.invariant-loop-i
 invariant-loop-i l = (l.w ≤ 11) × Scan (filled_at l.f) (filled_from l.w l.f l.from) l.i l.w
-
-abbrev pub decreases-loop-i : goal.decreases-loop-i
-decreases-loop-i l = l.w - l.i

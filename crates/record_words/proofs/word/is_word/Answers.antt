@@ -5,12 +5,12 @@ use mathlib.Core.Path.{ap}
 use Prim.Native.Nat.{ℕ}
 use Rattle.record_words.proofs.word.is_word.Goals as goal
 
-pub returns-then-end-eq0 : goal.returns-then-end-eq0
+pub returns-then-end-ne0 : goal.returns-then-end-ne0
 unfolding is_word
-returns-then-end-eq0 c = rw (← c.word_end-end.ensures.value, eq-eqb _ _ c.if-end-eq0.true)
-
-pub returns : goal.returns
-unfolding is_word
-returns c =
-    rw (← c.word_end-end.ensures.value, ne_eqb _ _ c.if-end-eq0.false)
+returns-then-end-ne0 c =
+    rw (← c.word_end-end.ensures.value, ne_eqb _ _ c.if-end-ne0.true)
     (ap (λ (t : ℕ). eqb t 10) c.filled_from.ensures.value)
+
+pub returns-else-end-ne0 : goal.returns-else-end-ne0
+unfolding is_word
+returns-else-end-ne0 c = rw (← c.word_end-end.ensures.value, eq-eqb _ _ c.if-end-ne0.false)

@@ -1,4 +1,4 @@
-use Prim.Native.Nat.{◌-◌, ◌≤◌}
+use Prim.Native.Nat.{◌≤◌}
 use Rattle.laws.proofs.Search.{Scan}
 use Rattle.paper_revisions.specs.Extents.{is_other, records_of, past_from}
 use mathlib.Core.Path.{◌≡◌}
@@ -9,6 +9,3 @@ invariant-loop-i l =
     (l.records ≡ records_of l.entry)
     × Scan (is_other l.entry l.n) (past_from l.entry l.n l.from) l.i l.records
     × (l.from ≤ l.i)
-
-abbrev pub decreases-loop-i : goal.decreases-loop-i
-decreases-loop-i l = l.records - l.i

@@ -1,5 +1,4 @@
 use Rattle.paper_rules.proofs.CodesNext.{codes-start, codes-found, codes-next, codes-done}
-use Prim.Native.Nat.{◌-◌}
 use mathlib.Core.Path.{◌∙◌, ◌≡◌, refl, sym}
 use native.Mathlib.Omega.{arith}
 use Rattle.rules_codes.proofs.codes.code_in.Goals as goal
@@ -13,7 +12,7 @@ returns-then-code_at c =
     let c5 = c3 in
     let t = c5.loop-i.invariant.0 in
     let e : c.is_under-under.result ≡ _ =
-    (rw c3.field-f.ensures at c.is_under-under.ensures) in
+    (rw c3.field.ensures at c.is_under-under.ensures) in
     codes-found c5.loop-i.invariant.2 (omega arith) c.is_under-under.result e
     (sym c.if-code_at.true ∙ c.code_at.ensures)
 
@@ -23,7 +22,7 @@ loop-i-preserved c =
     let c5 = c3 in
     let t = c5.loop-i.invariant.0 in
     let e : c.is_under-under.result ≡ _ =
-    (rw c3.field-f.ensures at c.is_under-under.ensures) in (
+    (rw c3.field.ensures at c.is_under-under.ensures) in (
       c5.loop-i.invariant.0,
       c5.loop-i.invariant.1,
       codes-next c5.loop-i.invariant.2 (omega arith) c.is_under-under.result e

@@ -1,5 +1,4 @@
-use Rattle.paper_rules.specs.declared.types.Found.TheVariants.{Nothing}
-use Prim.Native.Nat.{◌-◌}
+use Rattle.std.proofs.Common.{None}
 use Rattle.laws.proofs.Search.{Scan}
 use Rattle.laws.proofs.Turns.{Run}
 use Rattle.paper_rules.specs.Earlier.{earlier, equal_at, equal_heading, equal_in, nowhere, section_turn}
@@ -8,15 +7,9 @@ use Rattle.rules_earlier.proofs.earlier.equal_heading.Given as goal
 
 abbrev pub invariant-loop-m : goal.invariant-loop-m
 invariant-loop-m l =
-    (l.found ≡ Nothing) × Scan (equal_at l.f l.part) (equal_in l.f l.part l.n) l.m l.n
-
-abbrev pub decreases-loop-m : goal.decreases-loop-m
-decreases-loop-m l = l.n - l.m
+    (l.found ≡ None) × Scan (equal_at l.f l.part) (equal_in l.f l.part l.m-end) l.m l.m-end
 
 abbrev pub invariant-sections : goal.invariant-sections
 invariant-sections l =
-    (l.found ≡ Nothing) × Run (section_turn l.f (earlier l.common001 l.common l.table l.here l.left)) nowhere
+    (l.found ≡ None) × Run (section_turn l.f (earlier l.common001 l.common l.table l.here l.left)) nowhere
     (equal_heading l.f (earlier l.common001 l.common l.table l.here l.left)) tt l.s 4
-
-abbrev pub decreases-sections : goal.decreases-sections
-decreases-sections l = 4 - l.s

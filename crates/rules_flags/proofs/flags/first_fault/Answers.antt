@@ -1,5 +1,4 @@
 use Rattle.laws.proofs.Search.{scan-found, scan-next, scan-done}
-use Prim.Native.Nat.{◌-◌}
 use Rattle.laws.proofs.Search.{scan-all}
 use Rattle.rules_flags.proofs.Headings.{heading-room}
 use mathlib.Core.Path.{◌∙◌, sym}
@@ -12,8 +11,8 @@ loop-k-init c =
     let c3 = c in
     (c3.requires.whole_records, c3.requires.record_at.0, c3.requires.record_at.1, scan-all _)
 
-pub overflow_add-at : goal.overflow_add-at
-overflow_add-at c = let s = c.loop-k.invariant.2 in let f = c.loop-k.invariant.1.near in search rules
+pub overflow_add-from : goal.overflow_add-from
+overflow_add-from c = let s = c.loop-k.invariant.2 in let f = c.loop-k.invariant.1.near in search rules
 
 pub is_fault_at-requires : goal.is_fault_at-requires
 is_fault_at-requires c =

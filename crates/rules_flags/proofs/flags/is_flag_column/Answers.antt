@@ -12,6 +12,5 @@ is_flag_at-requires c =
 pub returns : goal.returns
 unfolding flag_column
 returns c =
-    let c3 = c in
-    let e = heading-of c3.args.table.now (records_over c3.args.track) c3.args.k c3.requires.1 in
+    let e = heading-of c.args.table.now (records_over c.args.track) c.args.k c.requires.1 in
     (rw c.heading_record.ensures.value at c.is_flag_at.ensures) ∙ sym (ap is_flag_heading e)

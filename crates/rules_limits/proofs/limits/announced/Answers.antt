@@ -24,18 +24,18 @@ returns-then-not-meets-2 c =
       ← c.meets.ensures,
       c.if-not-meets.false,
       ← c.limit_n2.ensures,
-      ← c.meets-2.ensures,
+      ← c.meets-else-not-meets.ensures,
       c.if-not-meets-2.true,
     )
 
-pub returns : goal.returns
+pub returns-else-not-meets-2 : goal.returns-else-not-meets-2
 unfolding announced_fault
-returns c =
+returns-else-not-meets-2 c =
     rw (
       ← c.limit_n1.ensures,
       ← c.meets.ensures,
       c.if-not-meets.false,
       ← c.limit_n2.ensures,
-      ← c.meets-2.ensures,
+      ← c.meets-else-not-meets.ensures,
       c.if-not-meets-2.false,
     )

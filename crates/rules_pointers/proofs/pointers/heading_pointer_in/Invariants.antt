@@ -1,5 +1,4 @@
 use Rattle.laws.proofs.Members.{Look}
-use Prim.Native.Nat.{◌-◌}
 use Rattle.laws.specs.Members.{any_of}
 use Rattle.paper_rules.specs.Pointers.{heading_pointer_at, heading_pointers}
 use Rattle.paper_rules.specs.Earlier.{headings_in}
@@ -9,7 +8,4 @@ use Rattle.rules_pointers.proofs.pointers.heading_pointer_in.Given as goal
 
 abbrev pub invariant-loop-m : goal.invariant-loop-m
 invariant-loop-m l =
-    (l.n ≡ headings_in l.part) × Look (eqb l.pointer) (heading_pointer_at l.part) (any_of (eqb l.pointer) (heading_pointers l.part)) l.m l.n
-
-abbrev pub decreases-loop-m : goal.decreases-loop-m
-decreases-loop-m l = l.n - l.m
+    (l.m-end ≡ headings_in l.part) × Look (eqb l.pointer) (heading_pointer_at l.part) (any_of (eqb l.pointer) (heading_pointers l.part)) l.m l.m-end

@@ -1,4 +1,4 @@
-use Prim.Native.Nat.{◌-◌, ◌≤◌}
+use Prim.Native.Nat.{◌≤◌}
 use Rattle.laws.proofs.Search.{Scan}
 use Rattle.laws.specs.Search.{first}
 use Rattle.paper_rules.specs.Pointers.{lost_at, pointers_for}
@@ -8,6 +8,3 @@ abbrev pub invariant-loop-k : goal.invariant-loop-k
 invariant-loop-k l =
     (l.n ≤ 6) × Scan (lost_at (pointers_for l.bib l.bib001 l.common l.common001) l.fs)
     (first (lost_at (pointers_for l.bib l.bib001 l.common l.common001) l.fs) 0 l.n) l.k l.n
-
-abbrev pub decreases-loop-k : goal.decreases-loop-k
-decreases-loop-k l = l.n - l.k

@@ -1,4 +1,4 @@
-use Prim.Native.Nat.{◌-◌, ◌≤◌}
+use Prim.Native.Nat.{◌≤◌}
 use Rattle.laws.proofs.Search.{Scan}
 use Rattle.laws.specs.Search.{first}
 use Rattle.paper_rules.specs.Repeats.{heading_repeated}
@@ -8,6 +8,3 @@ abbrev pub invariant-loop-k : goal.invariant-loop-k
 invariant-loop-k l =
     (l.n ≤ 6) × Scan (heading_repeated l.in_data l.common001 l.common l.table l.here l.fs)
     (first (heading_repeated l.in_data l.common001 l.common l.table l.here l.fs) 0 l.n) l.k l.n
-
-abbrev pub decreases-loop-k : goal.decreases-loop-k
-decreases-loop-k l = l.n - l.k

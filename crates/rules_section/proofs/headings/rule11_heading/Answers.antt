@@ -17,5 +17,5 @@ returns c =
       c.if-not-is_heading.false,
       leftmost-where,
       ← c.used.ensures.value,
-      ← c.pointer_fault-k.ensures,
+      ← c.pointer_fault.ensures,
     ) c.pointer_column.ensures

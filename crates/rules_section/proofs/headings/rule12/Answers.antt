@@ -10,7 +10,7 @@ returns-then-is_heading c =
       c.if-is_heading.true,
       leftmost-where,
       ← c.used.ensures.value,
-      ← c.heading_fault-k.ensures,
+      ← c.heading_fault.ensures,
     ) c.field_column.ensures
 
 pub returns-then-is_unit : goal.returns-then-is_unit
@@ -23,11 +23,11 @@ returns-then-is_unit c =
       c.if-is_unit.true,
       leftmost-where,
       ← c.used-then-is_unit.ensures.value,
-      ← c.unit_fault-k.ensures,
+      ← c.unit_fault.ensures,
     ) c.field_column-then-is_unit.ensures
 
-pub returns : goal.returns
-returns c =
+pub returns-else-is_unit : goal.returns-else-is_unit
+returns-else-is_unit c =
     rw (
       ← c.is_heading.ensures,
       c.if-is_heading.false,

@@ -1,21 +1,10 @@
-use mathlib.Core.Path.{refl}
 use Rattle.paper_rules.specs.State.{used}
-use borrow.Author.Tests.{le-leb, lt-leb}
-use native.Mathlib.Omega.{arith}
 use Rattle.rules_state.proofs.state.used.Goals as goal
 
-pub returns-then-t-le6 : goal.returns-then-t-le6
+pub returns-then-row_ends-clause-value : goal.returns-then-row_ends-clause-value
 unfolding used
-returns-then-t-le6 c =
-    record {
-      value = rw (le-leb _ _ c.if-t-le6.true);
-      upper_bound = omega arith;
-    }
+returns-then-row_ends-clause-value c = rw (← c.row_ends.ensures, c.if-row_ends.true)
 
-pub returns : goal.returns
+pub returns-else-row_ends-clause-value : goal.returns-else-row_ends-clause-value
 unfolding used
-returns c =
-    record {
-      value = rw (lt-leb _ _ c.if-t-le6.false) refl;
-      upper_bound = omega arith;
-    }
+returns-else-row_ends-clause-value c = rw (← c.row_ends.ensures, c.if-row_ends.false)

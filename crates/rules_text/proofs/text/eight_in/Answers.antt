@@ -1,5 +1,4 @@
 use Rattle.laws.proofs.Members.{look-done, look-found, look-next}
-use Prim.Native.Nat.{◌-◌}
 use Rattle.laws.proofs.Members.{look-all}
 use Rattle.paper_rules.specs.Text.{eights_of}
 use borrow.Author.Tests.{eq-eqb, ne_eqb}
@@ -12,16 +11,16 @@ pub loop-i-init : goal.loop-i-init
 unfolding eights_of
 loop-i-init c = (search rules, look-all _)
 
-pub returns-then-number-here : goal.returns-then-number-here
-returns-then-number-here c =
+pub returns-then-number-eight_columns : goal.returns-then-number-eight_columns
+returns-then-number-eight_columns c =
     look-found c.loop-i.invariant.1 (omega arith)
-    (eq-eqb _ _ (c.if-number-here.true ∙ c.eight_columns-here.ensures))
+    (eq-eqb _ _ (c.if-number-eight_columns.true ∙ c.eight_columns.ensures))
 
 pub loop-i-preserved : goal.loop-i-preserved
 loop-i-preserved c = (
   search rules,
   look-next c.loop-i.invariant.1 (omega arith)
-      (ne_eqb _ _ (λ e. c.if-number-here.false (e ∙ sym c.eight_columns-here.ensures))),
+      (ne_eqb _ _ (λ e. c.if-number-eight_columns.false (e ∙ sym c.eight_columns.ensures))),
 )
 
 pub returns : goal.returns

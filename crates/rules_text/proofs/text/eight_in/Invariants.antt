@@ -1,4 +1,4 @@
-use Prim.Native.Nat.{◌+◌, ◌*◌, ◌-◌, ◌/◌}
+use Prim.Native.Nat.{◌+◌, ◌*◌, ◌/◌}
 use Rattle.laws.proofs.Members.{Look}
 use Rattle.laws.specs.Members.{any_of}
 use Rattle.paper_record.specs.Word.{eight_at}
@@ -10,8 +10,5 @@ use Rattle.rules_text.proofs.text.eight_in.Given as goal
 
 abbrev pub invariant-loop-i : goal.invariant-loop-i
 invariant-loop-i l =
-    (l.n ≡ length l.part / 81)
-    × Look (eqb l.number) (λ i. eight_at l.part (i * 81 + 2)) (any_of (eqb l.number) (eights_of l.part)) l.i l.n
-
-abbrev pub decreases-loop-i : goal.decreases-loop-i
-decreases-loop-i l = l.n - l.i
+    (l.i-end ≡ length l.part / 81)
+    × Look (eqb l.number) (λ i. eight_at l.part (i * 81 + 2)) (any_of (eqb l.number) (eights_of l.part)) l.i l.i-end

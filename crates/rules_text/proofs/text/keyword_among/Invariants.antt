@@ -1,4 +1,4 @@
-use Prim.Native.Nat.{◌-◌, ◌/◌}
+use Prim.Native.Nat.{◌/◌}
 use Rattle.laws.proofs.Members.{Look}
 use Rattle.laws.specs.Members.{any_of}
 use Rattle.paper_record.specs.Word.{equal_to}
@@ -9,7 +9,4 @@ use Rattle.rules_text.proofs.text.keyword_among.Given as goal
 
 abbrev pub invariant-loop-i : goal.invariant-loop-i
 invariant-loop-i l =
-    (l.n ≡ length l.part / 81) × Look (equal_to 10 l.f) (place_in_part l.part) (any_of (equal_to 10 l.f) (places_of l.part)) l.i l.n
-
-abbrev pub decreases-loop-i : goal.decreases-loop-i
-decreases-loop-i l = l.n - l.i
+    (l.i-end ≡ length l.part / 81) × Look (equal_to 10 l.f) (place_in_part l.part) (any_of (equal_to 10 l.f) (places_of l.part)) l.i l.i-end

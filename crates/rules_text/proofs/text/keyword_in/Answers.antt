@@ -22,6 +22,6 @@ nowhere part f number w e =
     (λ i h. eq-eqb number (eight_at part (i * 81 + 2)) (w ∙ eight-equal f part (i * 81) h))
     0 (length part / 81) e)
 
-pub returns : goal.returns
-returns c =
-    nowhere _ _ _ c.eight_columns-number.ensures (sym c.eight_in.ensures ∙ c.if-eight_in.false)
+pub returns-else-eight_in : goal.returns-else-eight_in
+returns-else-eight_in c =
+    c.if-eight_in.false ∙ nowhere _ _ _ c.eight_columns.ensures (sym c.eight_in.ensures ∙ c.if-eight_in.false)

@@ -1,4 +1,4 @@
-use Prim.Native.Nat.{◌-◌, ◌/◌}
+use Prim.Native.Nat.{◌/◌}
 use Rattle.laws.proofs.Members.{Look}
 use Rattle.laws.specs.Members.{any_of}
 use Rattle.paper_rules.specs.Text.{pointer_at, pointers_of}
@@ -9,7 +9,4 @@ use Rattle.rules_text.proofs.text.pointer_in.Given as goal
 
 abbrev pub invariant-loop-i : goal.invariant-loop-i
 invariant-loop-i l =
-    (l.n ≡ length l.part / 81) × Look (eqb l.pointer) (pointer_at l.part) (any_of (eqb l.pointer) (pointers_of l.part)) l.i l.n
-
-abbrev pub decreases-loop-i : goal.decreases-loop-i
-decreases-loop-i l = l.n - l.i
+    (l.i-end ≡ length l.part / 81) × Look (eqb l.pointer) (pointer_at l.part) (any_of (eqb l.pointer) (pointers_of l.part)) l.i l.i-end

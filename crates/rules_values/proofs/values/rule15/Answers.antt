@@ -26,7 +26,7 @@ returns c =
       ← c.line_blank.ensures,
       c.if-line_blank.false,
       leftmost-where,
-      ← fault-read _ _ _ _ c.requires.values_value
+      ← fault-read _ _ _ _ c.requires
           (sym c.is_value.ensures
           ∙ c.if-not-is_value.false),
     )

@@ -9,8 +9,7 @@ use Rattle.paper_questions.specs.Place.{field_of}
 use Rattle.paper_questions.proofs.ValuePlaces.{value_placed, value-field}
 use Rattle.paper_walk.specs.declared.types.Walk.{Walk}
 use Rattle.paper_walk.specs.declared.types.Step.{Step}
-use Rattle.paper_walk.specs.declared.types.Given.TheVariants.{At}
-use Rattle.paper_walk.specs.Walk.{given_said}
+use Rattle.paper_walk.specs.Walk.{given_said, at_place}
 use Rattle.paper_walk.specs.Claims.{shape_in}
 use Rattle.paper_walk.proofs.Standing.{standing}
 use Rattle.paper_walk.proofs.Steps.{step-on, step-done}
@@ -18,7 +17,7 @@ use Rattle.walk.proofs.walk.one_on.Goals as goal
 
 -- the two parts of a step
 stepped : (line : LineNo) (column : ℕ) {v w : Walk} {f g : FieldRead} → v ≡ w → f ≡ g
-    → ◌≡◌ {A = Step} (record { walk = v; given = At line column f }) (record { walk = w; given = At line column g })
+    → ◌≡◌ {A = Step} (record { walk = v; given = at_place line column f }) (record { walk = w; given = at_place line column g })
 stepped line column p q = rw (p, q) refl
 
 pub returns-then-not-stands : goal.returns-then-not-stands
@@ -38,8 +37,8 @@ place_of-place-requires c =
     value_placed w.section (shape_in w) w.line w.column b.fits.section b.fits.columns b.fits.lines
     b.place
 
-pub read_at-value-requires : goal.read_at-value-requires
-read_at-value-requires c =
+pub read_at-field-requires : goal.read_at-field-requires
+read_at-field-requires c =
     let w = c.args.walk in
     rw c.place_of-place.ensures (value-field w.section w.columns w.line w.column)
 
@@ -52,7 +51,7 @@ pub returns : goal.returns
 returns c =
     let d = c in
     let a = d.args in
-    let v = c.read_at-value.ensures
+    let v = c.read_at-field.ensures
     ∙ ap (λ (p : Place). field_read (field_of a.entry.now p)) c.place_of-place.ensures in
     let e = step-on a.entry.now a.walk
     (sym d.stands.ensures ∙ c.if-not-stands.false) in

@@ -29,8 +29,6 @@ pass_record-requires c =
     let g = whole-records _ w.good in
     let counted = records-passed w in
     record {
-      names_lent = c.requires.names_lent;
-      tables = c.requires.tables;
       bounded = walking-bounded w;
       records_bound = omega arith;
       whole = record { long = simp (length-take, length-drop) (omega arith) };

@@ -1,6 +1,0 @@
-use Rattle.paper_record.proofs.ClassTable.{class-at}
-use native.Mathlib.Omega.{arith}
-use Rattle.classes.proofs.class.class_of.Goals as goal
-
-pub returns : goal.returns
-returns c = rw c.requires.same (class-at c.args.b (omega arith))

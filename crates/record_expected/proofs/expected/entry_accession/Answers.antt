@@ -1,6 +1,0 @@
-use Rattle.paper_record.proofs.ReadColumns.{columns-read}
-use native.Mathlib.Omega.{arith}
-use Rattle.record_expected.proofs.expected.entry_accession.Goals as goal
-
-pub returns : goal.returns
-returns c = columns-read c.args.f 6 5 (omega arith)

@@ -1,7 +1,0 @@
-use Rattle.paper_record.proofs.ReadColumns.{columns-read}
-use native.Mathlib.Omega.{arith}
-use Rattle.record_expected.proofs.expected.identification.Goals as goal
-
-pub returns : goal.returns
-returns c =
-    columns-read c.args.rec.now 66 8 (omega arith)

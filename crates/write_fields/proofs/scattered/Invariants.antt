@@ -1,8 +1,0 @@
-use Rattle.std.proofs.Common.{◌-◌, ◌≤◌}
-use Rattle.write_fields.proofs.scattered.Given as goal
-
-abbrev pub invariant-loop-i : goal.invariant-loop-i
-invariant-loop-i l = l.i ≤ 20000
-
-abbrev pub decreases-loop-i : goal.decreases-loop-i
-decreases-loop-i l = 20000 - l.i
