@@ -5,7 +5,7 @@
 mod words;
 
 ghost use Rattle.std.specs.Prelude.{◌≡◌, ◌≢◌, ◌<◌, ◌≤◌, ◌-◌, ℕ, length, take, slice_index, ◌++◌, codes, IfOk, IfSome, OnOk};
-ghost use Rattle.std.specs.Io.KnownBytes.{Appends};
+ghost use Rattle.std.specs.Io.KnownBytes.{Appends, Consumes};
 ghost use Rattle.program_text.specs.Line.{byte_at, with_digit, number_over};
 
 use std::alloc::Global;
@@ -21,19 +21,19 @@ pub fn read_at_most<R: Read + Drop>(reader: R, alloc: Global, most: u64) -> io::
     Ok(all)
 }
 
-/// Fills the buffer with the bytes of a reader as far as they go, and says how many these are.
-pub fn read_full<R: Read>(reader: &mut R, buffer: &mut [u8]) -> io::Result<usize>
-    ensures { IfOk result (λ used. used ≤ length buffer.new) }
+/// Fills the buffer with the bytes of a reader until it is full, the input ends or a read fails, and says how many these are.
+pub fn read_full<R: Read>(reader: &mut R, buffer: &mut [u8]) -> usize
+    ensures in_bounds { result ≤ length buffer.new }
+    ensures bytes { Consumes (R.remaining reader.old) (R.remaining reader.new) (take result buffer.new) }
 {
     let mut used = 0;
     while used < buffer.len() {
-        let count = reader.read(&mut buffer[used..])?;
-        if count == 0 {
-            break;
+        match reader.read(&mut buffer[used..]) {
+            Ok(0) | Err(_) => break,
+            Ok(count) => used += count,
         }
-        used += count;
     }
-    Ok(used)
+    used
 }
 
 /// The byte at `i`; past the end of the line it is blank.
@@ -93,4 +93,20 @@ pub fn write_in_brackets<W: Write>(out: &mut W, bytes: &[u8]) -> io::Result<()>
     out.write_all(b"[")?;
     out.write_all(bytes)?;
     out.write_all(b"]")
+}
+
+#[cfg(test)]
+mod tests {
+    use super::*;
+
+    // No clause says that memory is left.
+    #[test]
+    fn reads_at_most(rt: HostRuntime) -> io::Result<()> {
+        let text = b"ENTRY".as_slice();
+        for (most, want) in [(0, ""), (3, "ENT"), (5, "ENTRY"), (6, "ENTRY")] {
+            let all = read_at_most(text, rt.alloc(), most)?;
+            assert_eq!(rt; all.as_slice(), want.as_bytes(), "at {most}");
+        }
+        Ok(())
+    }
 }

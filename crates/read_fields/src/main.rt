@@ -5,11 +5,11 @@
 
 use number_reading::read::read_number;
 use paper_number::types::{Decimal, FieldRead, Reading};
-use program_text::read_at_most;
-use std::{fmt, io};
+use program_text::read_full;
+use std::fmt;
 
 // How many bytes of the input are read.
-const MOST: u64 = 65536;
+const MOST: usize = 65536;
 
 // Columns as a person can read them.
 #[derive(Clone, Copy)]
@@ -47,12 +47,13 @@ impl fmt::Display for Said {
     }
 }
 
-fn main(rt: HostRuntime) -> io::Result<()> {
-    let text = read_at_most(rt.reader(), rt.alloc(), MOST)?;
-    for line in text.split_inclusive(|b| *b == b'\n') {
+fn main(rt: HostRuntime) {
+    let mut buffer = [0; MOST];
+    let used = read_full(&mut rt.stdin(), &mut buffer);
+    for line in buffer[..used].split_inclusive(|b| *b == b'\n') {
         let field = line.strip_suffix(b"\n").unwrap_or(line);
         let FieldRead { reading, digits } = read_number(field);
-        println!(rt; "[{}] {} digits {digits}", Shown(field), Said(reading))?;
+        // A line that cannot be written is passed over, and the next is tried.
+        let _ = println!(rt; "[{}] {} digits {digits}", Shown(field), Said(reading));
     }
-    Ok(())
 }

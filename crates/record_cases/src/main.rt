@@ -47,15 +47,12 @@ fn write_true<W: Write>(out: &mut W, words: &[(bool, &str)]) -> io::Result<()> {
     Ok(())
 }
 
-fn write_classes<W: Write>(out: &mut W) -> io::Result<()> {
-    let t = Classes::new();
-    for b in 0..=u8::MAX {
+// The classes of 64 bytes, from a first one that 64 divides.
+fn write_classes<W: Write>(out: &mut W, t: &Classes, first: u8) -> io::Result<()> {
+    for b in first..=first | 63 {
         write!(out, "{}", t.class_of(b))?;
-        if b % 64 == 63 {
-            writeln!(out)?;
-        }
     }
-    Ok(())
+    writeln!(out)
 }
 
 // How many records a row of so many columns takes.
@@ -143,16 +140,18 @@ fn write_record<W: Write>(
     out: &mut W,
     t: &Classes,
     names: &Names,
+    numbers: &NumberTables,
     rec: &[u8],
     number: u32,
 ) -> io::Result<()>
     requires { Whole rec.now }
 {
     let six = fields(rec);
+    let used = usize::from(rec[79] % 8);
     let name = names.identifier_of(six[0]);
     let permitted = t.permitted_to(rec);
     write!(out, "record {number} permitted {permitted} name {name}")?;
-    write_fields(out, six, usize::from(rec[79] % 8))?;
+    write_fields(out, six, used)?;
     write_true(
         out,
         &[
@@ -160,28 +159,29 @@ fn write_record<W: Write>(
             (has_line_feed(rec), " line-feed"),
         ],
     )?;
-    write_identification(out, rec, six[1], number)
+    write_identification(out, rec, six[1], number)?;
+    write_values(out, numbers, six, used)?;
+    writeln!(out)
 }
 
-fn main(rt: HostRuntime) -> io::Result<()> {
+// A line that cannot be written is passed over, and the next is tried: so what a write answers is dropped.
+fn main(rt: HostRuntime) {
     let mut out = rt.stdout();
-    write_classes(&mut out)?;
-    write_rows(&mut out)?;
-    write_places(&mut out, 1)?;
-    write_places(&mut out, 2)?;
     let t = Classes::new();
+    for first in [0, 64, 128, 192] {
+        let _ = write_classes(&mut out, &t, first);
+    }
+    let _ = write_rows(&mut out);
+    let _ = write_places(&mut out, 1);
+    let _ = write_places(&mut out, 2);
     let names = Names::new();
     let numbers = NumberTables::new();
-    let mut reader = rt.reader();
+    let mut reader = rt.stdin();
     let mut rec = [0u8; 81];
     for number in 1..250 {
-        if read_full(&mut reader, &mut rec)? < 81 {
+        if read_full(&mut reader, &mut rec) < 81 {
             break;
         }
-        write_record(&mut out, &t, &names, &rec, number)?;
-        let used = usize::from(rec[79] % 8);
-        write_values(&mut out, &numbers, fields(&rec), used)?;
-        writeln!(out)?;
+        let _ = write_record(&mut out, &t, &names, &numbers, &rec, number);
     }
-    Ok(())
 }

@@ -208,11 +208,12 @@ fn show<W: Write>(out: &mut W, negative: bool, coefficient: u64, power: i32) -> 
     }
 }
 
-fn main(rt: HostRuntime) -> io::Result<()> {
+// A line that cannot be written is passed over, and the next is tried: so what a write answers is dropped.
+fn main(rt: HostRuntime) {
     for (negative, coefficient, power) in SHOWN {
-        show(&mut rt.stdout(), negative, coefficient, power)?;
+        let _ = show(&mut rt.stdout(), negative, coefficient, power);
     }
-    println!(rt; "{}", lengths())?;
-    println!(rt; "{}", crossings())?;
-    println!(rt; "{}", scattered())
+    let _ = println!(rt; "{}", lengths());
+    let _ = println!(rt; "{}", crossings());
+    let _ = println!(rt; "{}", scattered());
 }
