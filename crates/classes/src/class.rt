@@ -264,7 +264,7 @@ const CLASSES: [u8; 256] = [
 ];
 
 // The table of classes. It is written out where it is made, so a caller makes it once and lends it.
-#[derive(Drop)]
+#[derive(Clone, Copy)]
 pub struct Classes {
     table: [u8; 256],
     ghost same: { table ≡ class_table },

@@ -5,7 +5,8 @@ ghost use Rattle.paper_copy.specs.Storing.{Room};
 
 use copy_records::records::copy_record;
 use entry_step::step::Judge;
-use judge_tables::tables::Tables;
+use number::form::NumberTables;
+use record_names::identifier::Names;
 use rules_roles::ranging::part;
 
 // Goes over the records of an accepted entry once more and stores each in its place.
@@ -14,7 +15,8 @@ pub fn copy_records(entry: &[u8], out: &mut [u8])
     ensures { out.new ≡ copied_into entry.now out.old }
 {
     let n = entry.len() / 81;
-    let tables = Tables::new();
+    let names = Names::new();
+    let numbers = NumberTables::new();
     let mut j = Judge::new();
     let mut i = 0;
     while i < n {
@@ -23,7 +25,7 @@ pub fn copy_records(entry: &[u8], out: &mut [u8])
         let t = j.track;
         let ranges = j.ranges;
         let headings = ranges.table;
-        let passed = j.pass(&tables, entry, i);
+        let passed = j.pass(&names, &numbers, entry, i);
         let role = passed.role;
         let next = passed.next;
         let table = part(entry, headings);

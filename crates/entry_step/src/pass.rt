@@ -8,7 +8,8 @@ ghost use Rattle.entry_step.specs.Pass.{pass_of, Walking, PassedAt};
 
 use crate::step::Judge;
 use columns::fields::fields;
-use judge_tables::tables::Tables;
+use number::form::NumberTables;
+use record_names::identifier::Names;
 use rules_due::role::role;
 use rules_values::values::values;
 
@@ -20,7 +21,7 @@ pub struct Passed {
 }
 
 impl Judge {
-    fn pass_record(self, tables: &Tables, rec: &[u8]) -> Passed
+    fn pass_record(self, names: &Names, numbers: &NumberTables, rec: &[u8]) -> Passed
         requires bounded { Bounded self.track }
         requires records_bound { self.track.records.0 < MOST-RECORDS }
         requires whole { Whole rec.now }
@@ -28,23 +29,23 @@ impl Judge {
     {
         let fs = fields(rec);
         let f = fs[0];
-        let k = tables.names.identifier_of(f);
+        let k = names.identifier_of(f);
         let t = self.track;
         let p = self.phase;
-        let role = role(t, &tables.names, p, k);
-        let values = values(t, &tables.numbers, role, fs);
+        let role = role(t, names, p, k);
+        let values = values(t, numbers, role, fs);
         let next = self.after(rec, role, fs, values);
         Passed { role, next }
     }
 
     // The record with the index i, from the state before it.
-    pub fn pass(self, tables: &Tables, entry: &[u8], i: usize) -> Passed
+    pub fn pass(self, names: &Names, numbers: &NumberTables, entry: &[u8], i: usize) -> Passed
         requires walking { Walking self entry.now i }
         requires i_in_bounds { i < length entry.now / 81 }
         ensures { PassedAt result entry.now i }
     {
         let from = i * 81;
         let past = from + 81;
-        self.pass_record(tables, &entry[from..past])
+        self.pass_record(names, numbers, &entry[from..past])
     }
 }

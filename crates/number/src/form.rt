@@ -8,7 +8,7 @@ use paper_number::types::Form;
 
 // The kind of each byte, and where each kind leads from each place. They are written out where they are made, so a
 // caller makes them once and lends them.
-#[derive(Drop)]
+#[derive(Clone, Copy)]
 pub struct NumberTables {
     kinds: [u8; 256],
     nexts: [u8; 88],
@@ -17,7 +17,7 @@ pub struct NumberTables {
 }
 
 // The kind of each byte: 0 a blank, 1 a digit, 2 the point, 3 a sign, 4 the E, 5 any other.
-fn kinds() -> [u8; 256]
+pub fn kinds() -> [u8; 256]
     ensures { result ≡ kind_table }
 {
     let mut kinds = [5u8; 256];
@@ -40,7 +40,7 @@ fn kinds() -> [u8; 256]
 }
 
 // Where a kind leads, eight entries for each place; 10 is the place from which no way leads.
-fn nexts() -> [u8; 88]
+pub fn nexts() -> [u8; 88]
     ensures { result ≡ next_table }
 {
     let mut nexts = [10u8; 88];

@@ -10,7 +10,6 @@ use crate::state::state_at;
 use columns::fields::fields;
 use entry::judge::judge;
 use entry_step::step::Judge;
-use judge_tables::tables::Tables;
 use paper_reasons::types::{Explained, Facts, Reason};
 use paper_rules::types::{Ranges, Track};
 use reasons_facts::facts::{count_facts, equal_facts};
@@ -157,12 +156,12 @@ fn reason_in(entry: &[u8], i: usize, number: u8, column: u8) -> Reason
     requires { Asked entry.now i number column }
     ensures { result ≡ reason_at entry.now i number column }
 {
-    let tables = Tables::new();
-    let j = state_at(&tables, entry, i);
+    let names = Names::new();
+    let j = state_at(&names, entry, i);
     let from = i * 81;
     let past = from + 81;
     reason_at(
-        &tables.names,
+        &names,
         j,
         &entry[..from],
         &entry[from..past],

@@ -56,7 +56,7 @@ const NAMES: [u8; 11 * OTHER] = *b"\
     ENDTRANS   ";
 
 // The names. They are written out where they are made, so a caller makes them once and lends them.
-#[derive(Drop)]
+#[derive(Clone, Copy)]
 pub struct Names {
     columns: [u8; 11 * OTHER],
     ghost same: { columns ≡ name_table },
