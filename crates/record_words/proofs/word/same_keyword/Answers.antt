@@ -1,0 +1,4 @@
+use Rattle.record_words.proofs.word.same_keyword.Goals as goal
+
+pub returns : goal.returns
+returns c = c.equal_to.ensures
