@@ -4,7 +4,7 @@ ghost use Rattle.paper_record.specs.Class.{class_of, class_table, permitted_in, 
 ghost use Rattle.paper_record.specs.Columns.{Whole};
 
 // 0 not permitted, 1 blank, 2 digit, 3 capital, 4 small, 5 special; beside each the byte.
-const CLASSES: [u8; 256] = [
+static CLASSES: [u8; 256] = [
     0, // 0
     0, // 1
     0, // 2
@@ -263,18 +263,18 @@ const CLASSES: [u8; 256] = [
     0, // 255
 ];
 
-// The table of classes. It is written out where it is made, so a caller makes it once and lends it.
+// The table of classes, which lies in one place for all.
 #[derive(Clone, Copy)]
 pub struct Classes {
-    table: [u8; 256],
-    ghost same: { table ≡ class_table },
+    table: &'static [u8; 256],
+    ghost same: { table.now ≡ class_table },
 }
 
 impl Classes {
     pub fn new() -> Self
-        ensures { result.table ≡ class_table }
+        ensures { result.table.now ≡ class_table }
     {
-        Classes { table: CLASSES }
+        Classes { table: &CLASSES }
     }
 
     // The class of a byte.

@@ -18,10 +18,10 @@ pub struct Tables {
 
 impl Tables {
     pub fn new() -> Self
-        ensures classes { result.classes.table ≡ class_table }
-        ensures names { result.names.columns ≡ name_table }
-        ensures kinds { result.numbers.kinds ≡ kind_table }
-        ensures nexts { result.numbers.nexts ≡ next_table }
+        ensures classes { result.classes.table.now ≡ class_table }
+        ensures names { result.names.columns.now ≡ name_table }
+        ensures kinds { result.numbers.kinds.now ≡ kind_table }
+        ensures nexts { result.numbers.nexts.now ≡ next_table }
     {
         Tables {
             classes: Classes::new(),

@@ -6,78 +6,63 @@ ghost use Rattle.paper_number.specs.Form.{form_of, form_refusal, kind_table, nex
 
 use paper_number::types::Form;
 
-// The kind of each byte, and where each kind leads from each place. They are written out where they are made, so a
-// caller makes them once and lends them.
+// The kind of each byte, and where each kind leads from each place. The tables lie in one place for all, and what is lent
+// stands for them.
 #[derive(Clone, Copy)]
 pub struct NumberTables {
-    kinds: [u8; 256],
-    nexts: [u8; 88],
-    ghost kinds_right: { kinds ≡ kind_table },
-    ghost nexts_right: { nexts ≡ next_table },
+    kinds: &'static [u8; 256],
+    nexts: &'static [u8; 88],
+    ghost kinds_right: { kinds.now ≡ kind_table },
+    ghost nexts_right: { nexts.now ≡ next_table },
 }
 
-// The kind of each byte: 0 a blank, 1 a digit, 2 the point, 3 a sign, 4 the E, 5 any other.
+// The kind of each byte, sixteen to a row: 0 a blank, 1 a digit, 2 the point, 3 a sign, 4 the E, 5 any other.
+static KINDS: [u8; 256] = [
+    5, 5, 5, 5, 5, 5, 5, 5, 5, 5, 5, 5, 5, 5, 5, 5, // 0
+    5, 5, 5, 5, 5, 5, 5, 5, 5, 5, 5, 5, 5, 5, 5, 5, // 16
+    0, 5, 5, 5, 5, 5, 5, 5, 5, 5, 5, 3, 5, 3, 2, 5, // 32
+    1, 1, 1, 1, 1, 1, 1, 1, 1, 1, 5, 5, 5, 5, 5, 5, // 48
+    5, 5, 5, 5, 5, 4, 5, 5, 5, 5, 5, 5, 5, 5, 5, 5, // 64
+    5, 5, 5, 5, 5, 5, 5, 5, 5, 5, 5, 5, 5, 5, 5, 5, // 80
+    5, 5, 5, 5, 5, 5, 5, 5, 5, 5, 5, 5, 5, 5, 5, 5, // 96
+    5, 5, 5, 5, 5, 5, 5, 5, 5, 5, 5, 5, 5, 5, 5, 5, // 112
+    5, 5, 5, 5, 5, 5, 5, 5, 5, 5, 5, 5, 5, 5, 5, 5, // 128
+    5, 5, 5, 5, 5, 5, 5, 5, 5, 5, 5, 5, 5, 5, 5, 5, // 144
+    5, 5, 5, 5, 5, 5, 5, 5, 5, 5, 5, 5, 5, 5, 5, 5, // 160
+    5, 5, 5, 5, 5, 5, 5, 5, 5, 5, 5, 5, 5, 5, 5, 5, // 176
+    5, 5, 5, 5, 5, 5, 5, 5, 5, 5, 5, 5, 5, 5, 5, 5, // 192
+    5, 5, 5, 5, 5, 5, 5, 5, 5, 5, 5, 5, 5, 5, 5, 5, // 208
+    5, 5, 5, 5, 5, 5, 5, 5, 5, 5, 5, 5, 5, 5, 5, 5, // 224
+    5, 5, 5, 5, 5, 5, 5, 5, 5, 5, 5, 5, 5, 5, 5, 5, // 240
+];
+
+// Where a kind leads, a row of eight entries for each place; 10 is the place from which no way leads.
+static NEXTS: [u8; 88] = [
+    0, 2, 3, 1, 10, 10, 10, 10, // 0, before all
+    10, 2, 3, 10, 10, 10, 10, 10, // 1, behind the sign
+    10, 2, 4, 10, 10, 10, 10, 10, // 2, in the digits before the point
+    10, 4, 10, 10, 10, 10, 10, 10, // 3, at the point, with no digit
+    5, 4, 10, 8, 6, 10, 10, 10, // 4, in the digits behind the point
+    5, 10, 10, 8, 6, 10, 10, 10, // 5, in the blanks behind them
+    7, 9, 10, 8, 10, 10, 10, 10, // 6, at the E
+    7, 9, 10, 10, 10, 10, 10, 10, // 7, in the blanks behind the E
+    10, 9, 10, 10, 10, 10, 10, 10, // 8, behind the exponent's sign
+    10, 9, 10, 10, 10, 10, 10, 10, // 9, in the exponent's digits
+    10, 10, 10, 10, 10, 10, 10, 10, // 10, no number
+];
+
+// The kinds, by themselves.
 pub fn kinds() -> [u8; 256]
     ensures { result ≡ kind_table }
 {
-    let mut kinds = [5u8; 256];
-    kinds[32] = 0;
-    kinds[48] = 1;
-    kinds[49] = 1;
-    kinds[50] = 1;
-    kinds[51] = 1;
-    kinds[52] = 1;
-    kinds[53] = 1;
-    kinds[54] = 1;
-    kinds[55] = 1;
-    kinds[56] = 1;
-    kinds[57] = 1;
-    kinds[46] = 2;
-    kinds[43] = 3;
-    kinds[45] = 3;
-    kinds[69] = 4;
-    kinds
+    *NumberTables::new().kinds
 }
 
-// Where a kind leads, eight entries for each place; 10 is the place from which no way leads.
+// The places, by themselves.
 pub fn nexts() -> [u8; 88]
     ensures { result ≡ next_table }
 {
-    let mut nexts = [10u8; 88];
-    // 0, before all
-    nexts[0] = 0;
-    nexts[1] = 2;
-    nexts[2] = 3;
-    nexts[3] = 1;
-    // 1, behind the sign
-    nexts[9] = 2;
-    nexts[10] = 3;
-    // 2, in the digits before the point
-    nexts[17] = 2;
-    nexts[18] = 4;
-    // 3, at the point, with no digit
-    nexts[25] = 4;
-    // 4, in the digits behind the point
-    nexts[32] = 5;
-    nexts[33] = 4;
-    nexts[35] = 8;
-    nexts[36] = 6;
-    // 5, in the blanks behind them
-    nexts[40] = 5;
-    nexts[43] = 8;
-    nexts[44] = 6;
-    // 6, at the E
-    nexts[48] = 7;
-    nexts[49] = 9;
-    nexts[51] = 8;
-    // 7, in the blanks behind the E
-    nexts[56] = 7;
-    nexts[57] = 9;
-    // 8, behind the exponent's sign
-    nexts[65] = 9;
-    // 9, in the exponent's digits
-    nexts[73] = 9;
-    nexts
+    *NumberTables::new().nexts
 }
 
 fn form_at(place: u8) -> Form
@@ -92,12 +77,12 @@ fn form_at(place: u8) -> Form
 
 impl NumberTables {
     pub fn new() -> Self
-        ensures kinds_right { result.kinds ≡ kind_table }
-        ensures nexts_right { result.nexts ≡ next_table }
+        ensures kinds_right { result.kinds.now ≡ kind_table }
+        ensures nexts_right { result.nexts.now ≡ next_table }
     {
         NumberTables {
-            kinds: kinds(),
-            nexts: nexts(),
+            kinds: &KINDS,
+            nexts: &NEXTS,
         }
     }
 

@@ -37,7 +37,7 @@ pub const ENDTRANS: usize = 15;
 pub const OTHER: usize = 16;
 
 // Eleven columns for each name.
-const NAMES: [u8; 11 * OTHER] = *b"\
+static NAMES: [u8; 11 * OTHER] = *b"\
     ENTRY      \
     SUBENT     \
     NOSUBENT   \
@@ -55,18 +55,18 @@ const NAMES: [u8; 11 * OTHER] = *b"\
     TRANS      \
     ENDTRANS   ";
 
-// The names. They are written out where they are made, so a caller makes them once and lends them.
+// The names, which lie in one place for all.
 #[derive(Clone, Copy)]
 pub struct Names {
-    columns: [u8; 11 * OTHER],
-    ghost same: { columns ≡ name_table },
+    columns: &'static [u8; 11 * OTHER],
+    ghost same: { columns.now ≡ name_table },
 }
 
 impl Names {
     pub fn new() -> Self
-        ensures { result.columns ≡ name_table }
+        ensures { result.columns.now ≡ name_table }
     {
-        Names { columns: NAMES }
+        Names { columns: &NAMES }
     }
 
     // Whether a field is the name at `k`.

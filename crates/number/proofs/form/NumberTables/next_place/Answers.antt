@@ -7,19 +7,19 @@ use Rattle.number.proofs.form.NumberTables.next_place.Goals as goal
 pub overflow_cast-at-2 : goal.overflow_cast-at-2
 overflow_cast-at-2 c =
     let args = c.args in
-    let h : get_or args.self.now.kinds args.b 0 < 6 = rw args.self.now.kinds_right (kind-below args.b (omega arith)) in
+    let h : get_or args.self.now.kinds.now args.b 0 < 6 = rw args.self.now.kinds_right (kind-below args.b (omega arith)) in
     omega arith
 
 pub overflow_add-at : goal.overflow_add-at
 overflow_add-at c =
     let args = c.args in
-    let h : get_or args.self.now.kinds args.b 0 < 6 = rw args.self.now.kinds_right (kind-below args.b (omega arith)) in
+    let h : get_or args.self.now.kinds.now args.b 0 < 6 = rw args.self.now.kinds_right (kind-below args.b (omega arith)) in
     omega arith
 
 pub bounds-self-at : goal.bounds-self-at
 bounds-self-at c =
     let args = c.args in
-    let h : get_or args.self.now.kinds args.b 0 < 6 = rw args.self.now.kinds_right (kind-below args.b (omega arith)) in
+    let h : get_or args.self.now.kinds.now args.b 0 < 6 = rw args.self.now.kinds_right (kind-below args.b (omega arith)) in
     omega arith
 
 pub returns : goal.returns

@@ -13,7 +13,7 @@ returns-then-k-ge-OTHER c = sym (no_end _ c.if-k-ge-OTHER.true)
 pub returns-then-self-at-eq78 : goal.returns-then-self-at-eq78
 returns-then-self-at-eq78 c =
     let k = c.args.k in
-    let same : NamesLent c.args.self.now.columns = record { same = c.args.self.now.same } in
+    let same : NamesLent c.args.self.now.columns.now = record { same = c.args.self.now.same } in
     let first = name-begins same k (omega arith) in
     let second = name-read same k 1 (omega arith) (omega arith) in
     let third = name-read same k 2 (omega arith) (omega arith) in
@@ -33,7 +33,7 @@ returns-then-self-at-eq78 c =
 pub returns-else-self-at-eq78 : goal.returns-else-self-at-eq78
 returns-else-self-at-eq78 c =
     let k = c.args.k in
-    let same : NamesLent c.args.self.now.columns = record { same = c.args.self.now.same } in
+    let same : NamesLent c.args.self.now.columns.now = record { same = c.args.self.now.same } in
     let first = name-begins same k (omega arith) in
     let second = name-read same k 1 (omega arith) (omega arith) in
     elim c.if-self-at-eq69.branch [
