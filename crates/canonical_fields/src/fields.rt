@@ -15,8 +15,9 @@ pub fn put_plain(out: &mut [u8], at: usize, field: &[u8])
     requires { at + length field.now ≤ length out.old }
     ensures { out.new ≡ paste out.old at field.now (length field.now) }
 {
-    let past = at + field.len();
-    out[at..past].copy_from_slice(field);
+    for i in 0..field.len() {
+        out[at + i] = field[i];
+    }
 }
 
 // The canonical field of a value in n columns; where there is none, they stay.

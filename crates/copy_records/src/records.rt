@@ -34,7 +34,9 @@ pub fn copy_columns(out: &mut [u8], at: usize, rec: &[u8], from: usize, n: usize
     requires { (at + n ≤ length out.old) × (from + n ≤ length rec.now) }
     ensures { out.new ≡ paste out.old at (drop from rec.now) n }
 {
-    out[at..at + n].copy_from_slice(&rec[from..from + n]);
+    for i in 0..n {
+        out[at + i] = rec[from + i];
+    }
 }
 
 // A record with its role, in its place. Only a value record has number fields.

@@ -1,0 +1,9 @@
+use Prim.Native.Nat.{◌≤◌}
+use lib.ListN.{drop, length}
+use lib.Seq.{paste}
+use mathlib.Core.Path.{◌≡◌}
+use Rattle.copy_records.proofs.records.copy_columns.Given as goal
+
+abbrev pub invariant-loop-i : goal.invariant-loop-i
+invariant-loop-i l =
+    (l.i ≤ l.n) × (l.out ≡ paste l.initial.out l.at (drop l.from l.rec) l.i) × (length l.out ≡ length l.initial.out)
