@@ -1,7 +1,7 @@
 use Rattle.paper_index.proofs.PartsRead.{unit-by-before, unit-by-field}
 use mathlib.Core.Bool.{◌&&◌}
 use mathlib.Core.Path.{◌≡◌, ◌∙◌}
-use native.Mathlib.Omega.{arith}
+use Rattle.questions_columns.proofs.answers.unit_from_row.Goals.{then-heading, else-heading}
 use Rattle.questions_columns.proofs.answers.unit_from_row.Goals as goal
 
 pub returns-then-number-ne0 : goal.returns-then-number-ne0
@@ -27,7 +27,10 @@ returns-then-not-named c = let a = c.args in
     let heading = c.heading_at-heading in
     let unit = c.unit_at-unit in
     let place = c.unit_place-place in
-    let both : c.if-heading.named ≡ (heading.result.good && unit.result) = grind arith in
+    let both : c.if-heading.named ≡ (heading.result.good && unit.result) = elim c.if-heading.branch [
+      | then-heading w ↦ rw w.if-heading.true w.named-is
+      | else-heading w ↦ rw w.if-heading.false (w.named-is ∙ w.if-heading.false)
+    ] in
     c.refused_part-then-not-named.ensures
     ∙ rw c.if-not-named.true at
     (unit-by-field a.entry.now a.row a.section a.column at.result at.ensures read.result.number read.ensures.number_value c.if-number-ne0.false c.heading_place-above.result c.heading_place-above.ensures.value heading.result.good heading.ensures.good_value place.result (rw (read.ensures.columns_value c.if-number-ne0.false) at place.ensures.value) unit.result c.if-heading.named unit.ensures both)
@@ -39,7 +42,10 @@ returns c = let a = c.args in
     let heading = c.heading_at-heading in
     let unit = c.unit_at-unit in
     let place = c.unit_place-place in
-    let both : c.if-heading.named ≡ (heading.result.good && unit.result) = grind arith in
+    let both : c.if-heading.named ≡ (heading.result.good && unit.result) = elim c.if-heading.branch [
+      | then-heading w ↦ rw w.if-heading.true w.named-is
+      | else-heading w ↦ rw w.if-heading.false (w.named-is ∙ w.if-heading.false)
+    ] in
     rw (c.byte_of-first.ensures, heading.ensures.pointer_value) at c.part_from.ensures
     ∙ rw c.if-not-named.false at
     (unit-by-field a.entry.now a.row a.section a.column at.result at.ensures read.result.number read.ensures.number_value c.if-number-ne0.false c.heading_place-above.result c.heading_place-above.ensures.value heading.result.good heading.ensures.good_value place.result (rw (read.ensures.columns_value c.if-number-ne0.false) at place.ensures.value) unit.result c.if-heading.named unit.ensures both)
