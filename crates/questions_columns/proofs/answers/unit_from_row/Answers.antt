@@ -1,5 +1,5 @@
 use Rattle.paper_index.proofs.PartsRead.{unit-by-before, unit-by-field}
-use mathlib.Core.Bool.{◌&&◌}
+use mathlib.Core.Bool.{◌&&◌, false, true}
 use mathlib.Core.Path.{◌≡◌, ◌∙◌}
 use Rattle.questions_columns.proofs.answers.unit_from_row.Goals.{then-heading, else-heading}
 use Rattle.questions_columns.proofs.answers.unit_from_row.Goals as goal
@@ -28,8 +28,8 @@ returns-then-not-named c = let a = c.args in
     let unit = c.unit_at-unit in
     let place = c.unit_place-place in
     let both : c.if-heading.named ≡ (heading.result.good && unit.result) = elim c.if-heading.branch [
-      | then-heading w ↦ rw w.if-heading.true w.named-is
-      | else-heading w ↦ rw w.if-heading.false (w.named-is ∙ w.if-heading.false)
+      | then-heading w ↦ let good : heading.result.good ≡ true = w.if-heading.true in rw good w.named-is
+      | else-heading w ↦ let good : heading.result.good ≡ false = w.if-heading.false in rw good (w.named-is ∙ good)
     ] in
     c.refused_part-then-not-named.ensures
     ∙ rw c.if-not-named.true at
@@ -43,8 +43,8 @@ returns c = let a = c.args in
     let unit = c.unit_at-unit in
     let place = c.unit_place-place in
     let both : c.if-heading.named ≡ (heading.result.good && unit.result) = elim c.if-heading.branch [
-      | then-heading w ↦ rw w.if-heading.true w.named-is
-      | else-heading w ↦ rw w.if-heading.false (w.named-is ∙ w.if-heading.false)
+      | then-heading w ↦ let good : heading.result.good ≡ true = w.if-heading.true in rw good w.named-is
+      | else-heading w ↦ let good : heading.result.good ≡ false = w.if-heading.false in rw good (w.named-is ∙ good)
     ] in
     rw (c.byte_of-first.ensures, heading.ensures.pointer_value) at c.part_from.ensures
     ∙ rw c.if-not-named.false at
