@@ -6,4 +6,4 @@ use Rattle.canonical_fields.proofs.fields.put_plain.Given as goal
 
 abbrev pub invariant-loop-i : goal.invariant-loop-i
 invariant-loop-i l =
-    (l.i ≤ length l.field) × (l.out ≡ paste l.initial.out l.at l.field l.i) × (length l.out ≡ length l.initial.out)
+    (l.out ≡ paste l.initial.out l.at l.field l.i) × (l.i ≤ length l.field) × (length l.out ≡ length l.initial.out)

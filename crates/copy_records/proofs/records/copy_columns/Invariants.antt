@@ -6,4 +6,4 @@ use Rattle.copy_records.proofs.records.copy_columns.Given as goal
 
 abbrev pub invariant-loop-i : goal.invariant-loop-i
 invariant-loop-i l =
-    (l.i ≤ l.n) × (l.out ≡ paste l.initial.out l.at (drop l.from l.rec) l.i) × (length l.out ≡ length l.initial.out)
+    (l.out ≡ paste l.initial.out l.at (drop l.from l.rec) l.i) × (l.i ≤ l.n) × (length l.out ≡ length l.initial.out)
