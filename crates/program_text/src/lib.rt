@@ -2,12 +2,14 @@
 
 #![tactic(auto)]
 
+mod pieces;
 mod words;
 
 ghost use Rattle.std.specs.Prelude.{◌≡◌, ◌≢◌, ◌<◌, ◌≤◌, ◌-◌, ℕ, length, take, slice_index, ◌++◌, codes, IfOk, IfSome, OnOk};
 ghost use Rattle.std.specs.Io.KnownBytes.{Appends, Consumes};
 ghost use Rattle.program_text.specs.Line.{byte_at, with_digit, number_over};
 
+pub use pieces::EachPiece;
 use std::alloc::Global;
 use std::io::{self, Read, Write};
 pub use words::{say, say_line, say_numbers, say_power};

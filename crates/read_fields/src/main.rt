@@ -5,8 +5,9 @@
 
 use number_reading::read::read_number;
 use paper_number::types::{Decimal, FieldRead, Reading};
-use program_text::read_full;
+use program_text::{EachPiece, read_full};
 use std::fmt;
+use std::io::Write;
 
 // How many bytes of the input are read.
 const MOST: usize = 65536;
@@ -50,10 +51,11 @@ impl fmt::Display for Said {
 fn main(rt: HostRuntime) {
     let mut buffer = [0; MOST];
     let used = read_full(&mut rt.stdin(), &mut buffer);
+    let mut stdout = rt.stdout();
+    let mut out = EachPiece(&mut stdout);
     for line in buffer[..used].split_inclusive(|b| *b == b'\n') {
         let field = line.strip_suffix(b"\n").unwrap_or(line);
         let FieldRead { reading, digits } = read_number(field);
-        // A line that cannot be written is passed over, and the next is tried.
-        let _ = println!(rt; "[{}] {} digits {digits}", Shown(field), Said(reading));
+        let _ = writeln!(out, "[{}] {} digits {digits}", Shown(field), Said(reading));
     }
 }

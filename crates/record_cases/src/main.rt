@@ -12,7 +12,7 @@ use columns::fields::fields;
 use columns_places::places::{place_of, records_for};
 use number::form::NumberTables;
 use paper_record::types::{LineNo, RecordNo};
-use program_text::read_full;
+use program_text::{EachPiece, read_full};
 use record::system::{count_of, is_date, is_entry_n1, is_subent_n1, subentry_of};
 use record_expected::expected::{
     entry_accession, five_digits, identification, identification_for, same_five,
@@ -164,9 +164,10 @@ fn write_record<W: Write>(
     writeln!(out)
 }
 
-// A line that cannot be written is passed over, and the next is tried: so what a write answers is dropped.
+// A piece that cannot be written is passed over, and the next is tried: so what a write answers is dropped.
 fn main(rt: HostRuntime) {
-    let mut out = rt.stdout();
+    let mut stdout = rt.stdout();
+    let mut out = EachPiece(&mut stdout);
     let t = Classes::new();
     for first in [0, 64, 128, 192] {
         let _ = write_classes(&mut out, &t, first);

@@ -5,6 +5,7 @@
 use canonical::write::{number_of, write_number};
 use number_reading::read::read_number;
 use paper_number::types::{Decimal, Reading};
+use program_text::EachPiece;
 use std::fmt;
 use std::io::{self, Write};
 
@@ -208,12 +209,14 @@ fn show<W: Write>(out: &mut W, negative: bool, coefficient: u64, power: i32) -> 
     }
 }
 
-// A line that cannot be written is passed over, and the next is tried: so what a write answers is dropped.
+// A piece that cannot be written is passed over, and the next is tried: so what a write answers is dropped.
 fn main(rt: HostRuntime) {
+    let mut stdout = rt.stdout();
+    let mut out = EachPiece(&mut stdout);
     for (negative, coefficient, power) in SHOWN {
-        let _ = show(&mut rt.stdout(), negative, coefficient, power);
+        let _ = show(&mut out, negative, coefficient, power);
     }
-    let _ = println!(rt; "{}", lengths());
-    let _ = println!(rt; "{}", crossings());
-    let _ = println!(rt; "{}", scattered());
+    let _ = writeln!(out, "{}", lengths());
+    let _ = writeln!(out, "{}", crossings());
+    let _ = writeln!(out, "{}", scattered());
 }
